@@ -1,0 +1,13 @@
+-- SPDX-FileCopyrightText: 2026 The PPVM Authors
+-- SPDX-License-Identifier: Apache-2.0
+
+-- Laws that belong to no one function; WordLaws, OrderLaws and TextLaws are those that other crates cite.
+pub mod Sums
+pub mod Digits
+pub mod Lanes
+pub mod Words
+pub mod WordLaws
+pub mod OrderLaws
+pub mod Planes
+pub mod Tests
+pub mod TextLaws

@@ -1,0 +1,50 @@
+-- SPDX-FileCopyrightText: 2026 The PPVM Authors
+-- SPDX-License-Identifier: Apache-2.0
+
+-- What the inner functions compute. No exported promise rests on these names.
+use Prim.Native.Nat.{ℕ, suc, _+_, _*_, _/_, _%_, _^_}
+use mathlib.Core.Bool.{Bool, true, false, not, cond}
+use mathlib.Core.Path.{_≡_}
+use mathlib.Core.List.{List, [], _∷_}
+use lib.Dec.{eqb, ltb, leb}
+use lib.Count.{ones}
+use Rattle.refusal.specs.declared.Answer.{Answer}
+use Rattle.word.specs.Count.{sumTo}
+use Rattle.word.specs.Letter.{mulPhase}
+use Rattle.word.specs.Word.{bit, letterAt, Sound}
+use Rattle.word.specs.Codes.{writeAnswer, written}
+use Rattle.word.specs.declared.word.Word.{Word}
+use Rattle.word.specs.declared.word.Scan.{Scan}
+use Rattle.word.specs.declared.word.Scan.the-variants.{Letters, Foreign}
+use Rattle.word.specs.declared.algebra.Planes.{Planes}
+
+abbrev pub chosen : Bool → ℕ → ℕ → ℕ
+chosen true a b = a
+chosen false a b = b
+
+-- a word with the letter at qubit q replaced
+pub record Put (w : Word) (q code : ℕ) (r : Word) : Type 0 where
+  pub letters : (k : ℕ) → letterAt r k ≡ chosen (eqb k q) code (letterAt w k)
+  pub sound : Sound r
+
+-- a first look at what is left of a text, after so many letters
+unfoldable pub scanFrom : ℕ → List ℕ → Scan
+scanFrom k [] = Letters k
+scanFrom k (b ∷ s) = cond (eqb b 95) (scanFrom k s) (cond (leb 128 b) (Foreign b k) (scanFrom (suc k) s))
+
+-- does a lane have a bit at or above bit n
+unfoldable pub laneReaches : ℕ → ℕ → Bool
+laneReaches lane n = not (eqb (lane / 2 ^ n) 0)
+
+-- the phases of 64 qubits, whose letters stand in a and b on the left and in c and d on the right
+unfoldable pub lanePhase : ℕ → ℕ → ℕ → ℕ → ℕ
+lanePhase a b c d = sumTo 64 (λ k. mulPhase (bit a k + 2 * bit b k) (bit c k + 2 * bit d k))
+
+-- the counts of two bit planes, added up
+unfoldable pub planePhase : Planes → ℕ
+planePhase t = (ones (t .low) + 2 * ones (t .high)) % 4
+
+-- what writing codes answers, and the lent places afterwards
+pub record Wrote (w : Word) (n : ℕ) (out : List ℕ) (answer : Answer) (after : List ℕ) : Type 0 where
+  pub answers : answer ≡ writeAnswer w n out
+  pub places : after ≡ written w n out

@@ -1,0 +1,112 @@
+// SPDX-FileCopyrightText: 2026 The PPVM Authors
+// SPDX-License-Identifier: Apache-2.0
+
+// Pauli products and commutators on word lanes.
+//
+// P·Q = i^phase · R, with phase 0 to 3. A product needs its phases only modulo 4, so the phases of
+// the qubits are added in two bit planes, 64 counts modulo 4 side by side, and are counted once at
+// the end, however many lanes there are.
+ghost use mathlib.Core.Path.{_≡_};
+ghost use Prim.Native.Nat.{_+_, _*_, _%_};
+ghost use Rattle.word.specs.Product.{product, antiCommute, factor, commutator};
+ghost use Rattle.word.specs.Steps.{planePhase, lanePhase};
+use crate::word::Word;
+
+// i^phase times a word.
+#[repr(C)]
+pub struct Phased {
+    pub word: Word,
+    pub phase: u32,
+}
+
+// i times a commutator: eps times a word, eps 0 where the two words commute.
+#[repr(C)]
+pub struct CommProduct {
+    pub word: Word,
+    pub eps: f64,
+}
+
+// 64 counts modulo 4: bit k of `low` and of `high` are the two digits of count k.
+pub struct Planes {
+    pub low: u64,
+    pub high: u64,
+}
+
+// The counts with the phases of one lane's 64 products added: imag has the bits of the odd phases,
+// sign those of the phases 3.
+fn add_lane(t: Planes, a: u64, b: u64, c: u64, d: u64) -> Planes
+    ensures { λ r. ⌜ planePhase r ≡ (planePhase t + lanePhase a b c d) % 4 ⌝ }
+{
+    let imag = (a & d) ^ (b & c);
+    let sign = imag & (a ^ c ^ b ^ d ^ (a & d));
+    Planes {
+        low: t.low ^ imag,
+        high: t.high ^ (t.low & imag) ^ sign,
+    }
+}
+
+fn phase_of(t: Planes) -> u32
+    ensures { λ r. ⌜ r ≡ planePhase t ⌝ }
+{
+    (u64::count_ones(t.low) + 2 * u64::count_ones(t.high)) % 4
+}
+
+// The product p·q.
+pub fn pauli_mul(p: Word, q: Word) -> Phased
+    ensures { λ r. ⌜ r ≡ product p q ⌝ }
+{
+    let x0 = p.x[0];
+    let x1 = p.x[1];
+    let z0 = p.z[0];
+    let z1 = p.z[1];
+    let u0 = q.x[0];
+    let u1 = q.x[1];
+    let v0 = q.z[0];
+    let v1 = q.z[1];
+    let none = Planes { low: 0, high: 0 };
+    let first = add_lane(none, x0, z0, u0, v0);
+    let both = add_lane(first, x1, z1, u1, v1);
+    let phase = phase_of(both);
+    Phased {
+        word: Word {
+            x: [x0 ^ u0, x1 ^ u1],
+            z: [z0 ^ v0, z1 ^ v1],
+        },
+        phase,
+    }
+}
+
+// Whether p and q anticommute: the count of qubits at which their letters do is odd.
+pub fn anti_commutes(p: Word, q: Word) -> bool
+    ensures { λ r. ⌜ r ≡ antiCommute p q ⌝ }
+{
+    let c0 = (p.x[0] & q.z[0]) ^ (p.z[0] & q.x[0]);
+    let c1 = (p.x[1] & q.z[1]) ^ (p.z[1] & q.x[1]);
+    u64::count_ones(c0 ^ c1) % 2 == 1
+}
+
+// The factor of i times a commutator whose product has this phase.
+fn eps_of(phase: u32) -> f64
+    ensures { λ r. ⌜ r ≡ factor (phase % 4) ⌝ }
+{
+    let k = phase % 4;
+    if k == 1 {
+        return -2.0;
+    }
+    if k == 3 {
+        return 2.0;
+    }
+    0.0
+}
+
+// i (h·p - p·h).
+pub fn comm_product(h: Word, p: Word) -> CommProduct
+    ensures { λ r. ⌜ r ≡ commutator h p ⌝ }
+{
+    let product = pauli_mul(h, p);
+    let word = product.word;
+    CommProduct {
+        word,
+        eps: eps_of(product.phase),
+    }
+}

@@ -1,0 +1,331 @@
+// SPDX-FileCopyrightText: 2026 The PPVM Authors
+// SPDX-License-Identifier: Apache-2.0
+
+// The packed Pauli word, its texts and codes, and the order of words.
+ghost use mathlib.Core.Path.{_≡_};
+ghost use mathlib.Core.Bool.{not};
+ghost use Prim.Native.Nat.{ℕ, _+_, _*_, _≤_, _<_};
+ghost use lib.Dec.{eqb};
+ghost use lib.ListN.{length, getD};
+ghost use Rattle.word.specs.Word.{bit, letterAt, identity, pack, unpack};
+ghost use Rattle.word.specs.Text.{codeOf, dropped, readLetters, parse};
+ghost use Rattle.word.specs.Codes.{readCodes, writeAnswer, written};
+ghost use Rattle.word.specs.Register.{reaches, share};
+ghost use Rattle.word.specs.Order.{compareThen, compare, same};
+ghost use Rattle.word.specs.Steps.{chosen, Put, scanFrom, laneReaches, Wrote};
+use refusal::Answer;
+use refusal::Refusal;
+
+// The qubits that a word holds, 64 to a lane.
+pub const MAX_QUBITS: usize = 128;
+
+// Qubit q is bit q % 64 of lane q / 64: I has neither bit, X its x bit, Z its z bit, and Y both.
+#[repr(C)]
+pub struct Word {
+    pub x: [u64; 2],
+    pub z: [u64; 2],
+}
+
+// A word's lanes one by one, for an enum to hold: an enum cannot hold an array.
+pub struct Lanes {
+    pub x0: u64,
+    pub x1: u64,
+    pub z0: u64,
+    pub z1: u64,
+}
+
+// What a reader of texts or codes answers.
+pub enum ParsedWord {
+    Parsed(Lanes),
+    Refused(Refusal),
+}
+
+pub enum Ordering {
+    Less,
+    Equal,
+    Greater,
+}
+
+// I at every qubit.
+pub fn identity_word() -> Word
+    ensures { λ r. ⌜ r ≡ identity ⌝ }
+{
+    Word {
+        x: [0, 0],
+        z: [0, 0],
+    }
+}
+
+pub fn packed(w: Word) -> Lanes
+    ensures { λ r. ⌜ r ≡ pack w ⌝ }
+{
+    Lanes {
+        x0: w.x[0],
+        x1: w.x[1],
+        z0: w.z[0],
+        z1: w.z[1],
+    }
+}
+
+pub fn unpacked(l: Lanes) -> Word
+    ensures { λ r. ⌜ r ≡ unpack l ⌝ }
+{
+    Word {
+        x: [l.x0, l.x1],
+        z: [l.z0, l.z1],
+    }
+}
+
+// The letter of a qubit, as its code.
+fn letter(w: Word, q: usize) -> u8
+    requires { ⌜ q < 128 ⌝ }
+    ensures { λ r. ⌜ r ≡ letterAt w q ⌝ }
+{
+    let i = q / 64;
+    let k = q % 64;
+    let x = (w.x[i] >> k) % 2;
+    let z = (w.z[i] >> k) % 2;
+    (x + 2 * z) as u8
+}
+
+// A lane with bit k replaced by b.
+fn with_bit(lane: u64, k: usize, b: u64) -> u64
+    requires { ⌜ (k < 64) × (b < 2) ⌝ }
+    ensures { λ r. ⌜ ((j : ℕ) → j < 64 → bit r j ≡ chosen (eqb j k) b (bit lane j)) ⌝ }
+{
+    (lane & !(1 << k)) | (b << k)
+}
+
+// A word with the letter at a qubit replaced.
+fn with_letter(w: Word, q: usize, code: u8) -> Word
+    requires { ⌜ (q < 128) × (code < 4) ⌝ }
+    ensures { λ r. ⌜ Put w q code r ⌝ }
+{
+    let mut v = w;
+    let i = q / 64;
+    let k = q % 64;
+    let l = code as u64;
+    v.x[i] = with_bit(v.x[i], k, l % 2);
+    v.z[i] = with_bit(v.z[i], k, l / 2);
+    v
+}
+
+// The code of the letter that a byte stands for, and 4 for a byte that is no letter.
+fn code_of(byte: u8) -> u8
+    ensures { λ r. ⌜ r ≡ codeOf byte ⌝ }
+{
+    if byte == b'I' {
+        return 0;
+    }
+    if byte == b'X' {
+        return 1;
+    }
+    if byte == b'Z' {
+        return 2;
+    }
+    if byte == b'Y' {
+        return 3;
+    }
+    4
+}
+
+// What a first look at a text finds: how many bytes are no underscores, or the first byte from 128
+// up, with its place.
+pub enum Scan {
+    Letters(usize),
+    Foreign(u8, usize),
+}
+
+fn scan_text(text: &[u8]) -> Scan
+    ensures { λ r. ⌜ r ≡ scanFrom 0 (now (text .entry)) ⌝ }
+{
+    let mut place = 0;
+    let mut i = 0;
+    while i < text.len() {
+        let byte = text[i];
+        if byte == b'_' {
+            i += 1;
+        } else {
+            if 128 <= byte {
+                return Scan::Foreign(byte, place);
+            }
+            place += 1;
+            i += 1;
+        }
+    }
+    Scan::Letters(place)
+}
+
+// The word of a text with at most 128 letters. Most letters of a term are I, and leave the word as
+// it is.
+fn read_letters(text: &[u8]) -> ParsedWord
+    requires { ⌜ length (dropped (now text)) ≤ 128 ⌝ }
+    ensures { λ r. ⌜ r ≡ readLetters (dropped (now (text .entry))) ⌝ }
+{
+    let mut w = identity_word();
+    let mut q = 0;
+    let mut i = 0;
+    while i < text.len() {
+        let byte = text[i];
+        if byte == b'_' {
+            i += 1;
+        } else {
+            let code = code_of(byte);
+            if 3 < code {
+                return ParsedWord::Refused(Refusal::InvalidPauliByte { byte, place: q });
+            }
+            if code != 0 {
+                w = with_letter(w, q, code);
+                q += 1;
+                i += 1;
+            } else {
+                q += 1;
+                i += 1;
+            }
+        }
+    }
+    ParsedWord::Parsed(packed(w))
+}
+
+// The word of a text: `_` bytes are dropped, then exactly n_qubits letters, qubit 0 first.
+pub fn parse_pauli_string(text: &[u8], n_qubits: usize) -> ParsedWord
+    ensures { λ r. ⌜ r ≡ parse «n_qubits» (now (text .entry)) ⌝ }
+{
+    if MAX_QUBITS < n_qubits {
+        return ParsedWord::Refused(Refusal::TooManyQubits {
+            got: n_qubits,
+            max: MAX_QUBITS,
+        });
+    }
+    let scan = scan_text(text);
+    match scan {
+        Scan::Foreign(byte, place) => {
+            ParsedWord::Refused(Refusal::InvalidPauliByte { byte, place })
+        }
+        Scan::Letters(got) => {
+            if got != n_qubits {
+                return ParsedWord::Refused(Refusal::WrongLength {
+                    expected: n_qubits,
+                    got,
+                });
+            }
+            read_letters(text)
+        }
+    }
+}
+
+// The word of a code for each qubit, qubit 0 first.
+pub fn word_from_codes(codes: &[u8]) -> ParsedWord
+    ensures { λ r. ⌜ r ≡ readCodes (now (codes .entry)) ⌝ }
+{
+    let n_qubits = codes.len();
+    if MAX_QUBITS < n_qubits {
+        return ParsedWord::Refused(Refusal::TooManyQubits {
+            got: n_qubits,
+            max: MAX_QUBITS,
+        });
+    }
+    let mut w = identity_word();
+    let mut q = 0;
+    while q < n_qubits {
+        let code = codes[q];
+        if 3 < code {
+            return ParsedWord::Refused(Refusal::InvalidPauliCode { code });
+        }
+        w = with_letter(w, q, code);
+        q += 1;
+    }
+    ParsedWord::Parsed(packed(w))
+}
+
+// Whether a lane has a bit at or above bit n.
+fn lane_reaches(lane: u64, n: usize) -> bool
+    ensures { λ r. ⌜ r ≡ laneReaches lane n ⌝ }
+{
+    if 64 <= n {
+        return false;
+    }
+    lane >> n != 0
+}
+
+// Whether a word has a letter other than I at or above qubit n.
+pub fn reaches_beyond(w: Word, n_qubits: usize) -> bool
+    ensures { λ r. ⌜ r ≡ reaches w «n_qubits» ⌝ }
+{
+    let low = w.x[0] | w.z[0];
+    let high = w.x[1] | w.z[1];
+    if lane_reaches(low, n_qubits) {
+        return true;
+    }
+    if n_qubits < 64 {
+        return high != 0;
+    }
+    lane_reaches(high, n_qubits - 64)
+}
+
+// Writes a code for each of the first n_qubits qubits; places from n_qubits on stay as they were.
+pub fn codes_from_word(w: Word, n_qubits: usize, out: &mut [u8]) -> Answer
+    ensures { λ r. ⌜ Wrote w «n_qubits» (now (out .entry)) r (now (out .exit)) ⌝ }
+{
+    if MAX_QUBITS < n_qubits {
+        return Answer::Refused(Refusal::TooManyQubits {
+            got: n_qubits,
+            max: MAX_QUBITS,
+        });
+    }
+    if out.len() < n_qubits {
+        return Answer::Refused(Refusal::LengthMismatch {
+            needed: n_qubits,
+            given: out.len(),
+        });
+    }
+    if reaches_beyond(w, n_qubits) {
+        return Answer::Refused(Refusal::WordOutsideRegister { position: 0 });
+    }
+    let mut q = 0;
+    while q < n_qubits {
+        out[q] = letter(w, q);
+        q += 1;
+    }
+    Answer::Accepted
+}
+
+// Whether two words share a qubit: one has a letter other than I there, and so has the other.
+pub fn shares_qubit(p: Word, q: Word) -> bool
+    ensures { λ r. ⌜ r ≡ share p q ⌝ }
+{
+    let low = (p.x[0] | p.z[0]) & (q.x[0] | q.z[0]);
+    let high = (p.x[1] | p.z[1]) & (q.x[1] | q.z[1]);
+    low | high != 0
+}
+
+// a against b, and where they are equal, what comes after.
+fn compare_then(a: u64, b: u64, after: Ordering) -> Ordering
+    ensures { λ r. ⌜ r ≡ compareThen a b after ⌝ }
+{
+    if a < b {
+        return Ordering::Less;
+    }
+    if b < a {
+        return Ordering::Greater;
+    }
+    after
+}
+
+// The order of words: x[0], x[1], z[0], z[1] as numbers; the first difference decides.
+pub fn compare_words(p: Word, q: Word) -> Ordering
+    ensures { λ r. ⌜ r ≡ compare p q ⌝ }
+{
+    let z1 = compare_then(p.z[1], q.z[1], Ordering::Equal);
+    let z0 = compare_then(p.z[0], q.z[0], z1);
+    let x1 = compare_then(p.x[1], q.x[1], z0);
+    compare_then(p.x[0], q.x[0], x1)
+}
+
+pub fn same_word(p: Word, q: Word) -> bool
+    ensures { λ r. ⌜ r ≡ same p q ⌝ }
+{
+    let x = (p.x[0] ^ q.x[0]) | (p.x[1] ^ q.x[1]);
+    let z = (p.z[0] ^ q.z[0]) | (p.z[1] ^ q.z[1]);
+    x | z == 0
+}

@@ -1,0 +1,65 @@
+// SPDX-FileCopyrightText: 2026 The PPVM Authors
+// SPDX-License-Identifier: Apache-2.0
+
+//! Times the published Rust and the port on the same inputs.
+//!
+//! The sides take turns, so that a busy machine slows them alike, and the best round counts.
+
+mod words;
+
+use std::hint::black_box;
+use std::process::ExitCode;
+use std::time::Instant;
+
+/// A side, with the best time for one input and a sum over the answers.
+struct Side {
+    name: &'static str,
+    nanoseconds: f64,
+    checksum: u64,
+}
+
+impl Side {
+    fn new(name: &'static str) -> Self {
+        Self {
+            name,
+            nanoseconds: f64::INFINITY,
+            checksum: 0,
+        }
+    }
+
+    /// Answers every input once. `answer` gives a number that depends on the answer.
+    fn round<I>(&mut self, inputs: &[I], answer: impl Fn(&I) -> u64) {
+        let add = |sum: u64, input| sum.wrapping_add(answer(black_box(input)));
+        let start = Instant::now();
+        self.checksum = inputs.iter().fold(0, add);
+        let each = start.elapsed().as_secs_f64() * 1e9 / inputs.len() as f64;
+        self.nanoseconds = self.nanoseconds.min(each);
+    }
+
+    fn print(&self) {
+        let Self {
+            name,
+            nanoseconds,
+            checksum,
+        } = self;
+        println!("{name:<26} {nanoseconds:>8.2} ns   checksum {checksum:016x}");
+    }
+
+    fn print_ratio(&self, to: &Side) {
+        println!(
+            "{} / {} {:.2}",
+            self.name,
+            to.name,
+            self.nanoseconds / to.nanoseconds
+        );
+    }
+}
+
+/// Times everything. Fails where the sides do not answer alike.
+pub fn run(seed: u64) -> ExitCode {
+    if words::bench(seed) {
+        ExitCode::SUCCESS
+    } else {
+        ExitCode::FAILURE
+    }
+}

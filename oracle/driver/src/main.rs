@@ -1,0 +1,57 @@
+// SPDX-FileCopyrightText: 2026 The PPVM Authors
+// SPDX-License-Identifier: Apache-2.0
+
+//! Runs the published Rust and the port on the same inputs.
+//!
+//!     driver compare [--seed S] [--cases N]   both answer N random cases of each operation
+//!     driver record  [--seed S] [--cases N]   prints answers of the Rust, for replay
+//!     driver bench   [--seed S]               times both
+//!
+//! Each part of the port has a module in `compare`, one in `record` and one in `bench`.
+
+mod bench;
+mod compare;
+mod inputs;
+mod port;
+mod published;
+mod record;
+mod rules;
+
+use std::process::ExitCode;
+
+const USAGE: &str = "usage: driver compare|record|bench [--seed S] [--cases N]";
+
+struct Options {
+    seed: u64,
+    cases: Option<usize>,
+}
+
+fn options(mut words: impl Iterator<Item = String>) -> Option<Options> {
+    let mut options = Options {
+        seed: 1,
+        cases: None,
+    };
+    while let Some(word) = words.next() {
+        let value = words.next()?;
+        match word.as_str() {
+            "--seed" => options.seed = value.parse().ok()?,
+            "--cases" => options.cases = Some(value.parse().ok()?),
+            _ => return None,
+        }
+    }
+    Some(options)
+}
+
+fn main() -> ExitCode {
+    let mut words = std::env::args().skip(1);
+    let command = words.next().unwrap_or_default();
+    match (command.as_str(), options(words)) {
+        ("compare", Some(o)) => compare::run(o.seed, o.cases.unwrap_or(100_000)),
+        ("record", Some(o)) => record::run(o.seed, o.cases.unwrap_or(400)),
+        ("bench", Some(o)) => bench::run(o.seed),
+        _ => {
+            eprintln!("{USAGE}");
+            ExitCode::from(2)
+        }
+    }
+}

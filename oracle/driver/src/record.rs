@@ -1,0 +1,51 @@
+// SPDX-FileCopyrightText: 2026 The PPVM Authors
+// SPDX-License-Identifier: Apache-2.0
+
+//! Prints answers of the published Rust, for a program that replays them against the port.
+//!
+//! A case is a line of hexadecimal numbers, the first of which is its kind; `#` starts a comment.
+//! Only cases are recorded to which document 01 and the Rust have one answer.
+
+mod words;
+
+use crate::port::Word;
+use std::process::ExitCode;
+
+/// The numbers of one case.
+struct Line(Vec<u64>);
+
+impl Line {
+    fn new(kind: u64) -> Self {
+        Self(vec![kind])
+    }
+
+    fn number(mut self, number: u64) -> Self {
+        self.0.push(number);
+        self
+    }
+
+    fn bytes(mut self, bytes: &[u8]) -> Self {
+        self.0.extend(bytes.iter().map(|&byte| u64::from(byte)));
+        self
+    }
+
+    fn word(mut self, word: Word) -> Self {
+        self.0.extend(word.x);
+        self.0.extend(word.z);
+        self
+    }
+
+    fn print(&self) {
+        let numbers: Vec<String> = self.0.iter().map(|number| format!("{number:x}")).collect();
+        println!("{}", numbers.join(" "));
+    }
+}
+
+pub fn run(seed: u64, cases: usize) -> ExitCode {
+    println!("# SPDX-FileCopyrightText: 2026 The PPVM Authors");
+    println!("# SPDX-License-Identifier: Apache-2.0");
+    println!("#");
+    println!("# Answers of the published Rust: {cases} cases of each kind, seed {seed}.");
+    words::record(seed, cases);
+    ExitCode::SUCCESS
+}
