@@ -1,0 +1,35 @@
+-- SPDX-FileCopyrightText: 2026 The PPVM Authors
+-- SPDX-License-Identifier: Apache-2.0
+
+-- Answers about words in plain numbers.
+use Prim.Native.Nat.{ℕ}
+use mathlib.Core.Path.{_≡_}
+use mathlib.Core.List.{List}
+use lib.IntN.{ℤ, pos, negsuc}
+use Rattle.refusal.specs.Cause.{statusOf, answerStatus}
+use Rattle.refusal.specs.declared.Answer.the-variants.{Accepted}
+use Rattle.refusal.specs.declared.Status.{Status}
+use Rattle.word.specs.Word.{identity, unpack}
+use Rattle.word.specs.Codes.{writeAnswer, written}
+use Rattle.word.specs.declared.word.Word.{Word}
+use Rattle.word.specs.declared.word.ParsedWord.{ParsedWord}
+use Rattle.word.specs.declared.word.ParsedWord.the-variants.{Parsed, Refused}
+use Rattle.word.specs.declared.word.Ordering.{Ordering}
+use Rattle.word.specs.declared.word.Ordering.the-variants.{Less, Equal, Greater}
+use Rattle.pebblelinen.specs.declared.words.Parsed as Answers
+
+-- the word that was read, or the refusal and the identity
+abbrev pub parsedOf : ParsedWord → Answers.Parsed
+parsedOf (Parsed lanes) = record { status = answerStatus Accepted; word = unpack lanes }
+parsedOf (Refused refusal) = record { status = statusOf refusal; word = identity }
+
+-- what writing codes answers, and the lent places afterwards
+pub record Writes (w : Word) (n : ℕ) (out : List ℕ) (status : Status) (after : List ℕ) : Type 0 where
+  pub answers : status ≡ answerStatus (writeAnswer w n out)
+  pub places : after ≡ written w n out
+
+-- -1 before, 0 the same, 1 after
+abbrev pub signOf : Ordering → ℤ
+signOf Less = negsuc 0
+signOf Equal = pos 0
+signOf Greater = pos 1
