@@ -3,3 +3,4 @@
 
 -- What the exported functions answer, in plain numbers.
 pub mod Words
+pub mod Examples

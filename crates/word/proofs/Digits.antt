@@ -3,16 +3,16 @@
 
 -- The binary digits of a number: of `&`, `|`, `^`, `!` and shifts, a count as a sum of digits, and facts that are
 -- checked at every digit. Assumes nothing.
-use mathlib.Core.Path.{_≡_, refl, sym, ap, ap₂, _∙_, subst}
+use mathlib.Core.Path.{_≡_, refl, sym, ap, ap₂, _∙_}
 use mathlib.Core.Bool.{Bool, true, false, not, _&&_, _||_}
-use Prim.Native.Nat.{ℕ, zero, suc, _+_, _-_, _*_, _/_, _%_, _^_, _<_, _≤_, min, max}
+use Prim.Native.Nat.{ℕ, zero, suc, _+_, _-_, _*_, _/_, _%_, _^_, _<_, min, max}
 use native.Mathlib.Nat.{div-one, pow-succ', mul-left-comm, lt-of-lt-of-le}
 use native.Mathlib.Decide.{ℕ-discrete}
 use borrow.Author.Tests.{eq-eqb, ne-eqb}
 use native.Mathlib.Omega.{arith}
 use lib.Dec.{T, ltb, eqb, ltb→lt, eqb→eq}
 use lib.Bits.{bitAnd, bitOr, bitXor, differ, and-step, or-step, xor-step, and-shr, or-shr, xor-shr, and-lt, xor-lt, shifted-half, shifted-even}
-use lib.Arith.{digits-mod, lt-one}
+use lib.Arith.{lt-one}
 use lib.Pow.{shr-shr, shl-exact, shl-lt, pow-mono}
 use lib.Count.{ones, ones-step}
 use Rattle.word.specs.Count.{sumTo, anyTo}

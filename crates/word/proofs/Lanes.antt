@@ -4,18 +4,18 @@
 -- Letters over any number of lanes: lanes made from letters, lanes known by their letters, the letters of the
 -- exclusive or, one letter replaced, and phases by counts of digits. Assumes nothing.
 use mathlib.Core.Path.{_≡_, refl, sym, ap, ap₂, _∙_}
-use mathlib.Core.List.{List, [], _∷_}
-use Prim.Native.Nat.{ℕ, zero, suc, _+_, _*_, _/_, _%_, _^_, _<_, _≤_, min}
+use mathlib.Core.List.{List}
+use Prim.Native.Nat.{ℕ, _+_, _*_, _/_, _%_, _^_, _<_, _≤_, min}
 use native.Mathlib.Nat.{lt-of-le-of-lt}
 use native.Mathlib.Omega.{arith}
 use native.Mathlib.Decide.{ℕ-discrete, decLt}
 use borrow.Author.Tests.{eq-eqb, ne-eqb}
 use lib.Dec.{eqb, eqb→eq}
-use lib.Bits.{bitAnd, bitXor, differ, xor-zero-r, and-lt, and-le-l, xor-lt}
-use lib.Count.{ones, ones-le}
+use lib.Bits.{bitAnd, bitXor, differ, and-lt, and-le-l, xor-lt}
+use lib.Count.{ones}
 use lib.ListN.{getD, length, set, List·getD-eq-default}
 use lib.Seq.{ext-getD, getD-set-same, getD-set-other}
-use Rattle.word.specs.Count.{sumTo, tabulate}
+use Rattle.word.specs.Count.{sumTo}
 use Rattle.word.specs.Letter.{mulLetter, mulPhase}
 use Rattle.word.specs.Word.{bit, letterIn, lanesOf}
 use Rattle.word.specs.Product.{phaseSum}

@@ -11,3 +11,4 @@ pub mod OrderLaws
 pub mod Planes
 pub mod Tests
 pub mod TextLaws
+pub mod RoundTrips

@@ -3,9 +3,8 @@
 
 -- Sums modulo 4 in two bit planes, and what they give for words. Assumes nothing.
 use mathlib.Core.Path.{_≡_, refl, sym, ap, ap₂, _∙_}
-use mathlib.Core.Bool.{Bool}
 use mathlib.Core.List.{List, [], _∷_}
-use Prim.Native.Nat.{ℕ, zero, suc, _+_, _*_, _/_, _%_, _^_, _<_, _≤_}
+use Prim.Native.Nat.{ℕ, zero, suc, _+_, _*_, _/_, _%_, _^_, _<_}
 use native.Mathlib.Omega.{arith}
 use lib.Dec.{eqb}
 use lib.Ieee.{Float}
@@ -14,12 +13,11 @@ use lib.Count.{ones}
 use lib.ListN.{getD, length}
 use Rattle.word.specs.Count.{sumTo}
 use Rattle.word.specs.Letter.{mulLetter}
-use Rattle.word.specs.Word.{laneCount, letterAt, wordOf, Sound}
+use Rattle.word.specs.Word.{letterAt, Sound}
 use Rattle.word.specs.Product.{phaseSum, mul, phase, product, antiCommute, factor, commutator}
 use Rattle.word.specs.Steps.{lanePhase, planePhase}
 use Rattle.word.specs.declared.word.Word.{Word}
 use Rattle.word.specs.declared.algebra.Phased.{Phased}
-use Rattle.word.specs.declared.algebra.CommProduct.{CommProduct}
 use Rattle.word.specs.declared.algebra.Planes.{Planes}
 use Rattle.word.proofs.Digits.{ones-xor}
 use Rattle.word.proofs.Lanes.{imag, sign, imag-lt, sign-lt, lane-counts, lane-odd, lanes-phase, letter-xor}

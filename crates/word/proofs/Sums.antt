@@ -4,7 +4,7 @@
 -- Laws of sums, tests and lists over the numbers below n. Assumes nothing.
 use mathlib.Core.Path.{_≡_, refl, sym, ap, ap₂, _∙_}
 use mathlib.Core.Bool.{Bool, true, false, _||_, or-assoc, or-false}
-use mathlib.Core.List.{List, [], _∷_}
+use mathlib.Core.List.{_∷_}
 use Prim.Native.Nat.{ℕ, zero, suc, _+_, _*_, _<_, _%_}
 use native.Mathlib.Nat.{add-zero, add-suc, mul-suc, mul-zero}
 use native.Mathlib.Omega.{arith}
@@ -41,7 +41,7 @@ sum-none (suc n) f h = let e = sum-none n f (λ k l. h k (omega arith)) in let d
 
 sum-cat : (n m : ℕ) (f : ℕ → ℕ) → sumTo (n + m) f ≡ sumTo n f + sumTo m (λ k. f (n + k))
 unfolding sumTo
-sum-cat n zero f = rw (add-zero, add-zero)
+sum-cat n zero f = rw (add-zero n, add-zero (sumTo n f))
 sum-cat n (suc m) f = rw (add-suc) (omega (arith, sum-cat n m f))
 
 pub sum-first : (n : ℕ) (f : ℕ → ℕ) → sumTo (suc n) f ≡ f 0 + sumTo n (λ k. f (suc k))

@@ -5,26 +5,26 @@
 use mathlib.Core.Path.{_≡_, refl, sym, ap, ap₂, _∙_}
 use mathlib.Core.Bool.{Bool, true, false, not, _&&_, _||_, Bool·beq}
 use mathlib.Core.List.{List, [], _∷_}
-use Prim.Native.Nat.{ℕ, zero, suc, _+_, _-_, _*_, _/_, _%_, _^_, _<_, _≤_, min, max}
+use Prim.Native.Nat.{ℕ, zero, suc, _+_, _-_, _*_, _/_, _^_, _<_, _≤_, min, max}
 use native.Mathlib.Omega.{arith}
 use native.Mathlib.Nat.{div-one, zero-div, div-eq-of-lt, lt-of-lt-of-le}
 use native.Mathlib.Decide.{ℕ-discrete, decLt}
-use borrow.Author.Tests.{eq-eqb, ne-eqb, eqb-true, eqb-false, le-leb, lt-leb}
+use borrow.Author.Tests.{eq-eqb, ne-eqb, le-leb, lt-leb}
 use lib.Dec.{T, eqb, leb, leb·suc-suc, leb·suc-zero}
 use lib.Bits.{bitAnd, bitOr, bitXor, or-add-and, xor-add-and, and-le-l, and-le-r, and-lt, or-lt, xor-self}
-use lib.Pow.{shr-shr, shr-lt, pow-mono}
+use lib.Pow.{shr-shr, pow-mono}
 use lib.ListN.{getD, length}
 use lib.Seq.{ext-getD}
 use Rattle.word.specs.Count.{anyTo}
-use Rattle.word.specs.Word.{maxQubits, bit, letterAt, letterIn, Sound}
+use Rattle.word.specs.Word.{bit, Sound}
 use Rattle.word.specs.Register.{actsOn, reaches, share}
 use Rattle.word.specs.Order.{compareThen, compareLanes, compare, same}
 use Rattle.word.specs.Steps.{laneReaches}
 use Rattle.word.specs.declared.word.Word.{Word}
 use Rattle.word.specs.declared.word.Ordering.{Ordering}
-use Rattle.word.specs.declared.word.Ordering.the-variants.{Less, Equal, Greater}
-use Rattle.word.proofs.Sums.{any-cong, any-first, any-runs, any-none}
-use Rattle.word.proofs.Digits.{at-bits, bit-lt, bit-and, bit-or, bit-zero, bit-suc, any-digit, zero-bit}
+use Rattle.word.specs.declared.word.Ordering.the-variants.{Equal}
+use Rattle.word.proofs.Sums.{any-cong, any-first, any-runs}
+use Rattle.word.proofs.Digits.{at-bits, bit-lt, bit-and, bit-or, bit-suc, any-digit}
 use Rattle.word.proofs.Lanes.{letter-in}
 use Rattle.word.proofs.Words.{word-eq}
 use Rattle.word.proofs.OrderLaws.{same-self, same-eq}
@@ -114,6 +114,7 @@ lane-above w n i s =
         go : Dec (64 * i + k < n) → leb (n - 64 * i) k ≡ leb n (64 * i + k)
         go (yes l) = lt-leb (n - 64 * i) k (omega arith) ∙ sym (lt-leb n (64 * i + k) l)
         go (no l) = le-leb (n - 64 * i) k (omega arith) ∙ sym (le-leb n (64 * i + k) (omega arith))
+
     at : (k : ℕ) → not (eqb (bit (acting w i) k) 0) ≡ not (eqb (bit (getD (w .x) i 0) k + 2 * bit (getD (w .z) i 0) k) 0)
     at k =
         simp bit-or

@@ -6,13 +6,13 @@
 use mathlib.Core.Path.{_≡_, refl, sym, ap, ap₂, _∙_, subst⁻¹}
 use mathlib.Core.Bool.{Bool, true, false, cond}
 use mathlib.Core.List.{List, [], _∷_, _++_}
-use Prim.Native.Nat.{ℕ, zero, suc, _+_, _-_, _*_, _/_, _%_, _^_, _<_, _≤_}
+use Prim.Native.Nat.{ℕ, zero, suc, _+_, _<_, _≤_}
 use native.Mathlib.Nat.{add-suc}
 use native.Mathlib.Numerals.{add-one}
 use native.Mathlib.Omega.{arith}
 use native.Mathlib.Decide.{ℕ-discrete, decLt}
-use borrow.Author.Tests.{lt-ltb, le-ltb, le-leb, lt-leb, eq-eqb, ne-eqb, ltb-true, ltb-false}
-use lib.Dec.{eqb, ltb, leb}
+use borrow.Author.Tests.{lt-ltb, le-ltb, le-leb, lt-leb, eq-eqb, ne-eqb}
+use lib.Dec.{eqb, ltb}
 use lib.ListN.{getD, length, drop, set, length-drop, length-append, List·getD-eq-default}
 use lib.Seq.{drop-cons, getD-drop, drop-length, drop-drop, set-at, append-snoc}
 use Rattle.refusal.specs.declared.Refusal.the-variants.{TooManyQubits, WrongLength, InvalidPauliByte, InvalidPauliCode, LengthMismatch, WordOutsideRegister}
@@ -176,12 +176,12 @@ scan-finds k (b ∷ s) = go (ℕ-discrete b 95) (decLt b 128) (scan-finds k s) (
     go (no n) (no l) h g = rw (ne-eqb b 95 n, le-leb 128 b (omega arith)) (sym (found-now k b (dropped s) (omega arith)))
 
 -- ---- the text reader's answers
-refuse-first : (p : ℕ → Bool) (s : List ℕ) (after : ParsedWord) → firstWhere p s < length s
+pub refuse-first : (p : ℕ → Bool) (s : List ℕ) (after : ParsedWord) → firstWhere p s < length s
     → refuseByte p s after ≡ Refused (InvalidPauliByte (getD s (firstWhere p s) 0) (firstWhere p s))
 unfolding refuseByte
 refuse-first p s after h = rw (lt-ltb (firstWhere p s) (length s) h)
 
-refuse-none : (p : ℕ → Bool) (s : List ℕ) (after : ParsedWord) → length s ≤ firstWhere p s → refuseByte p s after ≡ after
+pub refuse-none : (p : ℕ → Bool) (s : List ℕ) (after : ParsedWord) → length s ≤ firstWhere p s → refuseByte p s after ≡ after
 unfolding refuseByte
 refuse-none p s after h = rw (le-ltb (firstWhere p s) (length s) h)
 
@@ -217,6 +217,9 @@ module _ (n : ℕ) (text : List ℕ) where
           let z : 0 + length s ≡ length s = omega arith in
           (omega arith, sym z ∙ cc)
 
+  pub letters-counted : (k : ℕ) → scanFrom 0 text ≡ Letters k → length (dropped text) ≡ k
+  letters-counted k e = found-letters k (sym (scan-finds 0 text) ∙ e) .1
+
   module _ (fits : n ≤ 128) where
     pub parse-foreign : (b p : ℕ) → scanFrom 0 text ≡ Foreign b p → Refused (InvalidPauliByte b p) ≡ parse n text
     unfolding parse
@@ -238,7 +241,7 @@ module _ (n : ℕ) (text : List ℕ) where
         rw (le-ltb 128 n fits) (sym (refuse-none foreign s _ (f .0) ∙ rw (eq-eqb (length s) n (f .1 ∙ m))))
 
     pub counted : (k : ℕ) → scanFrom 0 text ≡ Letters k → k ≡ n → length (dropped text) ≤ 128
-    counted k e m = let f = found-letters k (sym (scan-finds 0 text) ∙ e) in omega arith
+    counted k e m = omega (arith, letters-counted k e)
 
 -- ---- letter by letter: s is the text without underscores, of which q letters are read
 module _ (text s : List ℕ) (i q : ℕ) (h : i < length text) (e : dropped (drop i text) ≡ drop q s) where

@@ -3,25 +3,24 @@
 
 -- The laws of products that the layers above cite: words multiply commutatively and associate with their phases, a
 -- word times itself is the identity, p q and q p differ by a sign, words that share no qubit commute. Assumes nothing.
-use mathlib.Core.Path.{_≡_, refl, sym, ap, ap₂, _∙_}
+use mathlib.Core.Path.{_≡_, refl, sym, ap, _∙_}
 use mathlib.Core.List.{[], _∷_}
 use mathlib.Core.Bool.{Bool, true, false, not, _&&_}
-use Prim.Native.Nat.{ℕ, zero, suc, _+_, _*_, _/_, _%_, _^_, _<_, _≤_}
+use Prim.Native.Nat.{ℕ, zero, suc, _+_, _*_, _/_, _%_, _^_, _<_}
 use native.Mathlib.Omega.{arith}
-use native.Mathlib.Decide.{ℕ-discrete}
-use borrow.Author.Tests.{eq-eqb, ne-eqb, eqb-true, eqb-false}
+use borrow.Author.Tests.{eqb-true, eqb-false}
 use lib.Dec.{T, eqb, eqb→eq}
 use lib.ListN.{getD}
 use Rattle.word.specs.Count.{sumTo}
 use Rattle.word.specs.Letter.{mulLetter, mulPhase}
-use Rattle.word.specs.Word.{maxQubits, bit, letterIn, letterAt, wordOf, identity, Sound}
+use Rattle.word.specs.Word.{maxQubits, bit, letterIn, letterAt, identity, Sound}
 use Rattle.word.specs.Product.{phaseSum, mul, phase, antiCommute}
-use Rattle.word.specs.Register.{actsOn, share}
+use Rattle.word.specs.Register.{share}
 use Rattle.word.specs.declared.word.Word.{Word}
 use Rattle.word.proofs.Sums.{sum-cong, sum-add, sum-mod, sum-none, any-false}
 use Rattle.word.proofs.Digits.{zero-bit}
 use Rattle.word.proofs.Lanes.{letter-lt}
-use Rattle.word.proofs.Words.{sound-wordOf, letter-wordOf, letter-beyond, wordOf-cong, by-letters, word-is}
+use Rattle.word.proofs.Words.{sound-wordOf, letter-wordOf, wordOf-cong, word-is}
 
 -- ---- facts about letters, each one test over the table
 abbrev all : ℕ → (ℕ → Bool) → Bool
@@ -187,9 +186,9 @@ raw-assoc : (a b c : Word) → (raw a b + raw (mul a b) c) % 4 ≡ (raw b c + ra
 unfolding phaseSum
 raw-assoc a b c =
     let e = sum-mod maxQubits
-        (λ q. mulPhase (letterAt a q) (letterAt b q) + mulPhase (mulLetter (letterAt a q) (letterAt b q)) (letterAt c q))
-        (λ q. mulPhase (letterAt b q) (letterAt c q) + mulPhase (letterAt a q) (mulLetter (letterAt b q) (letterAt c q)))
-        (λ q. phase-assoc (letterAt a q) (letterAt b q) (letterAt c q) (word-letter-lt a q) (word-letter-lt b q) (word-letter-lt c q)) in
+    (λ q. mulPhase (letterAt a q) (letterAt b q) + mulPhase (mulLetter (letterAt a q) (letterAt b q)) (letterAt c q))
+    (λ q. mulPhase (letterAt b q) (letterAt c q) + mulPhase (letterAt a q) (mulLetter (letterAt b q) (letterAt c q)))
+    (λ q. phase-assoc (letterAt a q) (letterAt b q) (letterAt c q) (word-letter-lt a q) (word-letter-lt b q) (word-letter-lt c q)) in
     let l = raw-left a b c in
     let r = raw-right a b c in
     let s = sum-add maxQubits (λ q. mulPhase (letterAt a q) (letterAt b q)) (λ q. mulPhase (mulLetter (letterAt a q) (letterAt b q)) (letterAt c q)) in
@@ -212,7 +211,7 @@ pub phase-opposite : (a b : Word) → (phase a b + phase b a) % 4 ≡ 0
 unfolding phase phaseSum
 phase-opposite a b =
     let e = sum-zero maxQubits (λ q. mulPhase (letterAt a q) (letterAt b q) + mulPhase (letterAt b q) (letterAt a q))
-        (λ q. phase-turn (letterAt a q) (letterAt b q) 0 (word-letter-lt a q) (word-letter-lt b q) (omega arith)) in
+    (λ q. phase-turn (letterAt a q) (letterAt b q) 0 (word-letter-lt a q) (word-letter-lt b q) (omega arith)) in
     let s = sum-add maxQubits (λ q. mulPhase (letterAt a q) (letterAt b q)) (λ q. mulPhase (letterAt b q) (letterAt a q)) in
     omega arith
 
@@ -221,7 +220,7 @@ pub phase-undone : (a b : Word) → (phase a b + phase a (mul a b)) % 4 ≡ 0
 unfolding phase phaseSum
 phase-undone a b =
     let e = sum-zero maxQubits (λ q. mulPhase (letterAt a q) (letterAt b q) + mulPhase (letterAt a q) (mulLetter (letterAt a q) (letterAt b q)))
-        (λ q. phase-undo (letterAt a q) (letterAt b q) 0 (word-letter-lt a q) (word-letter-lt b q) (omega arith)) in
+    (λ q. phase-undo (letterAt a q) (letterAt b q) 0 (word-letter-lt a q) (word-letter-lt b q) (omega arith)) in
     let r = raw-right a a b in
     let s = sum-add maxQubits (λ q. mulPhase (letterAt a q) (letterAt b q)) (λ q. mulPhase (letterAt a q) (mulLetter (letterAt a q) (letterAt b q))) in
     omega arith
@@ -264,5 +263,5 @@ pub apart-phase : (a b : Word) → share a b ≡ false → phase a b ≡ 0
 unfolding phase phaseSum share
 apart-phase a b h =
     let e = sum-none maxQubits (λ q. mulPhase (letterAt a q) (letterAt b q))
-        (λ q l. apart-letters (letterAt a q) (letterAt b q) (word-letter-lt a q) (word-letter-lt b q) (any-false maxQubits _ h q l)) in
+    (λ q l. apart-letters (letterAt a q) (letterAt b q) (word-letter-lt a q) (word-letter-lt b q) (any-false maxQubits _ h q l)) in
     omega arith

@@ -2,7 +2,7 @@
 -- SPDX-License-Identifier: Apache-2.0
 
 -- A word is its letters: no site folds back, and equal letters at all qubits mean equal words. Assumes nothing.
-use mathlib.Core.Path.{_≡_, refl, sym, ap, ap₂, _∙_}
+use mathlib.Core.Path.{_≡_, refl, sym, ap, _∙_}
 use mathlib.Core.List.{List, [], _∷_}
 use Prim.Native.Nat.{ℕ, zero, suc, _/_, _%_, _^_, _<_, _≤_}
 use native.Mathlib.Omega.{arith}
@@ -11,7 +11,7 @@ use lib.ListN.{getD, length, set, length-set}
 use mir.Val.{Fits}
 use mir.Syntax.{w64}
 use Rattle.word.specs.Steps.{chosen, Put}
-use Rattle.word.specs.Word.{bit, laneCount, maxQubits, letterAt, letterIn, lanesOf, wordOf, Sound, identity, pack, unpack}
+use Rattle.word.specs.Word.{bit, laneCount, maxQubits, letterAt, wordOf, Sound, pack, unpack}
 use Rattle.word.specs.declared.word.Word.{Word}
 use Rattle.word.proofs.Lanes.{letter-lt, letter-of, letter-of-beyond, lanes-length, lanes-lt, lanes-cong, same-lanes, letter-put}
 

@@ -2,12 +2,11 @@
 -- SPDX-License-Identifier: Apache-2.0
 
 -- Reading a text: `_` bytes are dropped, then exactly n letters.
-use Prim.Native.Nat.{ℕ, zero, suc}
+use Prim.Native.Nat.{ℕ, suc}
 use mathlib.Core.Bool.{Bool, cond}
 use mathlib.Core.List.{List, [], _∷_}
 use lib.Dec.{eqb, ltb, leb}
 use lib.ListN.{length, getD}
-use Rattle.refusal.specs.declared.Refusal.{Refusal}
 use Rattle.refusal.specs.declared.Refusal.the-variants.{TooManyQubits, WrongLength, InvalidPauliByte}
 use Rattle.word.specs.Word.{maxQubits, wordOf, pack}
 use Rattle.word.specs.declared.word.ParsedWord.{ParsedWord}

@@ -2,9 +2,7 @@
 -- SPDX-License-Identifier: Apache-2.0
 
 -- `refusal::answer_status` meets its contract. Assumes nothing.
-use mathlib.Core.Path.{_∙_, sym, ap}
 use borrow.Author.Needs.{needs}
-use Rattle.refusal.specs.Cause.{answerStatus}
 use Rattle.refusal.proofs.answer_status.Statement.{statement}
 use Rattle.refusal.proofs.answer_status.Tie as tie
 

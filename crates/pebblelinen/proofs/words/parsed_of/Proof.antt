@@ -2,7 +2,6 @@
 -- SPDX-License-Identifier: Apache-2.0
 
 -- `words::parsed_of` meets its contract. Assumes nothing.
-use mathlib.Core.Path.{ap, sym, _∙_}
 use borrow.Author.Needs.{needs}
 use Rattle.pebblelinen.proofs.words.parsed_of.Statement.{statement}
 use Rattle.pebblelinen.proofs.words.parsed_of.Tie as tie

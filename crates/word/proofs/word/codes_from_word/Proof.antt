@@ -3,13 +3,11 @@
 
 -- `word::codes_from_word` meets its contract: after q turns the first q places have their codes. Assumes nothing.
 use mathlib.Core.Path.{_≡_, refl, sym, ap, _∙_}
-use Prim.Native.Nat.{ℕ, _+_, _-_, _≤_, _<_}
+use Prim.Native.Nat.{ℕ, _-_, _≤_}
 use mathlib.Core.List.{List, _++_}
 use lib.ListN.{length, drop, set}
-use borrow.Author.Tests.{lt-ltb, le-ltb}
 use Rattle.word.specs.Count.{tabulate}
 use Rattle.word.specs.Word.{letterAt}
-use Rattle.word.specs.Codes.{writeAnswer, written, writeFor}
 use Rattle.word.proofs.TextLaws.{written-more, written-length, write-wide, write-short, write-outside, write-accepted}
 use borrow.Author.Needs.{needs}
 use native.Mathlib.Omega.{arith}

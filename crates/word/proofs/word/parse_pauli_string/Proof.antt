@@ -2,7 +2,7 @@
 -- SPDX-License-Identifier: Apache-2.0
 
 -- `word::parse_pauli_string` meets its contract, by what the first look finds. Assumes nothing.
-use mathlib.Core.Path.{_≡_, refl, sym, ap, _∙_}
+use mathlib.Core.Path.{sym, _∙_}
 use Rattle.word.proofs.TextLaws.{parse-wide, parse-foreign, parse-length, parse-letters, counted}
 use borrow.Author.Needs.{needs}
 use Rattle.word.proofs.word.parse_pauli_string.Statement.{statement}

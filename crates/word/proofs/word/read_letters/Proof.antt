@@ -3,7 +3,7 @@
 
 -- `word::read_letters` meets its contract: after each letter the word has the letters read so far, and I above. Assumes nothing.
 use mathlib.Core.Path.{_≡_, refl, sym, ap, _∙_}
-use Prim.Native.Nat.{ℕ, _+_, _-_, _≤_, _<_}
+use Prim.Native.Nat.{_-_, _≤_}
 use lib.ListN.{length, getD, drop}
 use Rattle.word.specs.Text.{codeOf, dropped, noLetter}
 use Rattle.word.specs.declared.word.ParsedWord.the-variants.{Parsed}
@@ -57,8 +57,7 @@ loop-again-2 c =
     let e = c .before .before .before .code-of .ensures in
     let s = dropped t in
     let left = letter-left t s (l .i) (l .q) (omega arith) (l .inv .1) u in
-    let here = letter-here t s (l .i) (l .q) (omega arith) (l .inv .1) u in
-    (
+    let here = letter-here t s (l .i) (l .q) (omega arith) (l .inv .1) u in (
       omega arith,
       letter-next t s (l .i) (l .q) (omega arith) (l .inv .1) u,
       passed-more noLetter (l .q) s (l .inv .2) left (not-refused _ _ (here 0) (omega arith)),
@@ -79,8 +78,7 @@ loop-again-3 c =
     let e = c .before .before .code-of .ensures in
     let s = dropped t in
     let left = letter-left t s (l .i) (l .q) (omega arith) (l .inv .1) u in
-    let here = letter-here t s (l .i) (l .q) (omega arith) (l .inv .1) u in
-    (
+    let here = letter-here t s (l .i) (l .q) (omega arith) (l .inv .1) u in (
       omega arith,
       letter-next t s (l .i) (l .q) (omega arith) (l .inv .1) u,
       passed-more noLetter (l .q) s (l .inv .2) left (not-refused _ _ (here 0) (omega arith)),

@@ -2,9 +2,9 @@
 -- SPDX-License-Identifier: Apache-2.0
 
 -- `word::scan_text` meets its contract: what the first look finds is what a look at the rest finds. Assumes nothing.
-use mathlib.Core.Path.{_≡_, refl, sym, ap, _∙_}
-use Prim.Native.Nat.{ℕ, _+_, _-_, _≤_, _<_}
-use lib.ListN.{length, getD, drop}
+use mathlib.Core.Path.{_≡_, refl, sym, _∙_}
+use Prim.Native.Nat.{_-_, _≤_}
+use lib.ListN.{length, drop}
 use Rattle.word.specs.Steps.{scanFrom}
 use Rattle.word.proofs.TextLaws.{scan-underscore, scan-letter, scan-foreign, scan-end}
 use borrow.Author.Needs.{needs}

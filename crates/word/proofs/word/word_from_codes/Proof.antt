@@ -2,9 +2,9 @@
 -- SPDX-License-Identifier: Apache-2.0
 
 -- `word::word_from_codes` meets its contract: after each code the word has the letters read so far, and I above. Assumes nothing.
-use mathlib.Core.Path.{_≡_, refl, sym, ap, _∙_}
-use Prim.Native.Nat.{ℕ, _+_, _-_, _≤_, _<_}
-use lib.ListN.{length, getD, drop}
+use mathlib.Core.Path.{refl, ap, _∙_}
+use Prim.Native.Nat.{_-_, _≤_}
+use lib.ListN.{length, getD}
 use borrow.Author.Tests.{le-ltb}
 use Rattle.word.specs.Codes.{noCode}
 use Rattle.word.specs.declared.word.ParsedWord.the-variants.{Parsed}
@@ -35,8 +35,7 @@ returns-2 c =
 loop-again : tie.Need-loop-again Inv-loop μ-loop
 loop-again c =
     let l = c .before .before .before .before .loop in
-    let s = c .before .before .before .before .before .before .before .before .args .codes .now in
-    (
+    let s = c .before .before .before .before .before .before .before .before .args .codes .now in (
       omega arith,
       passed-more noCode (l .q) s (l .inv .1) (omega arith) (le-ltb 3 _ (c .before .if2 .left)),
       read-more _ (l .q) (l .w) _ _ (l .inv .2) refl (c .with-letter .ensures),
