@@ -12,3 +12,4 @@ pub mod Planes
 pub mod Tests
 pub mod TextLaws
 pub mod RoundTrips
+pub mod FlatLaws

@@ -10,4 +10,5 @@ pub mod Codes
 pub mod Product
 pub mod Register
 pub mod Order
+pub mod Flat
 pub mod Steps

@@ -4,4 +4,5 @@
 // Pauli words: how they are stored, read, written, ordered and multiplied. The layers above see the
 // promises made here and never a lane.
 pub mod algebra;
+pub mod flat;
 pub mod word;

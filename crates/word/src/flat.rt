@@ -1,0 +1,36 @@
+// SPDX-FileCopyrightText: 2026 The PPVM Authors
+// SPDX-License-Identifier: Apache-2.0
+
+// Words in a lent table: a flat slice of lanes, x lanes first. The layers above read and write whole
+// words and see a list of words.
+ghost use mathlib.Core.Path.{_≡_};
+ghost use Prim.Native.Nat.{_+_, _*_, _≤_};
+ghost use lib.ListN.{length, getD, set};
+ghost use Rattle.word.specs.Word.{identity};
+ghost use Rattle.word.specs.Flat.{words};
+use crate::word::Word;
+
+// The lanes of one word.
+pub const WORD_LANES: usize = 4;
+
+pub fn word_at(table: &[u64], i: usize) -> Word
+    requires { ⌜ 4 * i + 4 ≤ length (now table) ⌝ }
+    ensures { λ r. ⌜ r ≡ getD (words (now (table .entry))) i identity ⌝ }
+{
+    let at = i * WORD_LANES;
+    Word {
+        x: [table[at], table[at + 1]],
+        z: [table[at + 2], table[at + 3]],
+    }
+}
+
+pub fn set_word(table: &mut [u64], i: usize, w: Word)
+    requires { ⌜ 4 * i + 4 ≤ length (now table) ⌝ }
+    ensures { λ _. ⌜ words (now (table .exit)) ≡ set (words (now (table .entry))) i w ⌝ }
+{
+    let at = i * WORD_LANES;
+    table[at] = w.x[0];
+    table[at + 1] = w.x[1];
+    table[at + 2] = w.z[0];
+    table[at + 3] = w.z[1];
+}
