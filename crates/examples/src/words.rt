@@ -1,0 +1,83 @@
+// SPDX-FileCopyrightText: 2026 The PPVM Authors
+// SPDX-License-Identifier: Apache-2.0
+
+// Texts, codes and products of Pauli words.
+use crate::print;
+use pebblelinen::words::Parsed;
+
+// The word that was read, by its letters, or the refusal.
+fn print_parsed(answer: Parsed, n_qubits: usize) {
+    let status = answer.status;
+    let word = answer.word;
+    if status.refusal != 0 {
+        print::refusal(status);
+    } else {
+        print::word(word, n_qubits);
+    }
+    print::end_line();
+}
+
+fn read_text(text: &[u8], n_qubits: usize) {
+    print::text(b"text ");
+    print::text(text);
+    print::text(b" at ");
+    print::number(n_qubits as u64);
+    print::text(b" qubits: ");
+    let answer = pebblelinen::words::pebblelinen_parse_pauli_string(text, n_qubits);
+    print_parsed(answer, n_qubits);
+}
+
+// A text of one letter I for each qubit.
+fn read_identity(text: &[u8]) {
+    print::text(b"text of ");
+    print::number(text.len() as u64);
+    print::text(b" letters I at as many qubits: ");
+    let answer = pebblelinen::words::pebblelinen_parse_pauli_string(text, text.len());
+    let status = answer.status;
+    if status.refusal != 0 {
+        print::refusal(status);
+    } else {
+        print::text(b"accepted");
+    }
+    print::end_line();
+}
+
+fn read_code(code: u8) {
+    print::text(b"code ");
+    print::number(code as u64);
+    print::text(b": ");
+    let codes = [code];
+    let answer = pebblelinen::words::pebblelinen_word_from_codes(&codes);
+    print_parsed(answer, 1);
+}
+
+// The product of two texts, each with a letter a qubit.
+fn multiply(p: &[u8], q: &[u8]) {
+    print::text(p);
+    print::text(b" * ");
+    print::text(q);
+    print::text(b" = i^");
+    let left = pebblelinen::words::pebblelinen_parse_pauli_string(p, p.len());
+    let right = pebblelinen::words::pebblelinen_parse_pauli_string(q, q.len());
+    let product = pebblelinen::words::pebblelinen_pauli_mul(left.word, right.word);
+    print::number(product.phase as u64);
+    print::text(b" ");
+    print::word(product.word, p.len());
+    print::end_line();
+}
+
+pub fn run() {
+    read_text(b"X_Z", 2);
+    read_text(b"X_Z", 3);
+    read_text(b"xZ", 2);
+    let most = [b'I'; 128];
+    read_identity(&most);
+    let more = [b'I'; 129];
+    read_identity(&more);
+    read_code(3);
+    read_code(4);
+    multiply(b"X", b"Z");
+    multiply(b"Z", b"X");
+    multiply(b"X", b"Y");
+    multiply(b"XX", b"ZZ");
+}
