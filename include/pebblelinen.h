@@ -7,7 +7,8 @@
  * pebblelinen_status and changes nothing that it was lent. Build the library with
  * `rt staticlib pebblelinen` and link target/staticlib/libpebblelinen.a.
  *
- * A slice is passed as a pointer and a length. Qubits are counted from 0.
+ * A slice is passed as a pointer, which is not NULL even where the length is 0, and a length.
+ * Qubits are counted from 0.
  */
 #ifndef PEBBLELINEN_H
 #define PEBBLELINEN_H
@@ -67,7 +68,8 @@ typedef struct {
     uint32_t phase;
 } pebblelinen_phased;
 
-/* i times the commutator of two words: eps times a word. eps is -2, 2 or, where the two commute, 0. */
+/* i times the commutator of two words: eps times a word. eps is -2, 2 or, where the two commute,
+ * +0. */
 typedef struct {
     pebblelinen_word word;
     double eps;

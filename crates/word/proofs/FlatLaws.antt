@@ -2,13 +2,13 @@
 -- SPDX-License-Identifier: Apache-2.0
 
 -- Words in flat lanes: how many there are, reading one and writing one. Assumes nothing.
-use mathlib.Core.Path.{_≡_, refl, ap, sym, _∙_}
+use mathlib.Core.Path.{_≡_, refl, ap, _∙_}
 use mathlib.Core.List.{List, [], _∷_}
 use Prim.Native.Nat.{ℕ, zero, suc, _+_, _*_, _^_, _≤_, _<_}
 use native.Mathlib.Omega.{arith}
 use native.Mathlib.Numerals.{add-one, add-two, add-three}
 use lib.ListN.{length, getD, set}
-use Rattle.word.specs.Word.{identity, unpack, pack, Sound}
+use Rattle.word.specs.Word.{identity, Sound}
 use Rattle.word.specs.Flat.{words}
 use Rattle.word.specs.declared.word.Word.{Word}
 use Rattle.word.proofs.Words.{unpack-pack}

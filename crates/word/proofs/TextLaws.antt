@@ -23,9 +23,9 @@ use Rattle.refusal.specs.declared.Answer.the-variants as Answers
 use Rattle.word.specs.Count.{tabulate}
 use Rattle.word.specs.Word.{maxQubits, letterAt, wordOf, identity, pack, Sound}
 use Rattle.word.specs.Text.{codeOf, dropped, firstWhere, refuseByte, foreign, noLetter, readLetters, parse}
-use Rattle.word.specs.Codes.{noCode, readCodes, writeAnswer, writeFor, written}
+use Rattle.word.specs.Codes.{noCode, readCodes, writeAnswer, writeFor, written, Wrote}
 use Rattle.word.specs.Register.{reaches}
-use Rattle.word.specs.Steps.{chosen, Put, scanFrom, Wrote}
+use Rattle.word.specs.Steps.{chosen, Put, scanFrom}
 use Rattle.word.specs.declared.word.Word.{Word}
 use Rattle.word.specs.declared.word.Scan.{Scan}
 use Rattle.word.specs.declared.word.Scan.the-variants.{Letters, Foreign}

@@ -8,11 +8,9 @@ use mathlib.Core.Path.{_≡_}
 use mathlib.Core.List.{List, [], _∷_}
 use lib.Dec.{eqb, leb}
 use lib.Count.{ones}
-use Rattle.refusal.specs.declared.Answer.{Answer}
 use Rattle.word.specs.Count.{sumTo}
 use Rattle.word.specs.Letter.{mulPhase}
 use Rattle.word.specs.Word.{bit, letterAt, Sound}
-use Rattle.word.specs.Codes.{writeAnswer, written}
 use Rattle.word.specs.declared.word.Word.{Word}
 use Rattle.word.specs.declared.word.Scan.{Scan}
 use Rattle.word.specs.declared.word.Scan.the-variants.{Letters, Foreign}
@@ -43,8 +41,3 @@ lanePhase a b c d = sumTo 64 (λ k. mulPhase (bit a k + 2 * bit b k) (bit c k + 
 -- the counts of two bit planes, added up
 unfoldable pub planePhase : Planes → ℕ
 planePhase t = (ones (t .low) + 2 * ones (t .high)) % 4
-
--- what writing codes answers, and the lent places afterwards
-pub record Wrote (w : Word) (n : ℕ) (out : List ℕ) (answer : Answer) (after : List ℕ) : Type 0 where
-  pub answers : answer ≡ writeAnswer w n out
-  pub places : after ≡ written w n out

@@ -10,12 +10,12 @@ use Rattle.word.specs.Count.{sumTo, tabulate}
 use Rattle.word.specs.declared.word.Word.{Word}
 use Rattle.word.specs.declared.word.Lanes.{Lanes}
 
--- the lanes of a word's x and of its z, and the qubits that they hold
+-- the lanes of a word's x and of its z, and the qubits that they hold: 128
 abbrev pub laneCount : ℕ
 laneCount = 2
 
 abbrev pub maxQubits : ℕ
-maxQubits = 128
+maxQubits = 64 * laneCount
 
 -- bit k of n
 unfoldable pub bit : ℕ → ℕ → ℕ

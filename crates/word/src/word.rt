@@ -9,10 +9,10 @@ ghost use lib.Dec.{eqb};
 ghost use lib.ListN.{length, getD};
 ghost use Rattle.word.specs.Word.{bit, letterAt, identity, pack, unpack};
 ghost use Rattle.word.specs.Text.{codeOf, dropped, readLetters, parse};
-ghost use Rattle.word.specs.Codes.{readCodes, writeAnswer, written};
+ghost use Rattle.word.specs.Codes.{readCodes, Wrote};
 ghost use Rattle.word.specs.Register.{reaches, share};
 ghost use Rattle.word.specs.Order.{compareThen, compare, same};
-ghost use Rattle.word.specs.Steps.{chosen, Put, scanFrom, laneReaches, Wrote};
+ghost use Rattle.word.specs.Steps.{chosen, Put, scanFrom, laneReaches};
 use refusal::Answer;
 use refusal::Refusal;
 

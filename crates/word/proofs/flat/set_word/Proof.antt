@@ -2,9 +2,8 @@
 -- SPDX-License-Identifier: Apache-2.0
 
 -- `flat::set_word` meets its contract. Assumes nothing.
-use mathlib.Core.Path.{_≡_}
 use Prim.Native.Nat.{ℕ}
-use lib.ListN.{length, getD, length-set}
+use lib.ListN.{getD, length-set}
 use mir.Val.{Fits}
 use mir.Syntax.{w64}
 use Rattle.word.proofs.Words.{sound}
