@@ -1,0 +1,23 @@
+-- SPDX-FileCopyrightText: 2026 The PPVM Authors
+-- SPDX-License-Identifier: Apache-2.0
+
+-- Floats, and complex numbers of them, that are bounded by a power of two.
+use Prim.Native.Nat.{ℕ, _*_, _^_, _≤_}
+use lib.Ieee.{Float, nan, inf, fin, up, down}
+use Rattle.number.specs.Numbers.{Cx}
+use Rattle.number.specs.Floats.{floats}
+
+-- a finite x, by its sign, digits and exponent: m × 2 ^ e is at most 2 ^ k
+abbrev pub Size : ℕ → Float → Type 0
+Size k nan = ⊥
+Size k (inf s) = ⊥
+Size k (fin s m e) = m * up e ≤ 2 ^ k * down e
+
+-- x is finite, and at most 2 ^ k in magnitude
+pub record AtMost (k : ℕ) (x : Float) : Type 0 where
+  pub size : Size k x
+
+-- each part is
+pub record AtMostC (k : ℕ) (x : Cx floats) : Type 0 where
+  pub re : AtMost k (x .re)
+  pub im : AtMost k (x .im)
