@@ -9,7 +9,7 @@ use native.Mathlib.Omega.{arith}
 use native.Mathlib.Numerals.{add-one, add-two, add-three}
 use lib.ListN.{length, getD, set}
 use Rattle.word.specs.Word.{identity, Sound}
-use Rattle.word.specs.Flat.{words}
+use Rattle.word.specs.Flat.{words, layWord}
 use Rattle.word.specs.declared.word.Word.{Word}
 use Rattle.word.proofs.Words.{unpack-pack}
 use Rattle.word.proofs.WordLaws.{sound-identity}
@@ -64,8 +64,7 @@ set-lane (a₀ ∷ b₀ ∷ c₀ ∷ d₀ ∷ r) (suc i) p a b c d e h =
     rw z (ap (λ (t : List Word). word a₀ b₀ c₀ d₀ ∷ t) (set-lane r i (i * 4) a b c d refl (omega arith)))
 
 pub words-set : (l : List ℕ) (i : ℕ) (w : Word) → Sound w → 4 * i + 4 ≤ length l
-    → words (set (set (set (set l (i * 4) (getD (w .x) 0 0)) (i * 4 + 1) (getD (w .x) 1 0)) (i * 4 + 2) (getD (w .z) 0 0)) (i * 4 + 3) (getD (w .z) 1 0))
-    ≡ set (words l) i w
+    → words (layWord l i w) ≡ set (words l) i w
 words-set l i w s h =
     simp (add-one, add-two, add-three) (set-lane l i (i * 4) _ _ _ _ refl (omega arith))
     ∙ ap (λ (v : Word). set (words l) i v) (unpack-pack w s)

@@ -5,9 +5,9 @@
 // words and see a list of words.
 ghost use mathlib.Core.Path.{_≡_};
 ghost use Prim.Native.Nat.{_+_, _*_, _≤_};
-ghost use lib.ListN.{length, getD, set};
+ghost use lib.ListN.{length, getD};
 ghost use Rattle.word.specs.Word.{identity};
-ghost use Rattle.word.specs.Flat.{words};
+ghost use Rattle.word.specs.Flat.{words, LaysWord};
 use crate::word::Word;
 
 // The lanes of one word.
@@ -26,7 +26,7 @@ pub fn word_at(table: &[u64], i: usize) -> Word
 
 pub fn set_word(table: &mut [u64], i: usize, w: Word)
     requires { ⌜ 4 * i + 4 ≤ length (now table) ⌝ }
-    ensures { λ _. ⌜ words (now (table .exit)) ≡ set (words (now (table .entry))) i w ⌝ }
+    ensures { λ _. ⌜ LaysWord (now (table .entry)) i w (now (table .exit)) ⌝ }
 {
     let at = i * WORD_LANES;
     table[at] = w.x[0];

@@ -2,6 +2,7 @@
 -- SPDX-License-Identifier: Apache-2.0
 
 -- `flat::set_word` meets its contract. Assumes nothing.
+use mathlib.Core.Path.{refl}
 use Prim.Native.Nat.{ℕ}
 use lib.ListN.{getD, length-set}
 use mir.Val.{Fits}
@@ -27,7 +28,8 @@ returns c =
     let a = c .before .before .before .before .args in
     let hx : (i : ℕ) → Fits w64 (getD (a .t3 .x) i 0) = λ i. search needs in
     let hz : (i : ℕ) → Fits w64 (getD (a .t3 .z) i 0) = λ i. search needs in
-    words-set (a .table .now) (a .i) (a .t3) (sound (a .t3) (search needs) (search needs) hx hz) (omega arith)
+    let e = words-set (a .table .now) (a .i) (a .t3) (sound (a .t3) (search needs) (search needs) hx hz) (omega arith) in
+    record { lanes = refl; list = e }
 
 pub set-word-spec : {M : Type 1} → statement M
 set-word-spec =
