@@ -1,0 +1,114 @@
+-- SPDX-FileCopyrightText: 2026 The PPVM Authors
+-- SPDX-License-Identifier: Apache-2.0
+
+-- What is built from accepted items: 13 where the terms find no room, else the model and its tables. Assumes nothing.
+use mathlib.Core.Path.{_≡_, refl, sym, ap, ap₂, _∙_}
+use mathlib.Core.Bool.{Bool, cond}
+use mathlib.Core.List.{List, [], _∷_, map}
+use Prim.Native.Nat.{ℕ, suc, _/_, _≤_, _<_, min}
+use native.Mathlib.Omega.{arith}
+use borrow.Author.Tests.{lt-ltb, le-ltb}
+use lib.Ieee.{Float}
+use lib.ListN.{length, replicate, length-map}
+use Rattle.refusal.specs.declared.Refusal.the-variants.{TableFull}
+use Rattle.number.specs.Floats.{floats, float0}
+use Rattle.gksl.specs.Model.{RealTerm}
+use Rattle.gksl.specs.Words.{pauli}
+use Rattle.model.specs.declared.tables.Model.{Model}
+use Rattle.model.specs.declared.spec.Built.the-variants as Answers
+use Rattle.model.specs.Stored.{Tables}
+use Rattle.model.specs.Compiled.{Compiled}
+use Rattle.model.specs.Built.{Input, parts, realItems, jumpItems, termsOf, termPlaces, finished, stored, build}
+use Rattle.model.specs.Items.{total}
+use Rattle.model.specs.Taken.{realTaken, RealsRoom, LaysReals}
+use Rattle.model.specs.Work.{termsGiven, JumpsFit, jumpsCompiled, CountsJumps, JumpsRoom, StoresJumps}
+use Rattle.model.specs.Checked.{realLengths, termLengths, termTexts}
+use Rattle.model.proofs.Parts.{length-parts}
+use Rattle.model.proofs.BuildLaws.{Accepts, reals-count, length-jumps}
+use Rattle.model.proofs.CheckLaws.{ownLengths, restLengths, textsFrom, own-is, rest-lengths, rest-texts}
+
+length-reals : (ts : List (List ℕ)) (xs : List Float) → length ts ≡ length xs → length (realItems ts xs) ≡ length xs
+unfolding realItems
+length-reals [] [] e = refl
+length-reals [] (x ∷ xs) e = absurd (omega (arith, e))
+length-reals (t ∷ ts) [] e = absurd (omega (arith, e))
+length-reals (t ∷ ts) (x ∷ xs) e = ap suc (length-reals ts xs (omega (arith, e)))
+
+module _ (n : ℕ) (i : Input) (t : Tables) (workWords : List ℕ) (workNumbers : List Float) (a : Accepts n i t workWords workNumbers) where
+  abbrev reals : List (RealTerm floats pauli)
+  reals = map (realTaken n) (realItems (parts (realLengths i) (i .texts)) (i .hNumbers))
+
+  abbrev jumps : List Compiled
+  jumps = jumpsCompiled n (i .rates) (i .counts) (termLengths i) (termTexts i) (i .numbers)
+
+  reals-are : length reals ≡ length (i .hNumbers)
+  reals-are =
+      length-map (realItems (parts (realLengths i) (i .texts)) (i .hNumbers)) (realTaken n)
+      ∙ length-reals (parts (realLengths i) (i .texts)) (i .hNumbers) (length-parts (realLengths i) (i .texts) ∙ reals-count i t workWords workNumbers (a .lengths))
+
+  jumps-number : length jumps ≡ length (i .rates)
+  jumps-number =
+      length-map (jumpItems (i .rates) (parts (i .counts) (termsGiven (termLengths i) (termTexts i) (i .numbers)))) _
+      ∙ length-jumps (i .rates) (i .counts) (termsGiven (termLengths i) (termTexts i) (i .numbers)) (a .lengths .counts-each)
+      ∙ a .lengths .counts-each
+
+  pub own-reals : RealsRoom (i .texts) (ownLengths i) (i .hNumbers) (t .hWords) (t .hCoeffs)
+  own-reals = rw (own-is i) (a .reals)
+
+  module _ (sum : ℕ) (e : sum ≡ total (ownLengths i)) where
+    pub own-jumps : JumpsFit (i .counts) (restLengths i) (textsFrom i sum) (i .numbers)
+    own-jumps = rw (rest-lengths i, rest-texts i sum e) (a .jumps)
+
+    abbrev pub taken : List Compiled
+    taken = jumpsCompiled n (i .rates) (i .counts) (restLengths i) (textsFrom i sum) (i .numbers)
+
+    taken-are : taken ≡ jumps
+    taken-are = ap₂ (λ (ns l : List ℕ). jumpsCompiled n (i .rates) (i .counts) ns l (i .numbers)) (rest-lengths i) (rest-texts i sum e)
+
+    module _ (kept : ℕ) (counts : CountsJumps n (i .counts) (restLengths i) (textsFrom i sum) (i .numbers) kept)
+        (places : ℕ) (p : places ≡ min (length (t .tWords) / 4) (length (t .tNumbers) / 2)) where
+      kept-is : kept ≡ length (termsOf jumps)
+      kept-is = counts .counts (i .rates) (sym (a .lengths .counts-each)) ∙ ap (λ (cs : List Compiled). length (termsOf cs)) taken-are
+
+      module _ (words′ : List ℕ) (numbers′ : List Float) (cw : words′ ≡ replicate (length workWords) 0) (cn : numbers′ ≡ replicate (length workNumbers) float0) where
+        -- a table that is full stays as it was
+        pub built-full : places < kept
+            → record { answer = Answers.Refused (TableFull 4 places); tables = t; workWords = words′; workNumbers = numbers′ } ≡ build n i t workWords workNumbers
+        built-full h =
+            let full : termPlaces t < length (termsOf jumps) = rw (← p, ← kept-is) h in
+            rw (cw, cn, p, a .build-is, lt-ltb (termPlaces t) (length (termsOf jumps)) full)
+
+        module _ (h : kept ≤ places) (hWords′ : List ℕ) (hCoeffs′ : List Float) (jumps′ : List ℕ) (rates′ : List Float) (tWords′ : List ℕ) (tNumbers′ : List Float)
+            (lays : LaysReals (map (realTaken n) (realItems (parts (ownLengths i) (i .texts)) (i .hNumbers))) (t .hWords) (t .hCoeffs) hWords′ hCoeffs′)
+            (stores : StoresJumps taken (t .jumps) (t .rates) (t .tWords) (t .tNumbers) jumps′ rates′ tWords′ tNumbers′) where
+          tables-are : record { hWords = hWords′; hCoeffs = hCoeffs′; jumps = jumps′; rates = rates′; tWords = tWords′; tNumbers = tNumbers′ } ≡ stored reals jumps t
+          unfolding stored
+          tables-are =
+              rw (lays .lanes-are, lays .coeffs-are, stores .entries-are, stores .rates-are, stores .lays .lanes-are, stores .lays .numbers-are, own-is i, taken-are) refl
+
+          pub built-model : record {
+            answer = Answers.Model (record { qubits = n; hamiltonian = length (i .hNumbers); jumps = length (i .rates); terms = kept });
+            tables = record { hWords = hWords′; hCoeffs = hCoeffs′; jumps = jumps′; rates = rates′; tWords = tWords′; tNumbers = tNumbers′ };
+            workWords = words′;
+            workNumbers = numbers′;
+          } ≡ build n i t workWords workNumbers
+          built-model =
+              let fits : length (termsOf jumps) ≤ termPlaces t = rw (← p, ← kept-is) h in
+              (λ k. record {
+                answer = Answers.Model (record { qubits = n; hamiltonian = (sym reals-are) k; jumps = (sym jumps-number) k; terms = kept-is k });
+                tables = tables-are k;
+                workWords = cw k;
+                workNumbers = cn k;
+              })
+              ∙ sym (a .build-is ∙ ap (λ (b : Bool). cond b (finished n i t workWords workNumbers (Answers.Refused (TableFull 4 (termPlaces t))) t) (finished n i t workWords workNumbers (Answers.Model (record { qubits = n; hamiltonian = length reals; jumps = length jumps; terms = length (termsOf jumps) })) (stored reals jumps t))) (le-ltb (termPlaces t) (length (termsOf jumps)) fits))
+
+      pub jumps-room : kept ≤ places → JumpsRoom taken (t .jumps) (t .rates) (t .tWords) (t .tNumbers)
+      jumps-room h =
+          let k : length (termsOf taken) ≡ kept = sym (counts .counts (i .rates) (sym (a .lengths .counts-each))) in
+          let c : length taken ≡ length (i .rates) = ap length taken-are ∙ jumps-number in
+          record {
+            entries-room = omega (arith, c, a .entries-room);
+            rates-room = omega (arith, c, a .rates-room);
+            lanes-room = omega (arith, k, h, p);
+            numbers-room = omega (arith, k, h, p);
+          }

@@ -1,0 +1,25 @@
+-- SPDX-FileCopyrightText: 2026 The PPVM Authors
+-- SPDX-License-Identifier: Apache-2.0
+
+-- Laws of this crate.
+pub mod Entries
+pub mod Parts
+pub mod ItemAnswers
+pub mod FirstRefusal
+pub mod ProductLaws
+pub mod WorkLaws
+pub mod StoreLaws
+pub mod ReadLaws
+pub mod OperatorLaws
+pub mod TakenLaws
+pub mod LengthLaws
+pub mod Firsts
+pub mod Choices
+pub mod Ranges
+pub mod GivenTerms
+pub mod ModelTests
+pub mod TestOrder
+pub mod JumpsLaws
+pub mod BuildLaws
+pub mod CheckLaws
+pub mod FinishLaws

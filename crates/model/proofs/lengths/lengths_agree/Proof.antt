@@ -1,0 +1,120 @@
+-- SPDX-FileCopyrightText: 2026 The PPVM Authors
+-- SPDX-License-Identifier: Apache-2.0
+
+-- `lengths::lengths_agree` meets its contract: the tests before a return were passed. Assumes nothing.
+use mathlib.Core.Path.{_≡_, sym, _∙_}
+use mathlib.Core.List.{List}
+use Prim.Native.Nat.{ℕ}
+use lib.Ieee.{Float}
+use borrow.Author.Needs.{needs}
+use borrow.Author.Tests.{lt-ltb, le-ltb, eq-eqb, ne-eqb}
+use Rattle.model.specs.Stored.{Tables}
+use Rattle.model.specs.Built.{Input, lengthsAnswer}
+use Rattle.model.proofs.LengthLaws.{tablesAnswer, own-agree}
+use Rattle.model.proofs.lengths.lengths_agree.Statement.{statement}
+use Rattle.model.proofs.lengths.lengths_agree.Tie as tie
+
+returns : tie.Need-returns
+unfolding lengthsAnswer
+returns c tWords tNumbers = rw (ne-eqb _ _ (c .before .if1 .taken)) (c .mismatch .ensures)
+
+returns-2 : tie.Need-returns-2
+unfolding lengthsAnswer
+returns-2 c tWords tNumbers = rw (eq-eqb _ _ (c .before .before .if1 .left), ne-eqb _ _ (c .before .if2 .taken)) (c .mismatch2 .ensures)
+
+returns-3 : tie.Need-returns-3
+unfolding lengthsAnswer
+returns-3 c tWords tNumbers = rw (eq-eqb _ _ (c .before .before .before .if1 .left), eq-eqb _ _ (c .before .before .if2 .left), ne-eqb _ _ (c .before .if3 .taken)) (c .mismatch3 .ensures)
+
+returns-4 : tie.Need-returns-4
+unfolding lengthsAnswer
+returns-4 c tWords tNumbers =
+    let b = c .before .before .before in
+    rw (eq-eqb _ _ (b .before .before .if1 .left), eq-eqb _ _ (b .before .if2 .left), eq-eqb _ _ (b .if3 .left), sym (c .before .before .parts-fit .ensures) ∙ c .enum-told2 .given .1) (c .enum-told2 .given .1)
+
+returns-5 : tie.Need-returns-5
+unfolding lengthsAnswer
+returns-5 c tWords tNumbers =
+    let d = c .before .before .before in
+    let b = d .before .before .before in
+    rw (eq-eqb _ _ (b .before .before .if1 .left), eq-eqb _ _ (b .before .if2 .left), eq-eqb _ _ (b .if3 .left), sym (d .before .before .parts-fit .ensures) ∙ d .enum-told .given .1, sym (c .before .before .parts-fit2 .ensures) ∙ c .enum-told4 .given .1) (c .enum-told4 .given .1)
+
+-- ---- past the tests of the input
+abbrev start : tie.After-enum-told3 → tie.Start
+start c = c .before .before .before .before .before .before .before .before .before .before .before .before .before .before .before .before .before .before .before .before .before
+
+abbrev input : tie.Start → Input
+input s =
+    let a = s .args in
+    record { texts = a .texts .now; lengths = a .lengths .now; hNumbers = a .h-numbers .now; rates = a .rates .now; counts = a .counts .now; numbers = a .numbers .now }
+
+abbrev tables : tie.Start → List ℕ → List Float → Tables
+tables s tWords tNumbers =
+    let a = s .args in
+    record { hWords = a .h-words .now; hCoeffs = a .h-coeffs .now; jumps = a .jumps .now; rates = a .rate-places .now; tWords = tWords; tNumbers = tNumbers }
+
+own : (c : tie.After-enum-told3) (tWords : List ℕ) (tNumbers : List Float)
+    → lengthsAnswer (input (start c)) (tables (start c) tWords tNumbers) (start c .args .work-words .now) (start c .args .work-numbers .now)
+    ≡ tablesAnswer (input (start c)) (tables (start c) tWords tNumbers) (start c .args .work-words .now) (start c .args .work-numbers .now)
+own c tWords tNumbers =
+    let d = c .before .before .before in
+    let b = d .before .before .before in
+    own-agree _ _ _ _ (b .before .before .if1 .left) (b .before .if2 .left) (b .if3 .left)
+    (sym (d .before .before .parts-fit .ensures) ∙ d .enum-told .given .1) (sym (c .before .before .parts-fit2 .ensures) ∙ c .enum-told3 .given .1)
+
+returns-6 : tie.Need-returns-6
+returns-6 c tWords tNumbers = rw (own (c .before .before) tWords tNumbers, lt-ltb _ _ (c .before .if4 .taken)) (c .mismatch4 .ensures)
+
+returns-7 : tie.Need-returns-7
+returns-7 c tWords tNumbers = rw (own (c .before .before .before) tWords tNumbers, le-ltb _ _ (c .before .before .if4 .left), lt-ltb _ _ (c .before .if5 .taken)) (c .mismatch5 .ensures)
+
+returns-8 : tie.Need-returns-8
+returns-8 c tWords tNumbers = rw (own (c .before .before .before .before) tWords tNumbers, le-ltb _ _ (c .before .before .before .if4 .left), le-ltb _ _ (c .before .before .if5 .left), lt-ltb _ _ (c .before .if6 .taken)) (c .mismatch6 .ensures)
+
+returns-9 : tie.Need-returns-9
+returns-9 c tWords tNumbers = rw (own (c .before .before .before .before .before) tWords tNumbers, le-ltb _ _ (c .before .before .before .before .if4 .left), le-ltb _ _ (c .before .before .before .if5 .left), le-ltb _ _ (c .before .before .if6 .left), lt-ltb _ _ (c .before .if7 .taken)) (c .mismatch7 .ensures)
+
+returns-10 : tie.Need-returns-10
+returns-10 c tWords tNumbers = rw (own (c .before .before .before .before .before .before) tWords tNumbers, le-ltb _ _ (c .before .before .before .before .before .if4 .left), le-ltb _ _ (c .before .before .before .before .if5 .left), le-ltb _ _ (c .before .before .before .if6 .left), le-ltb _ _ (c .before .before .if7 .left), lt-ltb _ _ (c .before .if8 .taken)) (c .mismatch8 .ensures)
+
+returns-11 : tie.Need-returns-11
+returns-11 c tWords tNumbers = rw (own (c .before .before .before .before .before .before .before) tWords tNumbers, le-ltb _ _ (c .before .before .before .before .before .before .if4 .left), le-ltb _ _ (c .before .before .before .before .before .if5 .left), le-ltb _ _ (c .before .before .before .before .if6 .left), le-ltb _ _ (c .before .before .before .if7 .left), le-ltb _ _ (c .before .before .if8 .left), lt-ltb _ _ (c .before .if9 .taken)) (c .mismatch9 .ensures)
+
+returns-12 : tie.Need-returns-12
+returns-12 c tWords tNumbers = rw (own (c .before .before .before .before .before .before) tWords tNumbers, le-ltb _ _ (c .before .before .before .before .before .if4 .left), le-ltb _ _ (c .before .before .before .before .if5 .left), le-ltb _ _ (c .before .before .before .if6 .left), le-ltb _ _ (c .before .before .if7 .left), le-ltb _ _ (c .before .if8 .left), le-ltb _ _ (c .if9 .left))
+
+pub lengths-agree-spec : {M : Type 1} → statement M
+lengths-agree-spec =
+    tie.close
+    (tie.spec
+    (λ c. search needs)
+    (λ c. search needs)
+    (λ c κs. search needs)
+    returns
+    (λ c κs. search needs)
+    returns-2
+    (λ c. search needs)
+    (λ c. search needs)
+    (λ c κs. search needs)
+    returns-3
+    (λ c κs. search needs)
+    (λ c. search needs)
+    (λ c. search needs)
+    returns-4
+    (λ c κs. search needs)
+    (λ c. search needs)
+    (λ c. search needs)
+    returns-5
+    (λ c κs. search needs)
+    returns-6
+    (λ c κs. search needs)
+    returns-7
+    (λ c κs. search needs)
+    returns-8
+    (λ c κs. search needs)
+    returns-9
+    (λ c κs. search needs)
+    returns-10
+    (λ c κs. search needs)
+    returns-11
+    returns-12)

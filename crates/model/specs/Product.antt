@@ -1,0 +1,73 @@
+-- SPDX-FileCopyrightText: 2026 The PPVM Authors
+-- SPDX-License-Identifier: Apache-2.0
+
+-- Terms in flat tables, and the product of two operators in a work table.
+use Prim.Native.Nat.{ℕ, _+_, _-_, _*_, _%_, _≤_, _<_}
+use mathlib.Core.Path.{_≡_}
+use mathlib.Core.List.{List}
+use lib.Ieee.{Float}
+use lib.ListN.{getD, length, take, drop}
+use Rattle.word.specs.Word.{identity}
+use Rattle.word.specs.Flat.{words}
+use Rattle.word.specs.Product.{phase}
+use Rattle.word.specs.Product as Words
+use Rattle.number.specs.Numbers.{mulC, unitC}
+use Rattle.number.specs.Floats.{floats, cx}
+use Rattle.gksl.specs.Operator.{Onto}
+use Rattle.gksl.specs.Rules.{bare, onWord}
+use Rattle.gksl.specs.Table.{putAllOver}
+use Rattle.gksl.specs.Words.{pauli}
+use Rattle.table.specs.Numbers.{complexes, noNumber}
+use Rattle.table.specs.Sums.{rows, table, Rising}
+use Rattle.model.specs.declared.product.Term.{Term}
+use Rattle.model.specs.declared.tables.Range.{Range}
+
+abbrev pub onto : Term → Onto floats pauli
+onto t = record { num = cx (t .number); word = t .word }
+
+abbrev pub termAt : List ℕ → List Float → ℕ → Onto floats pauli
+termAt lanes numbers i = record { num = getD (complexes numbers) i noNumber; word = getD (words lanes) i identity }
+
+-- the conjugate of a's number × b's number × i^phase, onto a·b
+unfoldable pub formedTerm : Onto floats pauli → Onto floats pauli → Onto floats pauli
+formedTerm a b = onWord floats pauli (mulC floats (bare floats pauli a b) (unitC floats (phase (a .word) (b .word) % 4))) (Words.mul (a .word) (b .word))
+
+-- the terms from place s to before place e
+abbrev pub termsIn : List ℕ → List Float → ℕ → ℕ → List (Onto floats pauli)
+termsIn lanes numbers s e = take (e - s) (drop s (rows (words lanes) (complexes numbers)))
+
+abbrev pub termsOf : List ℕ → List Float → Range → List (Onto floats pauli)
+termsOf lanes numbers r = termsIn lanes numbers (r .start) (r .end)
+
+-- a work table with so many sums and a place for one more
+pub record SumRoom (count : ℕ) (lanes : List ℕ) (numbers : List Float) : Type 0 where
+  pub lanes-long : 1024 ≤ length lanes
+  pub numbers-long : 512 ≤ length numbers
+  pub room : count < 256
+  pub rises : Rising (table count lanes numbers)
+
+-- one with terms past the places of the sums, and a place for the product with each of them
+pub record RowRoom (len start end : ℕ) (lanes : List ℕ) (numbers : List Float) : Type 0 where
+  pub past : 256 ≤ start
+  pub order : start ≤ end
+  pub lanes-long : 4 * end ≤ length lanes
+  pub numbers-long : 2 * end ≤ length numbers
+  pub room : len + (end - start) ≤ 256
+  pub rises : Rising (table len lanes numbers)
+
+-- one with the terms of two operators past the places of the sums, and a place for each product
+pub record PairRoom (left right : Range) (lanes : List ℕ) (numbers : List Float) : Type 0 where
+  pub left-past : 256 ≤ left .start
+  pub left-order : left .start ≤ left .end
+  pub right-past : 256 ≤ right .start
+  pub right-order : right .start ≤ right .end
+  pub lanes-long : (4 * left .end ≤ length lanes) × (4 * right .end ≤ length lanes)
+  pub numbers-long : (2 * left .end ≤ length numbers) × (2 * right .end ≤ length numbers)
+  pub few : (left .end - left .start ≤ 16) × (right .end - right .start ≤ 16)
+
+-- terms put to the sums one by one; what stands past the places of the sums stays
+pub record Forms (terms : List (Onto floats pauli)) (len : ℕ) (lanes : List ℕ) (numbers : List Float) (r : ℕ) (lanes′ : List ℕ) (numbers′ : List Float) : Type 0 where
+  pub sums : table r lanes′ numbers′ ≡ putAllOver floats pauli terms (table len lanes numbers)
+  pub count : length (putAllOver floats pauli terms (table len lanes numbers)) ≡ r
+  pub lanes-stay : drop 1024 lanes′ ≡ drop 1024 lanes
+  pub numbers-stay : drop 512 numbers′ ≡ drop 512 numbers

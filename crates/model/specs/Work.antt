@@ -1,0 +1,88 @@
+-- SPDX-FileCopyrightText: 2026 The PPVM Authors
+-- SPDX-License-Identifier: Apache-2.0
+
+-- The work table: an operator's terms past the places of the sums, and what is stored for a jump from there.
+use Prim.Native.Nat.{ℕ, _+_, _*_, _≤_, _<_}
+use mathlib.Core.Path.{_≡_}
+use mathlib.Core.Bool.{Bool, false}
+use mathlib.Core.List.{List, [], _∷_, map}
+use lib.Ieee.{Float}
+use lib.ListN.{length, getD, set}
+use Rattle.number.specs.Floats.{floats}
+use Rattle.table.specs.Numbers.{complexes}
+use Rattle.model.specs.Given.{Term, GivenTerm}
+use Rattle.model.specs.Built.{parts, termItems, jumpItems, entriesFrom, termsOf, ratesOf}
+use Rattle.model.specs.Items.{total}
+use Rattle.model.specs.Taken.{termTaken, jumpTaken}
+use Rattle.model.specs.Compiled.{Compiled, compileJump}
+use Rattle.model.specs.Laid.{laid, layEntry}
+use Rattle.model.specs.Product.{termsIn}
+use Rattle.model.specs.Thinned.{LaysTerms}
+
+-- the k terms past the places of the sums
+abbrev pub operatorIn : ℕ → List ℕ → List Float → List Term
+operatorIn k lanes numbers = termsIn lanes numbers 256 (256 + k)
+
+-- one term with a real number: a Pauli jump
+unfoldable pub isPauli : List Term → Bool
+isPauli [] = false
+isPauli (t ∷ []) = floats .isZero (t .num .im)
+isPauli (t ∷ u ∷ op) = false
+
+-- 272 places, and an operator of at most 16 terms
+pub record WorkRoom (k : ℕ) (lanes : List ℕ) (numbers : List Float) : Type 0 where
+  pub lanes-long : 1088 ≤ length lanes
+  pub numbers-long : 544 ≤ length numbers
+  pub few : k ≤ 16
+
+-- two numbers for each text, and the texts are there
+pub record TextsFit (ns l : List ℕ) (xs : List Float) : Type 0 where
+  pub two : length xs ≡ 2 * length ns
+  pub whole : total ns ≤ length l
+
+abbrev pub termsGiven : List ℕ → List ℕ → List Float → List GivenTerm
+termsGiven ns l xs = termItems (parts ns l) (complexes xs)
+
+abbrev pub operatorTaken : ℕ → List ℕ → List ℕ → List Float → List Term
+operatorTaken n ns l xs = map (termTaken n) (termsGiven ns l xs)
+
+-- room for what is stored for a jump: its entry j, and its terms from a place on
+pub record JumpRoom (c : Compiled) (j at : ℕ) (jumps : List ℕ) (rates : List Float) (tLanes : List ℕ) (tNumbers : List Float) : Type 0 where
+  pub entry-room : 8 * j + 8 ≤ length jumps
+  pub rate-room : j < length rates
+  pub lanes-room : 4 * (at + length (c .terms)) ≤ length tLanes
+  pub numbers-room : 2 * (at + length (c .terms)) ≤ length tNumbers
+
+-- the place after its terms, and the four tables afterwards
+pub record StoresJump (c : Compiled) (j at : ℕ) (jumps : List ℕ) (rates : List Float) (tLanes : List ℕ) (tNumbers : List Float) (r : ℕ) (jumps′ : List ℕ) (rates′ : List Float) (tLanes′ : List ℕ) (tNumbers′ : List Float) : Type 0 where
+  pub end : r ≡ at + length (c .terms)
+  pub entry-is : jumps′ ≡ layEntry jumps j (c .numbers at)
+  pub rate-is : rates′ ≡ set rates j (c .rate)
+  pub lays : LaysTerms (c .terms) at tLanes tNumbers tLanes′ tNumbers′
+
+-- ---- all jumps: counts of at most 16 that make up the terms
+pub record JumpsFit (cs ns l : List ℕ) (xs : List Float) : Type 0 where
+  pub many : length cs ≤ 4096
+  pub few : (j : ℕ) → getD cs j 0 ≤ 16
+  pub terms : total cs ≡ length ns
+  pub texts : TextsFit ns l xs
+
+abbrev pub jumpsCompiled : ℕ → List Float → List ℕ → List ℕ → List ℕ → List Float → List Compiled
+jumpsCompiled n gs cs ns l xs = map (λ j. compileJump (jumpTaken n j)) (jumpItems gs (parts cs (termsGiven ns l xs)))
+
+-- how many terms are stored for the jumps, whatever their rates
+pub record CountsJumps (n : ℕ) (cs ns l : List ℕ) (xs : List Float) (r : ℕ) : Type 0 where
+  pub counts : (gs : List Float) → length gs ≡ length cs → r ≡ length (termsOf (jumpsCompiled n gs cs ns l xs))
+
+-- room for the entries and the terms
+pub record JumpsRoom (cs : List Compiled) (jumps : List ℕ) (rates : List Float) (tLanes : List ℕ) (tNumbers : List Float) : Type 0 where
+  pub entries-room : 8 * length cs ≤ length jumps
+  pub rates-room : length cs ≤ length rates
+  pub lanes-room : 4 * length (termsOf cs) ≤ length tLanes
+  pub numbers-room : 2 * length (termsOf cs) ≤ length tNumbers
+
+-- the four tables afterwards
+pub record StoresJumps (cs : List Compiled) (jumps : List ℕ) (rates : List Float) (tLanes : List ℕ) (tNumbers : List Float) (jumps′ : List ℕ) (rates′ : List Float) (tLanes′ : List ℕ) (tNumbers′ : List Float) : Type 0 where
+  pub entries-are : jumps′ ≡ laid layEntry 0 (entriesFrom 0 cs) jumps
+  pub rates-are : rates′ ≡ laid set 0 (ratesOf cs) rates
+  pub lays : LaysTerms (termsOf cs) 0 tLanes tNumbers tLanes′ tNumbers′
