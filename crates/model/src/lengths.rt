@@ -20,7 +20,7 @@ use word::flat::WORD_LANES;
 const WORK_PLACES: usize = 272;
 
 // The refusal of a length.
-fn mismatch(needed: usize, given: usize) -> Answer
+pub fn mismatch(needed: usize, given: usize) -> Answer
     ensures { λ r. ⌜ r ≡ Refused (LengthMismatch needed given) ⌝ }
 {
     Answer::Refused(Refusal::LengthMismatch { needed, given })
