@@ -2,3 +2,4 @@
 -- SPDX-License-Identifier: Apache-2.0
 
 -- Laws of this crate.
+pub mod AddLaws

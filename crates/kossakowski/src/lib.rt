@@ -4,6 +4,7 @@
 // The Kossakowski form of a dissipator: a matrix K over operators, compiled into pairs and added to a
 // model that stands.
 pub mod check;
+pub mod kossakowski;
 pub mod lengths;
 pub mod matrix;
 pub mod operators;
