@@ -239,6 +239,53 @@ pebblelinen_built pebblelinen_build_model(
     size_t t_words_len, double *t_numbers, size_t t_numbers_len, uint64_t *work_words,
     size_t work_words_len, double *work_numbers, size_t work_numbers_len);
 
+/* Adds a matrix K over operators to a model that stands in lent tables: the dissipator
+ * sum over n and m of K[n][m] (A_n^dagger p A_m - 1/2 (A_n^dagger A_m p + p A_n^dagger A_m)).
+ *
+ * The operators A_0, A_1, .. are given as the operators of jumps are, and K row by row:
+ *
+ *   texts      the bytes of the texts of all terms, one after another, operator by operator
+ *   lengths    the length of each text, in the same order
+ *   counts     how many terms each operator has; its length k is how many operators there are
+ *   numbers    the numbers of the terms, operator by operator: real part, imaginary part
+ *   k          k * k entries, row by row: real part, imaginary part
+ *
+ * K is to be Hermitian, and only its entries with n not above m are used. Of these, one whose squared
+ * magnitude is at most (1e-14 * 1e-14) times the largest in K is skipped; every other makes a pair, an
+ * entry of the table of jumps and pairs of kind 2 with rate 0. The terms table takes, after what it
+ * holds, the terms of all operators, then for each pair its factors (conj(a) b K[n][m] for each term a
+ * of A_n with each term b of A_m, beside the word of b), then the words of A_n^dagger A_m, thinned as
+ * for a jump, each with K[n][m] times its number.
+ *
+ * The model that is returned counts what was there and what was added; entries and terms that were
+ * there stay as they were, and the Hamiltonian terms are only read. Where the matrix was added, the
+ * work tables are all zero. Refusals, in this order:
+ *
+ *       those of pebblelinen_test_model for the model
+ *    8  (count): more than 64 operators
+ *    9  (k * k, entries of K), then (2 k k, numbers of K), then for the operators as in
+ *       pebblelinen_build_model
+ *    9  (places needed, places lent) for jumps and rates, which need room for every pair that there
+ *       can be: the model's entries and k (k + 1) / 2 more, at most 4,096; then 256 and one for each
+ *       term for work_words and work_numbers
+ *    7  (place in K, row by row) for the first entry out of range
+ *   10  (n, m) for the first entry, in row order with n not above m, that is not the conjugate of
+ *       K[m][n]: the difference has a squared magnitude above (1e-10 * 1e-10) times the larger of 1
+ *       and the largest squared magnitude in K
+ *       each operator in turn, as that of a jump from 6 on
+ *    8  (count): more than 4,096 jumps and pairs together
+ *   13  (4, places lent): the terms table has fewer places than the model takes
+ *
+ * A refusal changes nothing that was lent, but for 13, after which the work tables are all zero. */
+pebblelinen_built pebblelinen_add_kossakowski(
+    pebblelinen_model model, const uint8_t *texts, size_t texts_len, const uint64_t *lengths,
+    size_t lengths_len, const uint64_t *counts, size_t counts_len, const double *numbers,
+    size_t numbers_len, const double *k, size_t k_len, const uint64_t *h_words,
+    size_t h_words_len, const double *h_coeffs, size_t h_coeffs_len, uint64_t *jumps,
+    size_t jumps_len, double *rates, size_t rates_len, uint64_t *t_words, size_t t_words_len,
+    double *t_numbers, size_t t_numbers_len, uint64_t *work_words, size_t work_words_len,
+    double *work_numbers, size_t work_numbers_len);
+
 /* Tests a model in lent tables, as every call that takes one does first. A model that was built
  * passes. Refusals, in this order:
  *

@@ -19,7 +19,7 @@ use refusal::Answer;
 use refusal::Refusal;
 
 // The operators that a matrix may have.
-const MAX_OPERATORS: usize = 64;
+pub const MAX_OPERATORS: usize = 64;
 
 pub fn check_matrix(
     m: Model,

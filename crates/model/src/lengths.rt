@@ -17,7 +17,7 @@ use refusal::Refusal;
 use word::flat::WORD_LANES;
 
 // The work places of the largest operator and its product: 16 terms and 256 sums.
-const WORK_PLACES: usize = 272;
+pub const WORK_PLACES: usize = 272;
 
 // The refusal of a length.
 pub fn mismatch(needed: usize, given: usize) -> Answer

@@ -11,7 +11,8 @@ use Rattle.refusal.specs.declared.Answer.the-variants.{Accepted}
 use Rattle.model.specs.Stored.{Tables}
 use Rattle.model.specs.Given.{maxTerms}
 use Rattle.model.specs.Tested.{maxHamiltonian, maxJumps}
-use Rattle.model.specs.Built.{Input, workPlaces, build}
+use Rattle.model.specs.Built.{workPlaces, Building}
+use Rattle.kossakowski.specs.Added.{maxOperators, workNeeded}
 use Rattle.model.specs.declared.tables.Model.{Model}
 use Rattle.model.specs.declared.spec.Built.{Built}
 use Rattle.model.specs.declared.spec.Built.the-variants as Answers
@@ -27,12 +28,12 @@ abbrev pub builtOf : Built → BuiltModel
 builtOf (Answers.Model m) = record { status = answerStatus Accepted; model = m }
 builtOf (Answers.Refused refusal) = record { status = statusOf refusal; model = noModel }
 
--- what building answers, and the lent tables afterwards
-pub record Builds (n : ℕ) (given : Input) (t : Tables) (workWords : List ℕ) (workNumbers : List Float) (r : BuiltModel) (t′ : Tables) (workWords′ : List ℕ) (workNumbers′ : List Float) : Type 0 where
-  pub answers : r ≡ builtOf (build n given t workWords workNumbers .answer)
-  pub tables-are : t′ ≡ build n given t workWords workNumbers .tables
-  pub work-words : workWords′ ≡ build n given t workWords workNumbers .workWords
-  pub work-numbers : workNumbers′ ≡ build n given t workWords workNumbers .workNumbers
+-- what a builder answers, and the lent tables afterwards
+pub record Leaves (b : Building) (r : BuiltModel) (t : Tables) (workWords : List ℕ) (workNumbers : List Float) : Type 0 where
+  pub answers : r ≡ builtOf (b .answer)
+  pub tables-are : t ≡ b .tables
+  pub work-words : workWords ≡ b .workWords
+  pub work-numbers : workNumbers ≡ b .workNumbers
 
 -- the lengths of slices with so many places for Hamiltonian terms, for jumps and pairs, for terms and for work: a word is
 -- four lanes, a complex number two numbers, an entry of the table of jumps and pairs eight
@@ -47,10 +48,6 @@ lengthsOf hamiltonian jumps terms work = record {
   «work_words» = 4 * work;
   «work_numbers» = 2 * work;
 }
-
--- Limit: 64 operators a matrix
-abbrev pub maxOperators : ℕ
-maxOperators = 64
 
 -- the lengths that are enough for so many Hamiltonian items and jumps of at most so many terms: a jump stores its terms, and
 -- its product a term for two of them at most. More than a limit is refused, so it asks for no more than the limit does
@@ -68,4 +65,4 @@ matrixSizes operators terms =
     let k : ℕ = min operators maxOperators in
     let c : ℕ = min terms maxTerms in
     let pairs : ℕ = k * (k + 1) / 2 in
-    lengthsOf 0 pairs (k * c + pairs * (2 * (c * c))) (256 + k * c)
+    lengthsOf 0 pairs (k * c + pairs * (2 * (c * c))) (workNeeded (k * c))

@@ -5,8 +5,13 @@
 ghost use mathlib.Core.Path.{_≡_};
 ghost use Prim.Native.Nat.{_+_, _*_, _/_, _≤_, _<_};
 ghost use Rattle.refusal.specs.Cause.{answerStatus};
+ghost use Rattle.model.specs.Built.{build};
 ghost use Rattle.model.specs.Tested.{testModel};
-ghost use Rattle.pebblelinen.specs.Models.{builtOf, Builds, lengthsOf, modelSizes, matrixSizes};
+ghost use Rattle.kossakowski.specs.Added.{add};
+ghost use Rattle.pebblelinen.specs.Models.{builtOf, Leaves, lengthsOf, modelSizes, matrixSizes};
+use kossakowski::check::MAX_OPERATORS;
+use model::items::MAX_TERMS;
+use model::lengths::WORK_PLACES;
 use model::product::SUM_PLACES;
 use model::spec::Built;
 use model::tables::Model;
@@ -65,7 +70,7 @@ pub extern "C" fn pebblelinen_build_model(
     work_words: &mut [u64],
     work_numbers: &mut [f64],
 ) -> BuiltModel
-    ensures { λ r. ⌜ Builds «n_qubits» (record { texts = now (texts .entry); lengths = now (lengths .entry); hNumbers = now («h_numbers» .entry); rates = now (given .entry); counts = now (counts .entry); numbers = now (numbers .entry) }) (record { hWords = now («h_words» .entry); hCoeffs = now («h_coeffs» .entry); jumps = now (jumps .entry); rates = now (rates .entry); tWords = now («t_words» .entry); tNumbers = now («t_numbers» .entry) }) (now («work_words» .entry)) (now («work_numbers» .entry)) r (record { hWords = now («h_words» .exit); hCoeffs = now («h_coeffs» .exit); jumps = now (jumps .exit); rates = now (rates .exit); tWords = now («t_words» .exit); tNumbers = now («t_numbers» .exit) }) (now («work_words» .exit)) (now («work_numbers» .exit)) ⌝ }
+    ensures { λ r. ⌜ Leaves (build «n_qubits» (record { texts = now (texts .entry); lengths = now (lengths .entry); hNumbers = now («h_numbers» .entry); rates = now (given .entry); counts = now (counts .entry); numbers = now (numbers .entry) }) (record { hWords = now («h_words» .entry); hCoeffs = now («h_coeffs» .entry); jumps = now (jumps .entry); rates = now (rates .entry); tWords = now («t_words» .entry); tNumbers = now («t_numbers» .entry) }) (now («work_words» .entry)) (now («work_numbers» .entry))) r (record { hWords = now («h_words» .exit); hCoeffs = now («h_coeffs» .exit); jumps = now (jumps .exit); rates = now (rates .exit); tWords = now («t_words» .exit); tNumbers = now («t_numbers» .exit) }) (now («work_words» .exit)) (now («work_numbers» .exit)) ⌝ }
 {
     built_of(model::spec::build_model(
         texts,
@@ -75,6 +80,43 @@ pub extern "C" fn pebblelinen_build_model(
         counts,
         numbers,
         n_qubits,
+        h_words,
+        h_coeffs,
+        jumps,
+        rates,
+        t_words,
+        t_numbers,
+        work_words,
+        work_numbers,
+    ))
+}
+
+#[no_mangle]
+pub extern "C" fn pebblelinen_add_kossakowski(
+    model: Model,
+    texts: &[u8],
+    lengths: &[u64],
+    counts: &[u64],
+    numbers: &[f64],
+    k: &[f64],
+    h_words: &[u64],
+    h_coeffs: &[f64],
+    jumps: &mut [u64],
+    rates: &mut [f64],
+    t_words: &mut [u64],
+    t_numbers: &mut [f64],
+    work_words: &mut [u64],
+    work_numbers: &mut [f64],
+) -> BuiltModel
+    ensures { λ r. ⌜ Leaves (add model (record { texts = now (texts .entry); lengths = now (lengths .entry); counts = now (counts .entry); numbers = now (numbers .entry); k = now (k .entry) }) (record { hWords = now («h_words» .entry); hCoeffs = now («h_coeffs» .entry); jumps = now (jumps .entry); rates = now (rates .entry); tWords = now («t_words» .entry); tNumbers = now («t_numbers» .entry) }) (now («work_words» .entry)) (now («work_numbers» .entry))) r (record { hWords = now («h_words» .entry); hCoeffs = now («h_coeffs» .entry); jumps = now (jumps .exit); rates = now (rates .exit); tWords = now («t_words» .exit); tNumbers = now («t_numbers» .exit) }) (now («work_words» .exit)) (now («work_numbers» .exit)) ⌝ }
+{
+    built_of(kossakowski::kossakowski::add_kossakowski(
+        model,
+        texts,
+        lengths,
+        counts,
+        numbers,
+        k,
         h_words,
         h_coeffs,
         jumps,
@@ -138,14 +180,6 @@ fn lengths_of(hamiltonian: usize, jumps: usize, terms: usize, work: usize) -> Si
         work_numbers: 2 * work,
     }
 }
-
-// The limits of an operator's terms and of a matrix's operators.
-const MAX_TERMS: usize = 16;
-
-const MAX_OPERATORS: usize = 64;
-
-// The work places of a model's builder.
-const WORK_PLACES: usize = 272;
 
 fn model_lengths(h: usize, j: usize, c: usize) -> Sizes
     requires { ⌜ (h ≤ 4096) × (j ≤ 4096) × (c ≤ 16) ⌝ }
