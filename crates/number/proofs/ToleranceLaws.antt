@@ -3,7 +3,7 @@
 
 -- A test of a whole number against a tolerance passes only at 0, over f64 as over the whole numbers. Assumes nothing.
 use mathlib.Core.Path.{_≡_, refl, sym, ap, _∙_, subst, subst₂}
-use Prim.Native.Nat.{ℕ, zero, suc, _+_, _*_, _^_, _≤_, _<_, zero-le}
+use Prim.Native.Nat.{ℕ, zero, suc, _*_, _^_, _≤_, _<_, zero-le}
 use native.Mathlib.Nat.{le-trans, le-antisymm, le-of-eq, lt-of-le-of-lt, lt-of-lt-of-le, lt-of-mul-lt-mul-right, zero-lt-suc, zero-mul, one-mul}
 use native.Mathlib.Omega.{arith}
 use mathlib.Core.Bool.{Bool, true, false, cond}
@@ -179,14 +179,14 @@ module _ {x y : Float} {n k : ℕ} (h : Is x (pos n)) (g : Is y (pos k)) where
   unfolding largerFloat largerWhole atMost
   larger-is = subst (λ (b : Bool). Is (cond b y x) (cond (leb n k) (pos k) (pos n))) (sym (is-lt h g)) (larger-cases (ltb n k) (leb n k) refl refl)
 
--- it is one of the two
-pub larger-one : (n k : ℕ) → (m : ℕ) × (whole .larger (pos n) (pos k) ≡ pos m) × (n ≤ m) × (k ≤ m) × (m ≤ n + k)
+-- it is one of the two, and at least the first
+pub larger-one : (n k : ℕ) → (m : ℕ) × (whole .larger (pos n) (pos k) ≡ pos m) × (n ≤ m) × ((b : ℕ) → n ≤ b → k ≤ b → m ≤ b)
 unfolding largerWhole atMost
 larger-one n k = go (leb n k) refl
   where
-    go : (c : Bool) → leb n k ≡ c → (m : ℕ) × (cond c (pos k) (pos n) ≡ pos m) × (n ≤ m) × (k ≤ m) × (m ≤ n + k)
-    go true e = (k, refl, leb-true n k e, omega arith, omega arith)
-    go false e = (n, refl, omega arith, omega (arith, leb-false n k e), omega arith)
+    go : (c : Bool) → leb n k ≡ c → (m : ℕ) × (cond c (pos k) (pos n) ≡ pos m) × (n ≤ m) × ((b : ℕ) → n ≤ b → k ≤ b → m ≤ b)
+    go true e = (k, refl, leb-true n k e, λ b p q. q)
+    go false e = (n, refl, omega arith, λ b p q. p)
 
 -- ---- the square of 1e-10
 
@@ -205,12 +205,12 @@ hermiticity-tolerance = record {
 }
 
 -- a whole number passes the test beside the larger of 1 and x where it is 0
-pub near-is : {y x : Float} {n k : ℕ} → T (fits binary64 y) → Is y (pos n) → Is x (pos k) → k < 2 ^ 53 → floats .near y x ≡ whole .near (pos n) (pos k)
+pub near-is : {y x : Float} {n k : ℕ} → T (fits binary64 y) → Is y (pos n) → Is x (pos k) → k ≤ 2 ^ 53 → floats .near y x ≡ whole .near (pos n) (pos k)
 unfolding atMost _⊠_
 near-is {n} {k} F p h m =
     let one = larger-one 1 k in
-    under-product hermiticity-tolerance F p (subst (Is _) (one .1) (larger-is is-unit h)) (omega (arith, one .2)) (omega (arith, one .4, m))
+    under-product hermiticity-tolerance F p (subst (Is _) (one .1) (larger-is is-unit h)) (omega (arith, one .2)) (one .3 (2 ^ 53) (lit≤ tt) m)
     ∙ same-test (eqb n 0) (leb (n * tenTo20) (one .0))
     (λ t. let e = eqb→eq n 0 t in le→leb (n * tenTo20) (one .0) (omega arith))
-    (λ t. let g = leb→le (n * tenTo20) (one .0) t in let e : n ≡ 0 = omega (arith, one .4, m, g) in eq→eqb e)
+    (λ t. let g = leb→le (n * tenTo20) (one .0) t in let e : n ≡ 0 = omega (arith, one .3 (2 ^ 53) (lit≤ tt) m, g) in eq→eqb e)
     ∙ ap (atMost (pos (n * tenTo20))) (sym (one .1))
