@@ -73,7 +73,7 @@ squared (pos a) (negsuc b) = (_, refl)
 squared (negsuc a) (pos b) = (_, refl)
 squared (negsuc a) (negsuc b) = (_, refl)
 
-only-zero : (k : Gauss) (largest : ℤ) (size : ℕ) → largest ≡ pos size → size < tenTo28 → skips largest k ≡ true → k ≡ zeroG
+pub only-zero : (k : Gauss) (largest : ℤ) (size : ℕ) → largest ≡ pos size → size < tenTo28 → skips largest k ≡ true → k ≡ zeroG
 unfolding _⊞_ _⊠_ atMost
 only-zero k largest size is below h =
     let s = squared (k .re) (k .im) in
