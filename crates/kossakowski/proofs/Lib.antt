@@ -3,3 +3,4 @@
 
 -- Laws of this crate.
 pub mod AddLaws
+pub mod WholeMatrix

@@ -6,3 +6,4 @@ pub mod Matrix
 pub mod Pairs
 pub mod Added
 pub mod Work
+pub mod Whole
