@@ -176,16 +176,16 @@ module _ (ops : ℕ) (K : List (Cx floats)) (G : List (Cx whole)) (w : WholeEntr
 
 -- ---- a K that was accepted meets what the exact theorem asks
 module _ (k : MatrixOver whole pauli) (K : List (Cx floats)) (w : WholeEntries K (k .entries)) where
-  accepted-passes : hermitian (length (k .ops)) K Accepted ≡ Accepted → (p : ℕ) → p < length (k .ops) * length (k .ops) → apartAt floats (length (k .ops)) K p ≡ false
+  abbrev places : ℕ
+  places = length (k .ops) * length (k .ops)
+
+  abbrev first : ℕ
+  first = firstTo places (apartAt floats (length (k .ops)) K)
+
+  accepted-passes : hermitian (length (k .ops)) K Accepted ≡ Accepted → (p : ℕ) → p < places → apartAt floats (length (k .ops)) K p ≡ false
   unfolding hermitian
   accepted-passes e p h = go (ltb first places) refl e
     where
-      abbrev places : ℕ
-      places = length (k .ops) * length (k .ops)
-
-      abbrev first : ℕ
-      first = firstTo places (apartAt floats (length (k .ops)) K)
-
       go : (b : Bool) → ltb first places ≡ b → cond b (Refused (KMatrixNotHermitian (first / length (k .ops)) (first % length (k .ops)))) Accepted ≡ Accepted → apartAt floats (length (k .ops)) K p ≡ false
       go true l e = let z : _≡_ {A = ℕ} 0 1 = cc in absurd (omega arith)
       go false l e = first-before places (apartAt floats (length (k .ops)) K) p (omega (arith, ltb-false first places l))
