@@ -45,9 +45,6 @@ module _ (ops p : ℕ) (l : p < ops * ops) where
   pub column-below : p % ops < ops
   column-below = mod-lt p some-ops
 
-  pub place-is : p / ops * ops + p % ops ≡ p
-  place-is = div-add-mod' p ops
-
 -- ---- what is read
 module _ {A : Type 0} where
   -- below the length the default does not matter
@@ -65,7 +62,7 @@ module _ (ops : ℕ) (k : List Float) (all : length k ≡ 2 * (ops * ops)) where
 
   pub entry-place : (p : ℕ) → p < ops * ops → getD (complexes k) p noNumber ≡ entryIn floats ops (complexes k) (p / ops) (p % ops)
   entry-place p l =
-      ap (λ (q : ℕ). getD (complexes k) q noNumber) (sym (place-is ops p l)) ∙ entry-at (p / ops) (p % ops) (row-below ops p l) (column-below ops p l)
+      ap (λ (q : ℕ). getD (complexes k) q noNumber) (sym (div-add-mod' p ops)) ∙ entry-at (p / ops) (p % ops) (row-below ops p l) (column-below ops p l)
 
 -- ---- the largest square, of the entries before a place and of those that are left
 module _ (k : List Float) where
@@ -84,7 +81,20 @@ module _ (k : List Float) where
       let short : length (complexes k) ≤ p = omega (arith, h, complexes-low k) in
       ap (λ (l : List (Cx floats)). largestFrom floats big l) (drop-of-length-le (complexes k) short)
 
--- ---- an entry and its mirror entry
+-- ---- an entry and its mirror entry; a place whose row is above its column is neither asked nor a pair
+module _ (ops : ℕ) (K : List (Cx floats)) (p : ℕ) where
+  pub apart-turned : p % ops < p / ops → apartAt floats ops K p ≡ false
+  unfolding apartAt
+  apart-turned h = rw (lt-leb (p / ops) (p % ops) h)
+
+  pub apart-here : p / ops ≤ p % ops → {r b : Bool} → r ≡ apart floats ops K (p / ops) (p % ops) → r ≡ b → apartAt floats ops K p ≡ b
+  unfolding apartAt
+  apart-here h e t = rw (le-leb (p / ops) (p % ops) h) (sym e ∙ t)
+
+  pub pair-turned : p % ops < p / ops → isPair floats ops K p ≡ false
+  unfolding isPair
+  pair-turned h = rw (lt-leb (p / ops) (p % ops) h)
+
 module _ (ops : ℕ) (k : List Float) (largest : Float) (s : Square ops k largest) where
   pub apart-told : (n m : ℕ) → n < ops → m < ops → {own mirror turned less : Cx floats} {x : Float} {r : Bool}
       → own ≡ getD (complexes k) (n * ops + m) noNumber → mirror ≡ getD (complexes k) (m * ops + n) noNumber → turned ≡ conjC floats mirror
@@ -92,21 +102,6 @@ module _ (ops : ℕ) (k : List Float) (largest : Float) (s : Square ops k larges
   unfolding apart
   apart-told n m h l eo em et es ex er =
       rw (er, ex, es, et, em, eo, s .largest-is, entry-at ops k (s .entries-all) n m h l, entry-at ops k (s .entries-all) m n l h)
-
-  -- a place whose row is above its column is not asked
-  pub apart-turned : (p : ℕ) → p % ops < p / ops → apartAt floats ops (complexes k) p ≡ false
-  unfolding apartAt
-  apart-turned p h = rw (lt-leb (p / ops) (p % ops) h)
-
-  pub apart-here : (p : ℕ) → p / ops ≤ p % ops → {r b : Bool} → r ≡ apart floats ops (complexes k) (p / ops) (p % ops) → r ≡ b
-      → apartAt floats ops (complexes k) p ≡ b
-  unfolding apartAt
-  apart-here p h e t = rw (le-leb (p / ops) (p % ops) h) (sym e ∙ t)
-
-  -- ---- a pair
-  pub pair-turned : (p : ℕ) → p % ops < p / ops → false ≡ isPair floats ops (complexes k) p
-  unfolding isPair
-  pair-turned p h = rw (lt-leb (p / ops) (p % ops) h)
 
   pub pair-told : (p : ℕ) → p < ops * ops → p / ops ≤ p % ops → {z : Cx floats} {x : Float} {r : Bool}
       → z ≡ getD (complexes k) p noNumber → x ≡ square floats z → r ≡ floats .slighter x largest → not r ≡ isPair floats ops (complexes k) p
@@ -199,5 +194,4 @@ module _ (ops : ℕ) (f : ℕ → Bool) (lower : (p : ℕ) → p % ops < p / ops
 
 -- at most one for each place whose row is not above its column
 pub pairs-few : (ops : ℕ) (K : List (Cx floats)) → length (pairPlaces floats ops K) ≤ ops * suc ops / 2
-unfolding isPair
-pairs-few ops K = places-half ops (isPair floats ops K) (λ p h. rw (lt-leb (p / ops) (p % ops) h))
+pairs-few ops K = places-half ops (isPair floats ops K) (pair-turned ops K)

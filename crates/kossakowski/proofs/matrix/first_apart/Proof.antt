@@ -46,7 +46,7 @@ returns c =
     let a = s .args in
     let l = b .before .loop in
     stops-here (a .ops * a .ops) (apartAt floats (a .ops) (complexes (a .k .now))) (l .p) (b .loop-test .taken) (l .inv .1) refl
-    (apart-here (a .ops) (a .k .now) (a .largest) (s .pre) (l .p) (c .before .before .if1 .taken) (c .before .entries-apart .ensures) (c .if2 .taken))
+    (apart-here (a .ops) (complexes (a .k .now)) (l .p) (c .before .before .if1 .taken) (c .before .entries-apart .ensures) (c .if2 .taken))
 
 add-p : tie.Need-add-p Inv-loop μ-loop
 add-p c = let s = c .before .before .before .before in omega (arith, places-few (s .args .ops) (s .pre .few))
@@ -61,8 +61,8 @@ loop-again c =
       omega arith,
       none-more f (l .p) (l .inv .1)
           (⊎-elim
-          (λ w. apart-here (a .ops) (a .k .now) (a .largest) (s .pre) (l .p) (w .0 .taken) (w .1 .ensures) (w .2 .left))
-          (λ w. apart-turned (a .ops) (a .k .now) (a .largest) (s .pre) (l .p) (w .left))
+          (λ w. apart-here (a .ops) (complexes (a .k .now)) (l .p) (w .0 .taken) (w .1 .ensures) (w .2 .left))
+          (λ w. apart-turned (a .ops) (complexes (a .k .now)) (l .p) (w .left))
           (c .if1 .came)),
     )
 

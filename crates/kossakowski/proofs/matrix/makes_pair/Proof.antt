@@ -2,8 +2,10 @@
 -- SPDX-License-Identifier: Apache-2.0
 
 -- `matrix::makes_pair` meets its contract: a place below ops × ops has a row and a column. Assumes nothing.
+use mathlib.Core.Path.{sym}
 use borrow.Author.Needs.{needs}
 use native.Mathlib.Omega.{arith}
+use Rattle.table.specs.Numbers.{complexes}
 use Rattle.kossakowski.proofs.MatrixLaws.{some-ops, pair-turned, pair-told}
 use Rattle.kossakowski.proofs.matrix.makes_pair.Statement.{statement}
 use Rattle.kossakowski.proofs.matrix.makes_pair.Tie as tie
@@ -17,7 +19,7 @@ div-if1 c = let s = c .before in omega (arith, some-ops (s .args .ops) (s .args 
 returns : tie.Need-returns
 returns c =
     let s = c .before .before in
-    pair-turned (s .args .ops) (s .args .k .now) (s .args .largest) (s .pre .0) (s .args .p) (c .if1 .taken)
+    sym (pair-turned (s .args .ops) (complexes (s .args .k .now)) (s .args .p) (c .if1 .taken))
 
 complex-at-requires : tie.Need-complex-at-requires
 complex-at-requires c κs = let s = c .before .before in omega (arith, s .pre .0 .entries-all, s .pre .1)
