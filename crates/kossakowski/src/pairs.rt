@@ -209,8 +209,10 @@ pub fn count_terms(
             let left = operator_range(256, counts, p / ops);
             let right = operator_range(256, counts, p % ops);
             kept += count_pair(words, sums, left, right);
+            p += 1;
+        } else {
+            p += 1;
         }
-        p += 1;
     }
     kept
 }
@@ -259,7 +261,9 @@ pub fn store_pairs(
                 t_numbers,
             );
             j += 1;
+            p += 1;
+        } else {
+            p += 1;
         }
-        p += 1;
     }
 }
