@@ -5,9 +5,8 @@
 // the sums: a factor for each term of the left operator with each of the right one, then the thinned
 // product after K. They are counted, then stored.
 ghost use mathlib.Core.Path.{_≡_};
-ghost use mathlib.Core.List.{List, map};
-ghost use Prim.Native.Nat.{ℕ, _+_, _*_, _<_, _≤_};
-ghost use lib.Ieee.{Float};
+ghost use mathlib.Core.List.{map};
+ghost use Prim.Native.Nat.{ℕ, _+_, _<_, _≤_};
 ghost use lib.ListN.{length};
 ghost use Rattle.number.specs.Floats.{cx};
 ghost use Rattle.table.specs.Numbers.{complexes};
