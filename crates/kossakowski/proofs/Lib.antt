@@ -7,5 +7,7 @@ pub mod OperatorTests
 pub mod MatrixLengths
 pub mod MatrixTests
 pub mod MatrixAccepted
+pub mod PairLaws
+pub mod PairsLaws
 pub mod AddLaws
 pub mod WholeMatrix
