@@ -10,4 +10,5 @@ pub mod MatrixAccepted
 pub mod PairLaws
 pub mod PairsLaws
 pub mod AddLaws
+pub mod CompiledLaws
 pub mod WholeMatrix
