@@ -48,7 +48,7 @@ kept : (b : Bool) (r : Refusal) (after : Answer) → cond b after (Refused r) �
 kept true r after e = (refl, e)
 kept false r after e = absurd (refused-not r e)
 
-passed : (b : Bool) (r : Refusal) (after : Answer) → cond b (Refused r) after ≡ Accepted → (b ≡ false) × (after ≡ Accepted)
+pub passed : (b : Bool) (r : Refusal) (after : Answer) → cond b (Refused r) after ≡ Accepted → (b ≡ false) × (after ≡ Accepted)
 passed true r after e = absurd (refused-not r e)
 passed false r after e = (refl, e)
 
@@ -61,12 +61,12 @@ equal-passed needed have after e =
     let k = kept (eqb have needed) (LengthMismatch needed have) after e in
     (eqb-true have needed (k .0), k .1)
 
-lent-passed : (needed places : ℕ) (after : Answer) → lent needed places after ≡ Accepted → (needed ≤ places) × (after ≡ Accepted)
+pub lent-passed : (needed places : ℕ) (after : Answer) → lent needed places after ≡ Accepted → (needed ≤ places) × (after ≡ Accepted)
 lent-passed needed places after e =
     let k = passed (ltb places needed) (LengthMismatch needed places) after e in
     (ltb-false places needed (k .0), k .1)
 
-counted-passed : (limit count : ℕ) (after : Answer) → counted limit count after ≡ Accepted → (count ≤ limit) × (after ≡ Accepted)
+pub counted-passed : (limit count : ℕ) (after : Answer) → counted limit count after ≡ Accepted → (count ≤ limit) × (after ≡ Accepted)
 counted-passed limit count after e =
     let k = passed (ltb limit count) (CountAboveLimit count) after e in
     (ltb-false limit count (k .0), k .1)
