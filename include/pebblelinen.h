@@ -1,14 +1,16 @@
 /* SPDX-FileCopyrightText: 2026 The PPVM Authors
  * SPDX-License-Identifier: Apache-2.0
  *
- * The C interface of Pebblelinen: Pauli words, their texts, codes, products and order.
+ * The C interface of Pebblelinen: Pauli words, their texts, codes, products and order; models, built
+ * in lent tables and tested there.
  *
  * Every function takes any input. Where an input is not accepted, the function says so by a
- * pebblelinen_status and changes nothing that it was lent. Build the library with
- * `rt staticlib pebblelinen` and link target/staticlib/libpebblelinen.a.
+ * pebblelinen_status and changes nothing that it was lent, but for work tables, where the function
+ * says so. Build the library with `rt staticlib pebblelinen` and link
+ * target/staticlib/libpebblelinen.a.
  *
  * A slice is passed as a pointer, which is not NULL even where the length is 0, and a length.
- * Qubits are counted from 0.
+ * Slices that a function writes to overlap no other slice of the call. Qubits are counted from 0.
  */
 #ifndef PEBBLELINEN_H
 #define PEBBLELINEN_H
@@ -113,6 +115,197 @@ bool pebblelinen_shares_qubit(pebblelinen_word p, pebblelinen_word q);
 
 /* Whether the word has no letter other than I at or above qubit n_qubits. Any n_qubits is taken. */
 bool pebblelinen_fits_register(pebblelinen_word word, size_t n_qubits);
+
+/* ---- Models ----
+ *
+ * A model is Hamiltonian terms, jumps and pairs on a register of qubits. It stands in six slices
+ * that the caller lends, three tables of two slices each:
+ *
+ *   Hamiltonian terms   h_words    4 lanes a term: x[0], x[1], z[0], z[1]
+ *                       h_coeffs   1 number a term
+ *   jumps and pairs     jumps      8 numbers an entry, see below
+ *                       rates      1 number an entry: a general jump's rate g, a Pauli's g c c; that
+ *                                  of a pair is not used
+ *   terms               t_words    4 lanes a term
+ *                       t_numbers  2 numbers a term: real part, imaginary part
+ *
+ * A place of a table is that of a term or an entry. Two slices of one table may have different
+ * lengths; the table has as many places as both have, and what is left over is not touched. Places
+ * past those that a model counts stay as they were.
+ *
+ * The eight numbers of an entry, whose ranges are places of the terms table, from a start to before
+ * an end:
+ *
+ *   0      kind: 0 a Pauli, 1 a general jump, 2 a pair
+ *   1, 2   start and end of its operator, of a pair the left one; a Pauli has its one term there
+ *   3, 4   start and end of a pair's right operator
+ *   5      place of a pair's first factor
+ *   6, 7   start and end of the product: L^dagger L of a general jump, thinned, in word order
+ *
+ * Numbers that a kind does not have are 0. Terms stand in the order of their jumps: an operator's
+ * terms as given, then its product.
+ */
+
+/* The limits of a model. */
+#define PEBBLELINEN_MAX_HAMILTONIAN 4096 /* Hamiltonian terms */
+#define PEBBLELINEN_MAX_JUMPS 4096       /* jumps and pairs together */
+#define PEBBLELINEN_MAX_TERMS 16         /* terms of an operator */
+#define PEBBLELINEN_MAX_OPERATORS 64     /* operators of a matrix */
+
+/* The qubits of a model's register and the places that it takes in each of its tables. */
+typedef struct {
+    size_t qubits;
+    size_t hamiltonian;
+    size_t jumps;
+    size_t terms;
+} pebblelinen_model;
+
+/* A model that was built. Where the status is a refusal, all counts of the model are 0. */
+typedef struct {
+    pebblelinen_status status;
+    pebblelinen_model model;
+} pebblelinen_built;
+
+/* The lengths of slices, in lanes and numbers. */
+typedef struct {
+    size_t h_words;
+    size_t h_coeffs;
+    size_t jumps;
+    size_t rates;
+    size_t t_words;
+    size_t t_numbers;
+    size_t work_words;
+    size_t work_numbers;
+} pebblelinen_sizes;
+
+/* The lengths that are enough to build every model of so many Hamiltonian items and so many jumps
+ * of at most so many terms each: a jump of c terms takes at most c + c c places of the terms table,
+ * and the work tables have 272 places, 4 lanes and 2 numbers each. A count above its limit (4,096,
+ * 4,096, 16) is taken for the limit, since more is refused whatever is lent. */
+pebblelinen_sizes pebblelinen_model_sizes(size_t hamiltonian, size_t jumps, size_t terms);
+
+/* What a matrix over k operators of at most c terms each takes beyond the tables of the model that
+ * it is added to: k (k + 1) / 2 entries of the table of jumps and pairs, and
+ * k c + k (k + 1) / 2 * 2 c c places of the terms table. Add these to the lengths of the model.
+ * work_words and work_numbers are the lengths of the call's own work tables, of 256 + k c places.
+ * A count above its limit (64, 16) is taken for the limit. */
+pebblelinen_sizes pebblelinen_matrix_sizes(size_t operators, size_t terms);
+
+/* Builds a model from Hamiltonian items and jumps, in lent tables.
+ *
+ * A Hamiltonian item is a text and a number. A jump is a rate and an operator: one term or more, of
+ * a text and a complex number each. They are given in six slices:
+ *
+ *   texts      the bytes of all texts, one after another: first those of the Hamiltonian items, then
+ *              those of the terms, jump by jump
+ *   lengths    the length of each text, in the same order
+ *   h_numbers  the number of each Hamiltonian item; its length is how many items there are
+ *   given      the rate of each jump; its length is how many jumps there are
+ *   counts     how many terms each jump has
+ *   numbers    the numbers of the terms, jump by jump: real part, imaginary part
+ *
+ * A jump of one term whose imaginary part is 0 is stored as a Pauli, with its rate times the real
+ * part times the real part for its rate. Every other jump is stored with its terms and its product
+ * L^dagger L, from which words are dropped whose number has a squared magnitude of at most
+ * 1e-14 * 1e-14.
+ *
+ * The six tables need not be empty. Where the model was built, they hold it, and the work tables are
+ * all zero. Refusals, in this order:
+ *
+ *    1  (n_qubits, 128)
+ *    8  (count): more than 4,096 Hamiltonian items, then more than 4,096 jumps
+ *    9  (needed, given) for what is given, in this order: a length for each Hamiltonian item and
+ *       each term; a count for each jump; two numbers for each term; counts that make up the terms;
+ *       lengths that make up the bytes. Of counts and lengths the first that is longer than what is
+ *       left gives (it, what is left); what is left over gives (0, what is left over)
+ *    9  (places needed, places lent) for h_words, h_coeffs, jumps, rates, then 272 for work_words
+ *       and work_numbers, whatever is given
+ *       each Hamiltonian item in turn: its text (3 at the first byte from 128 up; 2; 3 at the first
+ *       byte that is no letter), then 7 (item) for its number
+ *       each jump in turn: 5 (jump) for a rate below 0, 7 (jump) for the rate, 6 (jump) without
+ *       terms, 8 (count) with more than 16, then each term in turn: its text as above, then 7 (jump)
+ *       for its numbers
+ *   13  (4, places lent): the terms table has fewer places than the model takes
+ *
+ * Numbers are in range where they are 0 or from 2^-200 to 2^200 in magnitude; the two numbers of a
+ * complex one are tested each by itself. A refusal changes nothing that was lent, but for 13, after
+ * which the work tables are all zero. */
+pebblelinen_built pebblelinen_build_model(
+    const uint8_t *texts, size_t texts_len, const uint64_t *lengths, size_t lengths_len,
+    const double *h_numbers, size_t h_numbers_len, const double *given, size_t given_len,
+    const uint64_t *counts, size_t counts_len, const double *numbers, size_t numbers_len,
+    size_t n_qubits, uint64_t *h_words, size_t h_words_len, double *h_coeffs, size_t h_coeffs_len,
+    uint64_t *jumps, size_t jumps_len, double *rates, size_t rates_len, uint64_t *t_words,
+    size_t t_words_len, double *t_numbers, size_t t_numbers_len, uint64_t *work_words,
+    size_t work_words_len, double *work_numbers, size_t work_numbers_len);
+
+/* Adds a matrix K over operators to a model that stands in lent tables: the dissipator
+ * sum over n and m of K[n][m] (A_n^dagger p A_m - 1/2 (A_n^dagger A_m p + p A_n^dagger A_m)).
+ *
+ * The operators A_0, A_1, .. are given as the operators of jumps are, and K row by row:
+ *
+ *   texts      the bytes of the texts of all terms, one after another, operator by operator
+ *   lengths    the length of each text, in the same order
+ *   counts     how many terms each operator has; its length k is how many operators there are
+ *   numbers    the numbers of the terms, operator by operator: real part, imaginary part
+ *   k          k * k entries, row by row: real part, imaginary part
+ *
+ * K is to be Hermitian, and only its entries with n not above m are used. Of these, one whose squared
+ * magnitude is at most (1e-14 * 1e-14) times the largest in K is skipped; every other makes a pair, an
+ * entry of the table of jumps and pairs of kind 2 with rate 0. The terms table takes, after what it
+ * holds, the terms of all operators, then for each pair its factors (conj(a) b K[n][m] for each term a
+ * of A_n with each term b of A_m, beside the word of b), then the words of A_n^dagger A_m, thinned as
+ * for a jump, each with K[n][m] times its number.
+ *
+ * The model that is returned counts what was there and what was added; entries and terms that were
+ * there stay as they were, and the Hamiltonian terms are only read. Where the matrix was added, the
+ * work tables are all zero. Refusals, in this order:
+ *
+ *       those of pebblelinen_test_model for the model
+ *    8  (count): more than 64 operators
+ *    9  (k * k, entries of K), then (2 k k, numbers of K), then for the operators as in
+ *       pebblelinen_build_model
+ *    9  (places needed, places lent) for jumps and rates, which need room for every pair that there
+ *       can be: the model's entries and k (k + 1) / 2 more, at most 4,096; then 256 and one for each
+ *       term for work_words and work_numbers
+ *    7  (place in K, row by row) for the first entry out of range
+ *   10  (n, m) for the first entry, in row order with n not above m, that is not the conjugate of
+ *       K[m][n]: the difference has a squared magnitude above (1e-10 * 1e-10) times the larger of 1
+ *       and the largest squared magnitude in K
+ *       each operator in turn, as that of a jump from 6 on
+ *    8  (count): more than 4,096 jumps and pairs together
+ *   13  (4, places lent): the terms table has fewer places than the model takes
+ *
+ * A refusal changes nothing that was lent, but for 13, after which the work tables are all zero. */
+pebblelinen_built pebblelinen_add_kossakowski(
+    pebblelinen_model model, const uint8_t *texts, size_t texts_len, const uint64_t *lengths,
+    size_t lengths_len, const uint64_t *counts, size_t counts_len, const double *numbers,
+    size_t numbers_len, const double *k, size_t k_len, const uint64_t *h_words,
+    size_t h_words_len, const double *h_coeffs, size_t h_coeffs_len, uint64_t *jumps,
+    size_t jumps_len, double *rates, size_t rates_len, uint64_t *t_words, size_t t_words_len,
+    double *t_numbers, size_t t_numbers_len, uint64_t *work_words, size_t work_words_len,
+    double *work_numbers, size_t work_numbers_len);
+
+/* Tests a model in lent tables, as every call that takes one does first. A model that was built
+ * passes. Refusals, in this order:
+ *
+ *    1  (qubits, 128)
+ *    8  (count): more than 4,096 Hamiltonian terms, then more than 4,096 jumps and pairs
+ *    9  (places that the model counts, places lent) for h_words, h_coeffs, jumps, rates, t_words,
+ *       t_numbers
+ *    7  (place) for the first Hamiltonian term whose word has a letter at or above the register or
+ *       whose number is out of range
+ *    7  (place) for the first entry of jumps and pairs of a kind above 2, with a range, a Pauli's
+ *       term or a pair's factors outside the terms that the model counts, with a general jump's rate
+ *       out of range, or with a Pauli's rate above 2^620 in magnitude
+ *    7  (place) for the first term whose word has a letter at or above the register, with a number
+ *       above 2^620 in magnitude, or, where it is a term of an operator, with one out of range */
+pebblelinen_status pebblelinen_test_model(pebblelinen_model model, const uint64_t *h_words,
+                                          size_t h_words_len, const double *h_coeffs,
+                                          size_t h_coeffs_len, const uint64_t *jumps,
+                                          size_t jumps_len, const double *rates, size_t rates_len,
+                                          const uint64_t *t_words, size_t t_words_len,
+                                          const double *t_numbers, size_t t_numbers_len);
 
 #ifdef __cplusplus
 }

@@ -9,12 +9,12 @@ use Prim.Native.Nat.{ℕ, zero, suc, _*_, _%_, _<_}
 use native.Mathlib.Omega.{arith}
 use lib.Dec.{T, leb, leb→le}
 use lib.IntN.{ℤ, pos, negsuc, _+ℤ_, _*ℤ_}
-use Rattle.number.specs.Numbers.{square, unitC, realC}
+use Rattle.number.specs.Numbers.{square, unitC, realC, largestOver}
 use Rattle.number.specs.Whole.{_⊞_, neg, _⊠_, whole, isNought, atMost, tenTo28}
 use Rattle.gksl.specs.Gauss.{Gauss, zeroG, mulG, conjG}
 use Rattle.gksl.specs.Operator.{Words, Op, at, product, adjoint, coeff}
 use Rattle.gksl.specs.Rules.{overlapsOver, formedOver}
-use Rattle.gksl.specs.Model.{RealTerm, JumpOver, MatrixOver, ModelOver, Row, rowsOver, AllModerate}
+use Rattle.gksl.specs.Model.{RealTerm, JumpOver, MatrixOver, ModelOver, Row, rowsOver, entryOver, AllModerate}
 use Rattle.gksl.specs.Generator.{commutator2, dissipator2, exactJumps, exactRow, exactMatrix, exactMatrices, generator2, asTerm}
 use Rattle.gksl.proofs.GaussLaws.{same, parts, times-assoc}
 use Rattle.gksl.proofs.WholeRules.{oddly, hamiltonian, pauli, overlaps, formed, ruleTerms, ruleShape, ruleJumps, ruleDiagonal, rulePair, ruleRow, ruleMatrix, ruleMatrices, rules, skips}
@@ -73,7 +73,7 @@ squared (pos a) (negsuc b) = (_, refl)
 squared (negsuc a) (pos b) = (_, refl)
 squared (negsuc a) (negsuc b) = (_, refl)
 
-only-zero : (k : Gauss) (largest : ℤ) (size : ℕ) → largest ≡ pos size → size < tenTo28 → skips largest k ≡ true → k ≡ zeroG
+pub only-zero : (k : Gauss) (largest : ℤ) (size : ℕ) → largest ≡ pos size → size < tenTo28 → skips largest k ≡ true → k ≡ zeroG
 unfolding _⊞_ _⊠_ atMost
 only-zero k largest size is below h =
     let s = squared (k .re) (k .im) in
@@ -233,7 +233,7 @@ module _ (S : Words) (L : Laws S) where
     matrices-exact [] p ok = twice-none ∙ sym (total-none S F)
     matrices-exact (k ∷ Ks) p ok =
         twice-append _ _
-        ∙ ap₂ _⊞_ (matrix-exact (k .entry) (ok .0 .hermitian) (skips (k .largest)) (λ i j. only-zero (k .entry i j) (k .largest) (ok .0 .size) (ok .0 .is) (ok .0 .below)) p (rowsOver whole S 0 (k .ops))) (matrices-exact Ks p (ok .1))
+        ∙ ap₂ _⊞_ (matrix-exact (entryOver whole S k) (ok .0 .hermitian) (skips (largestOver whole (k .entries))) (λ i j. only-zero (entryOver whole S k i j) (largestOver whole (k .entries)) (ok .0 .size) (ok .0 .is) (ok .0 .below)) p (rowsOver whole S 0 (k .ops))) (matrices-exact Ks p (ok .1))
         ∙ sym (total-append S F _ _)
 
   -- ---- real numbers
@@ -271,7 +271,7 @@ module _ (S : Words) (L : Laws S) where
   real-matrices : (Ks : List (MatrixOver whole S)) (p : S .Word) → AllModerate S Ks → Real S (exactMatrices S Ks p)
   unfolding exactMatrices
   real-matrices [] p ok F add = total-none S F ∙ sym (total-none S _)
-  real-matrices (k ∷ Ks) p ok F add = real-append S _ _ (real-matrix (k .entry) (ok .0 .hermitian) (rowsOver whole S 0 (k .ops)) p) (real-matrices Ks p (ok .1)) F add
+  real-matrices (k ∷ Ks) p ok F add = real-append S _ _ (real-matrix (entryOver whole S k) (ok .0 .hermitian) (rowsOver whole S 0 (k .ops)) p) (real-matrices Ks p (ok .1)) F add
 
   module _ (m : ModelOver whole S) (moderate : AllModerate S (m .matrices)) (p : S .Word) (home : Backs S p (m .jumps)) where
     -- the rules, doubled, are the exact generator, doubled

@@ -8,11 +8,11 @@ use mathlib.Core.List.{List, [], _∷_, _++_, map}
 use Prim.Native.Nat.{ℕ, zero, suc, _%_}
 use lib.Dec.{T}
 use lib.IntN.{ℤ, pos}
-use Rattle.number.specs.Numbers.{realC}
+use Rattle.number.specs.Numbers.{realC, largestOver}
 use Rattle.number.specs.Whole.{_⊞_, neg, _⊠_, whole, isNought}
 use Rattle.gksl.specs.Gauss.{Gauss, zeroG, addG, negG, mulG}
 use Rattle.gksl.specs.Operator.{Words, Term, Op, at, coeff}
-use Rattle.gksl.specs.Model.{RealTerm, JumpOver, Row, MatrixOver, ModelOver, rowsOver, AllModerate}
+use Rattle.gksl.specs.Model.{RealTerm, JumpOver, Row, MatrixOver, ModelOver, rowsOver, entryOver, AllModerate}
 use Rattle.gksl.specs.Table.{putAll}
 use Rattle.gksl.specs.Rules.{pairsOver, gatherOver, through, onto, signed, factored, bare, termsOver, clashOver, generalOver, shapeOver, jumpsOver, diagonalOver, bothOver, oneOver, pairOver, rowOver, matrixOver, matricesOver, rulesOver, actionOver}
 use Rattle.gksl.specs.Generator.{generator2, asTerm}
@@ -228,7 +228,7 @@ module _ (S : Words) where
     matrices-are-rules [] p = refl
     matrices-are-rules (k ∷ Ks) p =
         total-append S F _ _
-        ∙ ap₂ _⊞_ (matrix-is-rule (k .largest) (k .entry) (rowsOver whole S 0 (k .ops)) p) (matrices-are-rules Ks p)
+        ∙ ap₂ _⊞_ (matrix-is-rule (largestOver whole (k .entries)) (entryOver whole S k) (rowsOver whole S 0 (k .ops)) p) (matrices-are-rules Ks p)
         ∙ sym (total-append S F _ _)
 
     -- the rules as they are rounded, over whole numbers

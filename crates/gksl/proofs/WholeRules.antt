@@ -7,11 +7,11 @@ use Prim.Native.Nat.{ℕ, zero, suc, _%_}
 use mathlib.Core.Bool.{Bool, cond}
 use mathlib.Core.List.{List, [], _∷_, _++_, map}
 use lib.IntN.{ℤ}
-use Rattle.number.specs.Numbers.{realC, square}
+use Rattle.number.specs.Numbers.{realC, square, largestOver}
 use Rattle.number.specs.Whole.{whole, isNought}
 use Rattle.gksl.specs.Gauss.{Gauss, addG, negG, mulG, conjG, turn}
 use Rattle.gksl.specs.Operator.{Words, Term, Op, at}
-use Rattle.gksl.specs.Model.{JumpOver, MatrixOver, ModelOver, Row, rowsOver}
+use Rattle.gksl.specs.Model.{JumpOver, MatrixOver, ModelOver, Row, rowsOver, entryOver}
 use Rattle.gksl.specs.Rules.{pairsOver, gatherOver, through, onto, overlapsOver, formedOver}
 use Rattle.gksl.specs.Generator.{asTerm}
 use Rattle.gksl.proofs.GaussLaws.{twiceRe, imOf}
@@ -121,7 +121,7 @@ ruleMatrix S drop K (x ∷ X) p = (ruleDiagonal S drop (K (x .row) (x .row)) (x 
 
 unfoldable pub ruleMatrices : (S : Words) → List (MatrixOver whole S) → S .Word → Op S
 ruleMatrices S [] p = []
-ruleMatrices S (k ∷ Ks) p = ruleMatrix S (skips (k .largest)) (k .entry) (rowsOver whole S 0 (k .ops)) p ++ ruleMatrices S Ks p
+ruleMatrices S (k ∷ Ks) p = ruleMatrix S (skips (largestOver whole (k .entries))) (entryOver whole S k) (rowsOver whole S 0 (k .ops)) p ++ ruleMatrices S Ks p
 
 unfoldable pub rules : (S : Words) → ModelOver whole S → S .Word → Op S
 rules S m p = ruleTerms S (map (asTerm S) (m .terms)) p ++ (ruleJumps S (m .jumps) p ++ ruleMatrices S (m .matrices) p)

@@ -9,7 +9,7 @@ use Rattle.number.specs.Numbers.{realC}
 use Rattle.number.specs.Whole.{whole}
 use Rattle.gksl.specs.Gauss.{Gauss, oneG, iG}
 use Rattle.gksl.specs.Operator.{Words, Term, Op, at, single, product, adjoint, scale, minus}
-use Rattle.gksl.specs.Model.{RealTerm, JumpOver, MatrixOver, ModelOver, Row, rowsOver}
+use Rattle.gksl.specs.Model.{RealTerm, JumpOver, MatrixOver, ModelOver, Row, rowsOver, entryOver}
 
 -- 2 i (H p - p H)
 unfoldable pub commutator2 : (S : Words) → Op S → S .Word → Op S
@@ -47,7 +47,7 @@ unfoldable pub exactMatrices : (S : Words) → List (MatrixOver whole S) → S .
 exactMatrices S [] p = []
 exactMatrices S (k ∷ Ks) p =
     let X : List (Row whole S) = rowsOver whole S 0 (k .ops) in
-    exactMatrix S (k .entry) X X p ++ exactMatrices S Ks p
+    exactMatrix S (entryOver whole S k) X X p ++ exactMatrices S Ks p
 
 -- twice the generator
 unfoldable pub generator2 : (S : Words) → ModelOver whole S → S .Word → Op S

@@ -2,11 +2,14 @@
 -- SPDX-License-Identifier: Apache-2.0
 
 -- A model, over any numbers: Hamiltonian terms, jumps, and matrices K over operators, added one after the other.
-use Prim.Native.Nat.{ℕ, suc, _<_}
+use Prim.Native.Nat.{ℕ, suc, _+_, _*_, _<_}
 use mathlib.Core.Path.{_≡_}
+use mathlib.Core.Bool.{_&&_, cond}
 use mathlib.Core.List.{List, [], _∷_}
+use lib.Dec.{ltb}
+use lib.ListN.{length, getD}
 use lib.IntN.{pos}
-use Rattle.number.specs.Numbers.{Numbers, Cx, conjC}
+use Rattle.number.specs.Numbers.{Numbers, Cx, conjC, zeroC, largestOver}
 use Rattle.number.specs.Whole.{whole, tenTo28}
 use Rattle.gksl.specs.Operator.{Words, Onto}
 
@@ -23,10 +26,15 @@ pub record JumpOver (N : Numbers) (S : Words) : Type 0 where
 -- a matrix K over operators
 pub record MatrixOver (N : Numbers) (S : Words) : Type 0 where
   pub ops : List (List (Onto N S))
-  -- the entry in a row and a column
-  pub entry : ℕ → ℕ → Cx N
-  -- the largest squared magnitude of an entry
-  pub largest : N .Num
+  -- row by row, as many of each as there are operators
+  pub entries : List (Cx N)
+
+-- the entry in a row and a column, of so many; 0 past them
+unfoldable pub entryIn : (N : Numbers) → ℕ → List (Cx N) → ℕ → ℕ → Cx N
+entryIn N k K i j = cond (ltb i k && ltb j k) (getD K (i * k + j) (zeroC N)) (zeroC N)
+
+abbrev pub entryOver : (N : Numbers) (S : Words) → MatrixOver N S → ℕ → ℕ → Cx N
+entryOver N S k = entryIn N (length (k .ops)) (k .entries)
 
 pub record ModelOver (N : Numbers) (S : Words) : Type 0 where
   pub terms : List (RealTerm N S)
@@ -46,9 +54,9 @@ rowsOver N S n (A ∷ As) = record { row = n; op = A } ∷ rowsOver N S (suc n) 
 -- ---- what the exact theorem asks of a matrix over the whole numbers: it is Hermitian, and its largest squared magnitude
 -- is below 1e28, so that no entry but 0 is skipped
 pub record Moderate (S : Words) (k : MatrixOver whole S) : Type 0 where
-  pub hermitian : (i j : ℕ) → k .entry j i ≡ conjC whole (k .entry i j)
+  pub hermitian : (i j : ℕ) → entryOver whole S k j i ≡ conjC whole (entryOver whole S k i j)
   pub size : ℕ
-  pub is : k .largest ≡ pos size
+  pub is : largestOver whole (k .entries) ≡ pos size
   pub below : size < tenTo28
 
 abbrev pub AllModerate : (S : Words) → List (MatrixOver whole S) → Type 0

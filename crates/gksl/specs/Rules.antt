@@ -5,9 +5,9 @@
 use Prim.Native.Nat.{ℕ, zero, suc, _+_, _%_}
 use mathlib.Core.Bool.{Bool, false, cond, _||_}
 use mathlib.Core.List.{List, [], _∷_, _++_, map}
-use Rattle.number.specs.Numbers.{Numbers, Cx, negC, mulC, conjC, realC, square, unitC}
+use Rattle.number.specs.Numbers.{Numbers, Cx, negC, mulC, conjC, realC, square, unitC, largestOver}
 use Rattle.gksl.specs.Operator.{Words, Onto}
-use Rattle.gksl.specs.Model.{RealTerm, JumpOver, MatrixOver, ModelOver, Row, rowsOver}
+use Rattle.gksl.specs.Model.{RealTerm, JumpOver, MatrixOver, ModelOver, Row, rowsOver, entryOver}
 use Rattle.gksl.specs.Table.{putAllOver, withoutOver}
 
 -- each term of A with each of B, A's the outer
@@ -117,7 +117,7 @@ module _ (N : Numbers) (S : Words) where
   -- one matrix after the other
   unfoldable pub matricesOver : List (MatrixOver N S) → S .Word → List (Onto N S)
   matricesOver [] p = []
-  matricesOver (k ∷ Ks) p = matrixOver (k .largest) (k .entry) (rowsOver N S 0 (k .ops)) p ++ matricesOver Ks p
+  matricesOver (k ∷ Ks) p = matrixOver (largestOver N (k .entries)) (entryOver N S k) (rowsOver N S 0 (k .ops)) p ++ matricesOver Ks p
 
   unfoldable pub rulesOver : ModelOver N S → S .Word → List (Onto N S)
   rulesOver m p = termsOver (m .terms) p ++ (jumpsOver (m .jumps) p ++ matricesOver (m .matrices) p)

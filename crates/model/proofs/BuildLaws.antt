@@ -147,16 +147,16 @@ module _ (n : ℕ) (i : Input) (t : Tables) (workWords : List ℕ) (workNumbers 
   module _ {A B : Type 0} where
     -- the first refusal is the answer
     stops : (a : Answer) (x : Read A) (y : Read B) (f : A → B → Building) (r : Refusal) → andThen a (andThen (answerOf x) (answerOf y)) ≡ Refused r
-        → tested n i t workWords workNumbers a (whenRead n i t workWords workNumbers x (λ hs. whenRead n i t workWords workNumbers y (λ js. f hs js)))
-        ≡ refusal n i t workWords workNumbers (Answers.Refused r)
+        → tested t workWords workNumbers a (whenRead t workWords workNumbers x (λ hs. whenRead t workWords workNumbers y (λ js. f hs js)))
+        ≡ refusal t workWords workNumbers (Answers.Refused r)
     stops Accepted (got hs) (got js) f r e = absurd (refused-not r (sym e))
-    stops Accepted (got hs) (refused s) f r e = ap (λ (q : Refusal). refusal n i t workWords workNumbers (Answers.Refused q)) (refused-same s r e)
-    stops Accepted (refused s) y f r e = ap (λ (q : Refusal). refusal n i t workWords workNumbers (Answers.Refused q)) (refused-same s r e)
-    stops (Refused s) x y f r e = ap (λ (q : Refusal). refusal n i t workWords workNumbers (Answers.Refused q)) (refused-same s r e)
+    stops Accepted (got hs) (refused s) f r e = ap (λ (q : Refusal). refusal t workWords workNumbers (Answers.Refused q)) (refused-same s r e)
+    stops Accepted (refused s) y f r e = ap (λ (q : Refusal). refusal t workWords workNumbers (Answers.Refused q)) (refused-same s r e)
+    stops (Refused s) x y f r e = ap (λ (q : Refusal). refusal t workWords workNumbers (Answers.Refused q)) (refused-same s r e)
 
     -- what was read is what is gone on with
     goes : (a : Answer) (x : Read A) (y : Read B) (f : A → B → Building) (hs : A) (js : B) → a ≡ Accepted → x ≡ got hs → y ≡ got js
-        → tested n i t workWords workNumbers a (whenRead n i t workWords workNumbers x (λ hs. whenRead n i t workWords workNumbers y (λ js. f hs js))) ≡ f hs js
+        → tested t workWords workNumbers a (whenRead t workWords workNumbers x (λ hs. whenRead t workWords workNumbers y (λ js. f hs js))) ≡ f hs js
     goes a x y f hs js ea ex ey = rw (ea, ex, ey)
 
     -- all were read

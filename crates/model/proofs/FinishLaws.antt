@@ -80,7 +80,7 @@ module _ (n : ℕ) (i : Input) (t : Tables) (workWords : List ℕ) (workNumbers 
 
         module _ (h : kept ≤ places) (hWords′ : List ℕ) (hCoeffs′ : List Float) (jumps′ : List ℕ) (rates′ : List Float) (tWords′ : List ℕ) (tNumbers′ : List Float)
             (lays : LaysReals (map (realTaken n) (realItems (parts (ownLengths i) (i .texts)) (i .hNumbers))) (t .hWords) (t .hCoeffs) hWords′ hCoeffs′)
-            (stores : StoresJumps taken (t .jumps) (t .rates) (t .tWords) (t .tNumbers) jumps′ rates′ tWords′ tNumbers′) where
+            (stores : StoresJumps taken 0 0 (t .jumps) (t .rates) (t .tWords) (t .tNumbers) jumps′ rates′ tWords′ tNumbers′) where
           tables-are : record { hWords = hWords′; hCoeffs = hCoeffs′; jumps = jumps′; rates = rates′; tWords = tWords′; tNumbers = tNumbers′ } ≡ stored reals jumps t
           unfolding stored
           tables-are =
@@ -100,9 +100,9 @@ module _ (n : ℕ) (i : Input) (t : Tables) (workWords : List ℕ) (workNumbers 
                 workWords = cw k;
                 workNumbers = cn k;
               })
-              ∙ sym (a .build-is ∙ ap (λ (b : Bool). cond b (finished n i t workWords workNumbers (Answers.Refused (TableFull 4 (termPlaces t))) t) (finished n i t workWords workNumbers (Answers.Model (record { qubits = n; hamiltonian = length reals; jumps = length jumps; terms = length (termsOf jumps) })) (stored reals jumps t))) (le-ltb (termPlaces t) (length (termsOf jumps)) fits))
+              ∙ sym (a .build-is ∙ ap (λ (b : Bool). cond b (finished t workWords workNumbers (Answers.Refused (TableFull 4 (termPlaces t))) t) (finished t workWords workNumbers (Answers.Model (record { qubits = n; hamiltonian = length reals; jumps = length jumps; terms = length (termsOf jumps) })) (stored reals jumps t))) (le-ltb (termPlaces t) (length (termsOf jumps)) fits))
 
-      pub jumps-room : kept ≤ places → JumpsRoom taken (t .jumps) (t .rates) (t .tWords) (t .tNumbers)
+      pub jumps-room : kept ≤ places → JumpsRoom taken 0 0 (t .jumps) (t .rates) (t .tWords) (t .tNumbers)
       jumps-room h =
           let k : length (termsOf taken) ≡ kept = sym (counts .counts (i .rates) (sym (a .lengths .counts-each))) in
           let c : length taken ≡ length (i .rates) = ap length taken-are ∙ jumps-number in

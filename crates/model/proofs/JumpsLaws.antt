@@ -20,7 +20,7 @@ use Rattle.model.specs.Items.{total}
 use Rattle.model.specs.Taken.{termTaken, jumpTaken}
 use Rattle.model.specs.Compiled.{Compiled, pauliJump, generalJump, compileJump, termCount}
 use Rattle.model.specs.Laid.{laid, layEntry}
-use Rattle.model.specs.Work.{operatorIn, WorkRoom, TextsFit, operatorTaken, JumpRoom, StoresJump, JumpsFit, jumpsCompiled, CountsJumps, JumpsRoom, StoresJumps}
+use Rattle.model.specs.Work.{operatorIn, WorkRoom, ReadRoom, TextsFit, operatorTaken, JumpRoom, StoresJump, JumpsFit, jumpsCompiled, CountsJumps, JumpsRoom, StoresJumps}
 use Rattle.model.proofs.Parts.{total-turn, total-part, part-is, jump-turn, jump-end}
 use Rattle.model.proofs.FirstRefusal.{tested-is}
 use Rattle.model.proofs.StoreLaws.{laid-append}
@@ -88,8 +88,8 @@ module _ (cs ns l : List ℕ) (xs : List Float) (fit : JumpsFit cs ns l xs) wher
     pub own-work : (lanes : List ℕ) (numbers : List Float) → WorkRoom 0 lanes numbers → WorkRoom (getD cs j 0) lanes numbers
     own-work lanes numbers w = record { lanes-long = w .lanes-long; numbers-long = w .numbers-long; few = fit .few j }
 
-    pub own-reads : (lanes : List ℕ) (numbers : List Float) → WorkRoom 0 lanes numbers → WorkRoom (length (take (t + getD cs j 0 - t) (drop t ns))) lanes numbers
-    own-reads lanes numbers w = subst⁻¹ (λ (k : ℕ). WorkRoom k lanes numbers) own-length (own-work lanes numbers w)
+    pub own-reads : (lanes : List ℕ) (numbers : List Float) → WorkRoom 0 lanes numbers → ReadRoom (length (take (t + getD cs j 0 - t) (drop t ns))) lanes numbers
+    own-reads lanes numbers w = record { lanes-long = omega (arith, own-length, fit .few j, w .lanes-long); numbers-long = omega (arith, own-length, fit .few j, w .numbers-long) }
 
     pub own-counts : (lanes lanes′ : List ℕ) (numbers numbers′ : List Float) → WorkRoom 0 lanes numbers → length lanes′ ≡ length lanes → length numbers′ ≡ length numbers
         → WorkRoom (getD cs j 0) lanes′ numbers′
@@ -186,17 +186,17 @@ module _ (n : ℕ) (cs ns l : List ℕ) (xs : List Float) (lanes₀ : List ℕ) 
     }
 
 -- ---- storing: laying what is left into the tables makes up the tables that are wanted
-pub record Storing (all left : List Compiled) (jumps₀ : List ℕ) (rates₀ : List Float) (tLanes₀ : List ℕ) (tNumbers₀ : List Float) (jumps : List ℕ) (rates : List Float) (tLanes : List ℕ) (tNumbers : List Float) (place j : ℕ) : Type 0 where
+pub record Storing (all left : List Compiled) (jumps₀ : List ℕ) (rates₀ : List Float) (tLanes₀ : List ℕ) (tNumbers₀ : List Float) (place₀ j₀ : ℕ) (jumps : List ℕ) (rates : List Float) (tLanes : List ℕ) (tNumbers : List Float) (place j : ℕ) : Type 0 where
   pub jumps-same : length jumps ≡ length jumps₀
   pub rates-same : length rates ≡ length rates₀
   pub lanes-same : length tLanes ≡ length tLanes₀
   pub numbers-same : length tNumbers ≡ length tNumbers₀
-  pub many : j + length left ≡ length all
-  pub placed : place + length (termsOf left) ≡ length (termsOf all)
-  pub entries-are : laid layEntry j (entriesFrom place left) jumps ≡ laid layEntry 0 (entriesFrom 0 all) jumps₀
-  pub rates-are : laid set j (ratesOf left) rates ≡ laid set 0 (ratesOf all) rates₀
-  pub lanes-are : laid layWord place (map (λ z. z .word) (termsOf left)) tLanes ≡ laid layWord 0 (map (λ z. z .word) (termsOf all)) tLanes₀
-  pub numbers-are : laid layNumber place (map (λ z. z .num) (termsOf left)) tNumbers ≡ laid layNumber 0 (map (λ z. z .num) (termsOf all)) tNumbers₀
+  pub many : j + length left ≡ j₀ + length all
+  pub placed : place + length (termsOf left) ≡ place₀ + length (termsOf all)
+  pub entries-are : laid layEntry j (entriesFrom place left) jumps ≡ laid layEntry j₀ (entriesFrom place₀ all) jumps₀
+  pub rates-are : laid set j (ratesOf left) rates ≡ laid set j₀ (ratesOf all) rates₀
+  pub lanes-are : laid layWord place (map (λ z. z .word) (termsOf left)) tLanes ≡ laid layWord place₀ (map (λ z. z .word) (termsOf all)) tLanes₀
+  pub numbers-are : laid layNumber place (map (λ z. z .num) (termsOf left)) tNumbers ≡ laid layNumber place₀ (map (λ z. z .num) (termsOf all)) tNumbers₀
 
 -- one entry, one rate and the terms of one jump laid
 entries-turn : (c : Compiled) (rest : List Compiled) (place j : ℕ) (jumps : List ℕ)
@@ -213,15 +213,15 @@ laid-turn : {A B : Type 0} (store : List A → ℕ → B → List A) (f : Term �
 unfolding termsOf
 laid-turn store f c rest place l = laid-mapped store f place (c .terms) (termsOf rest) l
 
-module _ (all : List Compiled) (jumps₀ : List ℕ) (rates₀ : List Float) (tLanes₀ : List ℕ) (tNumbers₀ : List Float) where
-  pub storing-start : Storing all all jumps₀ rates₀ tLanes₀ tNumbers₀ jumps₀ rates₀ tLanes₀ tNumbers₀ 0 0
+module _ (all : List Compiled) (jumps₀ : List ℕ) (rates₀ : List Float) (tLanes₀ : List ℕ) (tNumbers₀ : List Float) (place₀ j₀ : ℕ) where
+  pub storing-start : Storing all all jumps₀ rates₀ tLanes₀ tNumbers₀ place₀ j₀ jumps₀ rates₀ tLanes₀ tNumbers₀ place₀ j₀
   storing-start = record {
     jumps-same = refl;
     rates-same = refl;
     lanes-same = refl;
     numbers-same = refl;
-    many = omega arith;
-    placed = omega arith;
+    many = refl;
+    placed = refl;
     entries-are = refl;
     rates-are = refl;
     lanes-are = refl;
@@ -229,10 +229,10 @@ module _ (all : List Compiled) (jumps₀ : List ℕ) (rates₀ : List Float) (tL
   }
 
   module _ (left : List Compiled) (jumps : List ℕ) (rates : List Float) (tLanes : List ℕ) (tNumbers : List Float) (place j : ℕ)
-      (s : Storing all left jumps₀ rates₀ tLanes₀ tNumbers₀ jumps rates tLanes tNumbers place j) where
+      (s : Storing all left jumps₀ rates₀ tLanes₀ tNumbers₀ place₀ j₀ jumps rates tLanes tNumbers place j) where
     module _ (c : Compiled) (rest : List Compiled) (is : left ≡ c ∷ rest) where
       -- there is room for the next
-      pub storing-room : JumpsRoom all jumps₀ rates₀ tLanes₀ tNumbers₀ → JumpRoom c j place jumps rates tLanes tNumbers
+      pub storing-room : JumpsRoom all j₀ place₀ jumps₀ rates₀ tLanes₀ tNumbers₀ → JumpRoom c j place jumps rates tLanes tNumbers
       storing-room room =
           let m = ap length is in
           let q = ap (λ (x : List Compiled). length (termsOf x)) is ∙ terms-turn c rest in
@@ -246,7 +246,7 @@ module _ (all : List Compiled) (jumps₀ : List ℕ) (rates₀ : List Float) (tL
       pub storing-next : (r : ℕ) (jumps′ : List ℕ) (rates′ : List Float) (tLanes′ : List ℕ) (tNumbers′ : List Float)
           → StoresJump c j place jumps rates tLanes tNumbers r jumps′ rates′ tLanes′ tNumbers′
           → length jumps′ ≡ length jumps → length rates′ ≡ length rates → length tLanes′ ≡ length tLanes → length tNumbers′ ≡ length tNumbers
-          → Storing all rest jumps₀ rates₀ tLanes₀ tNumbers₀ jumps′ rates′ tLanes′ tNumbers′ r (j + 1)
+          → Storing all rest jumps₀ rates₀ tLanes₀ tNumbers₀ place₀ j₀ jumps′ rates′ tLanes′ tNumbers′ r (j + 1)
       storing-next r jumps′ rates′ tLanes′ tNumbers′ g hj hr hl hn =
           let m = ap length is in
           let q = ap (λ (x : List Compiled). length (termsOf x)) is ∙ terms-turn c rest in
@@ -272,7 +272,7 @@ module _ (all : List Compiled) (jumps₀ : List ℕ) (rates₀ : List Float) (tL
                 ∙ ap₂ (λ (a : ℕ) (x : List Float). laid layNumber a (map (λ (z : Term). z .num) (termsOf rest)) x) (sym (g .end)) (sym (g .lays .numbers-are)));
           }
 
-    pub storing-done : left ≡ [] → StoresJumps all jumps₀ rates₀ tLanes₀ tNumbers₀ jumps rates tLanes tNumbers
+    pub storing-done : left ≡ [] → StoresJumps all j₀ place₀ jumps₀ rates₀ tLanes₀ tNumbers₀ jumps rates tLanes tNumbers
     unfolding laid entriesFrom termsOf
     storing-done is = record {
       entries-are = sym (sym (s .entries-are) ∙ ap (λ (x : List Compiled). laid layEntry j (entriesFrom place x) jumps) is);
@@ -290,17 +290,17 @@ pub record StoreJumpsState (n : ℕ) (cs ns l : List ℕ) (xs gs : List Float) (
   pub work : WorkRoom 0 lanes numbers
   pub lanes-same : length lanes ≡ length lanes₀
   pub numbers-same : length numbers ≡ length numbers₀
-  pub storing : Storing (jumpsCompiled n gs cs ns l xs) (compiledLeft n cs ns l xs gs j t p) jumps₀ rates₀ tLanes₀ tNumbers₀ jumps rates tLanes tNumbers place j
+  pub storing : Storing (jumpsCompiled n gs cs ns l xs) (compiledLeft n cs ns l xs gs j t p) jumps₀ rates₀ tLanes₀ tNumbers₀ 0 0 jumps rates tLanes tNumbers place j
 
 module _ (n : ℕ) (cs ns l : List ℕ) (xs gs : List Float) (lanes₀ : List ℕ) (numbers₀ : List Float) (jumps₀ : List ℕ) (rates₀ : List Float) (tLanes₀ : List ℕ) (tNumbers₀ : List Float)
-    (fit : JumpsFit cs ns l xs) (same : length gs ≡ length cs) (work₀ : WorkRoom 0 lanes₀ numbers₀) (room : JumpsRoom (jumpsCompiled n gs cs ns l xs) jumps₀ rates₀ tLanes₀ tNumbers₀) where
+    (fit : JumpsFit cs ns l xs) (same : length gs ≡ length cs) (work₀ : WorkRoom 0 lanes₀ numbers₀) (room : JumpsRoom (jumpsCompiled n gs cs ns l xs) 0 0 jumps₀ rates₀ tLanes₀ tNumbers₀) where
   pub store-jumps-start : StoreJumpsState n cs ns l xs gs lanes₀ numbers₀ jumps₀ rates₀ tLanes₀ tNumbers₀ lanes₀ numbers₀ jumps₀ rates₀ tLanes₀ tNumbers₀ 0 0 0 0
   store-jumps-start = record {
     stands = stands-start cs ns l xs fit;
     work = work₀;
     lanes-same = refl;
     numbers-same = refl;
-    storing = storing-start (jumpsCompiled n gs cs ns l xs) jumps₀ rates₀ tLanes₀ tNumbers₀;
+    storing = storing-start (jumpsCompiled n gs cs ns l xs) jumps₀ rates₀ tLanes₀ tNumbers₀ 0 0;
   }
 
   module _ (lanes : List ℕ) (numbers : List Float) (jumps : List ℕ) (rates : List Float) (tLanes : List ℕ) (tNumbers : List Float) (place p t j : ℕ)
@@ -328,7 +328,7 @@ module _ (n : ℕ) (cs ns l : List ℕ) (xs gs : List Float) (lanes₀ : List �
       store-jumps-room =
           let k : ℕ = getD cs j 0 in
           let sum : ℕ = total (take (t + k - t) (drop t ns)) in
-          storing-room (jumpsCompiled n gs cs ns l xs) jumps₀ rates₀ tLanes₀ tNumbers₀ (compiledLeft n cs ns l xs gs j t p) jumps rates tLanes tNumbers place j (s .storing)
+          storing-room (jumpsCompiled n gs cs ns l xs) jumps₀ rates₀ tLanes₀ tNumbers₀ 0 0 (compiledLeft n cs ns l xs gs j t p) jumps rates tLanes tNumbers place j (s .storing)
           inWork (compiledLeft n cs ns l xs gs (j + 1) (t + k) (p + sum)) (left-first sum refl) room
 
       -- and stored
@@ -343,10 +343,10 @@ module _ (n : ℕ) (cs ns l : List ℕ) (xs gs : List Float) (lanes₀ : List �
         work = work-same lanes lanes₂ numbers numbers₂ (s .work) (bl ∙ al) (bn ∙ an);
         lanes-same = bl ∙ al ∙ s .lanes-same;
         numbers-same = bn ∙ an ∙ s .numbers-same;
-        storing = storing-next (jumpsCompiled n gs cs ns l xs) jumps₀ rates₀ tLanes₀ tNumbers₀ (compiledLeft n cs ns l xs gs j t p) jumps rates tLanes tNumbers place j (s .storing)
+        storing = storing-next (jumpsCompiled n gs cs ns l xs) jumps₀ rates₀ tLanes₀ tNumbers₀ 0 0 (compiledLeft n cs ns l xs gs j t p) jumps rates tLanes tNumbers place j (s .storing)
             inWork (compiledLeft n cs ns l xs gs (j + 1) (t + getD cs j 0) (p + sum)) (left-first sum es) r jumps′ rates′ tLanes′ tNumbers′ g hj hr hl hn;
       }
 
-    pub store-jumps-done : length cs ≤ j → StoresJumps (jumpsCompiled n gs cs ns l xs) jumps₀ rates₀ tLanes₀ tNumbers₀ jumps rates tLanes tNumbers
+    pub store-jumps-done : length cs ≤ j → StoresJumps (jumpsCompiled n gs cs ns l xs) 0 0 jumps₀ rates₀ tLanes₀ tNumbers₀ jumps rates tLanes tNumbers
     store-jumps-done h =
-        storing-done (jumpsCompiled n gs cs ns l xs) jumps₀ rates₀ tLanes₀ tNumbers₀ (compiledLeft n cs ns l xs gs j t p) jumps rates tLanes tNumbers place j (s .storing) (left-end n cs ns l xs gs j t p h)
+        storing-done (jumpsCompiled n gs cs ns l xs) jumps₀ rates₀ tLanes₀ tNumbers₀ 0 0 (compiledLeft n cs ns l xs gs j t p) jumps rates tLanes tNumbers place j (s .storing) (left-end n cs ns l xs gs j t p h)

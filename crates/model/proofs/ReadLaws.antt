@@ -23,7 +23,7 @@ use Rattle.model.specs.Given.{Term, GivenTerm}
 use Rattle.model.specs.Built.{parts, termItems}
 use Rattle.model.specs.Items.{total}
 use Rattle.model.specs.Taken.{wordTaken, termTaken}
-use Rattle.model.specs.Work.{operatorIn, WorkRoom, TextsFit, operatorTaken}
+use Rattle.model.specs.Work.{operatorIn, ReadRoom, TextsFit, operatorTaken}
 use Rattle.model.proofs.Parts.{total-turn, part-is, term-turn, term-end}
 use Rattle.model.proofs.ProductLaws.{onto-eq}
 use Rattle.model.proofs.WorkLaws.{rows-length, terms-none}
@@ -64,7 +64,7 @@ module _ (n : ℕ) (ns l : List ℕ) (xs : List Float) where
     pub texts-left : p + total (drop i ns) ≤ length l
     pub reads : operatorIn i lanes numbers ++ left i p ≡ operatorTaken n ns l xs
 
-  module _ (lanes₀ : List ℕ) (numbers₀ : List Float) (fit : TextsFit ns l xs) (room : WorkRoom (length ns) lanes₀ numbers₀) where
+  module _ (lanes₀ : List ℕ) (numbers₀ : List Float) (fit : TextsFit ns l xs) (room : ReadRoom (length ns) lanes₀ numbers₀) where
     pub read-start : ReadState lanes₀ numbers₀ lanes₀ numbers₀ 0 0
     read-start = record {
       lanes-same = refl;
@@ -102,7 +102,7 @@ module _ (n : ℕ) (ns l : List ℕ) (xs : List Float) where
           texts-left = omega (arith, s .texts-left, total-turn ns i inside);
           reads =
               ap (λ (t : List Term). t ++ left (i + 1) (p + getD ns i 0))
-              (operator-more i lanes lanes′ numbers numbers′ w z (omega (arith, s .lanes-same, room .lanes-long, room .few)) (omega (arith, s .numbers-same, room .numbers-long, room .few)) lw ln)
+              (operator-more i lanes lanes′ numbers numbers′ w z (omega (arith, s .lanes-same, room .lanes-long)) (omega (arith, s .numbers-same, room .numbers-long)) lw ln)
               ∙ append-assoc (operatorIn i lanes numbers) (row w z ∷ []) (left (i + 1) (p + getD ns i 0))
               ∙ ap (λ (t : Term). operatorIn i lanes numbers ++ (t ∷ left (i + 1) (p + getD ns i 0))) row-is
               ∙ ap (λ (t : List GivenTerm). operatorIn i lanes numbers ++ map (termTaken n) t) (sym (term-turn ns l xs i p inside two))

@@ -49,7 +49,7 @@ module _ {A B : Type 0} where
 
 module _ {A B : Type 0} where
   -- what is taken of each item that is read
-  each-taken : (f : ℕ → A → Read B) (g : A → B) → ((i : ℕ) (a : A) (b : B) → f i a ≡ got b → b ≡ g a)
+  pub each-taken : (f : ℕ → A → Read B) (g : A → B) → ((i : ℕ) (a : A) (b : B) → f i a ≡ got b → b ≡ g a)
       → (i : ℕ) (l : List A) (bs : List B) → each f i l ≡ got bs → bs ≡ map g l
   unfolding each
   each-taken f g h i [] bs e = got-is [] bs e
@@ -59,7 +59,7 @@ module _ {A B : Type 0} where
       got-is (one .0 ∷ all .0) bs (all .2) ∙ ap₂ (λ (b : B) (cs : List B). b ∷ cs) (h i a (one .0) (one .1)) (each-taken f g h (suc i) l (all .0) (all .1))
 
   -- item k was read
-  each-read : (f : ℕ → A → Read B) (i : ℕ) (l : List A) (bs : List B) → each f i l ≡ got bs
+  pub each-read : (f : ℕ → A → Read B) (i : ℕ) (l : List A) (bs : List B) → each f i l ≡ got bs
       → (k : ℕ) (d : A) → k < length l → (b : B) × (f (i + k) (getD l k d) ≡ got b)
   unfolding each
   each-read f i [] bs e k d h = absurd (omega arith)
@@ -108,7 +108,7 @@ module _ (n i : ℕ) (gs : List GivenTerm) (op : List Term) (e : readOperator n 
       let few = refuse-got (ltb maxTerms (length gs)) (CountAboveLimit (length gs)) _ op (some .1) in
       (some .0, few .0, few .1)
 
-  operator-taken : op ≡ map (termTaken n) gs
+  pub operator-taken : op ≡ map (termTaken n) gs
   operator-taken = terms-taken n i 0 gs op (operator-tested .2)
 
   -- 1 to 16 terms

@@ -141,7 +141,7 @@ pub record Building : Type 0 where
   pub workWords : List ℕ
   pub workNumbers : List Float
 
-module _ (n : ℕ) (i : Input) (t : Tables) (workWords : List ℕ) (workNumbers : List Float) where
+module _ (t : Tables) (workWords : List ℕ) (workNumbers : List Float) where
   -- a refusal changes nothing
   abbrev pub refusal : Built → Building
   refusal r = record { answer = r; tables = t; workWords = workWords; workNumbers = workNumbers }
@@ -159,13 +159,14 @@ module _ (n : ℕ) (i : Input) (t : Tables) (workWords : List ℕ) (workNumbers 
     whenRead (got a) f = f a
     whenRead (refused r) f = refusal (Answers.Refused r)
 
+module _ (n : ℕ) (i : Input) (t : Tables) (workWords : List ℕ) (workNumbers : List Float) where
   abbrev pub compiledModel : List (RealTerm floats pauli) → List Compiled → Building
   compiledModel hs cs =
       cond (ltb (termPlaces t) (length (termsOf cs)))
-      (finished (Answers.Refused (TableFull 4 (termPlaces t))) t)
-      (finished (Answers.Model (record { qubits = n; hamiltonian = length hs; jumps = length cs; terms = length (termsOf cs) })) (stored hs cs t))
+      (finished t workWords workNumbers (Answers.Refused (TableFull 4 (termPlaces t))) t)
+      (finished t workWords workNumbers (Answers.Model (record { qubits = n; hamiltonian = length hs; jumps = length cs; terms = length (termsOf cs) })) (stored hs cs t))
 
   unfoldable pub build : Building
   build =
-      tested (cond (ltb maxQubits n) (Refused (TooManyQubits n maxQubits)) (counted maxHamiltonian (length (i .hNumbers)) (counted maxJumps (length (i .rates)) (lengthsAnswer i t workWords workNumbers))))
-      (whenRead (readHamiltonian n i) (λ hs. whenRead (readJumps n i) (λ js. compiledModel hs (map compileJump js))))
+      tested t workWords workNumbers (cond (ltb maxQubits n) (Refused (TooManyQubits n maxQubits)) (counted maxHamiltonian (length (i .hNumbers)) (counted maxJumps (length (i .rates)) (lengthsAnswer i t workWords workNumbers))))
+      (whenRead t workWords workNumbers (readHamiltonian n i) (λ hs. whenRead t workWords workNumbers (readJumps n i) (λ js. compiledModel hs (map compileJump js))))

@@ -35,6 +35,11 @@ pub record WorkRoom (k : ℕ) (lanes : List ℕ) (numbers : List Float) : Type 0
   pub numbers-long : 544 ≤ length numbers
   pub few : k ≤ 16
 
+-- room for k terms past the places of the sums
+pub record ReadRoom (k : ℕ) (lanes : List ℕ) (numbers : List Float) : Type 0 where
+  pub lanes-long : 4 * (256 + k) ≤ length lanes
+  pub numbers-long : 2 * (256 + k) ≤ length numbers
+
 -- two numbers for each text, and the texts are there
 pub record TextsFit (ns l : List ℕ) (xs : List Float) : Type 0 where
   pub two : length xs ≡ 2 * length ns
@@ -74,15 +79,15 @@ jumpsCompiled n gs cs ns l xs = map (λ j. compileJump (jumpTaken n j)) (jumpIte
 pub record CountsJumps (n : ℕ) (cs ns l : List ℕ) (xs : List Float) (r : ℕ) : Type 0 where
   pub counts : (gs : List Float) → length gs ≡ length cs → r ≡ length (termsOf (jumpsCompiled n gs cs ns l xs))
 
--- room for the entries and the terms
-pub record JumpsRoom (cs : List Compiled) (jumps : List ℕ) (rates : List Float) (tLanes : List ℕ) (tNumbers : List Float) : Type 0 where
-  pub entries-room : 8 * length cs ≤ length jumps
-  pub rates-room : length cs ≤ length rates
-  pub lanes-room : 4 * length (termsOf cs) ≤ length tLanes
-  pub numbers-room : 2 * length (termsOf cs) ≤ length tNumbers
+-- room for the entries from j on and the terms from a place on
+pub record JumpsRoom (cs : List Compiled) (j at : ℕ) (jumps : List ℕ) (rates : List Float) (tLanes : List ℕ) (tNumbers : List Float) : Type 0 where
+  pub entries-room : 8 * (j + length cs) ≤ length jumps
+  pub rates-room : j + length cs ≤ length rates
+  pub lanes-room : 4 * (at + length (termsOf cs)) ≤ length tLanes
+  pub numbers-room : 2 * (at + length (termsOf cs)) ≤ length tNumbers
 
 -- the four tables afterwards
-pub record StoresJumps (cs : List Compiled) (jumps : List ℕ) (rates : List Float) (tLanes : List ℕ) (tNumbers : List Float) (jumps′ : List ℕ) (rates′ : List Float) (tLanes′ : List ℕ) (tNumbers′ : List Float) : Type 0 where
-  pub entries-are : jumps′ ≡ laid layEntry 0 (entriesFrom 0 cs) jumps
-  pub rates-are : rates′ ≡ laid set 0 (ratesOf cs) rates
-  pub lays : LaysTerms (termsOf cs) 0 tLanes tNumbers tLanes′ tNumbers′
+pub record StoresJumps (cs : List Compiled) (j at : ℕ) (jumps : List ℕ) (rates : List Float) (tLanes : List ℕ) (tNumbers : List Float) (jumps′ : List ℕ) (rates′ : List Float) (tLanes′ : List ℕ) (tNumbers′ : List Float) : Type 0 where
+  pub entries-are : jumps′ ≡ laid layEntry j (entriesFrom at cs) jumps
+  pub rates-are : rates′ ≡ laid set j (ratesOf cs) rates
+  pub lays : LaysTerms (termsOf cs) at tLanes tNumbers tLanes′ tNumbers′

@@ -62,8 +62,8 @@ pub fn store_jumps(
     t_words: &mut [u64],
     t_numbers: &mut [f64],
 )
-    requires { ⌜ JumpsFit (now counts) (now lengths) (now texts) (now numbers) × (length (now given) ≡ length (now counts)) × WorkRoom 0 (now words) (now sums) × JumpsRoom (jumpsCompiled «n_qubits» (now given) (now counts) (now lengths) (now texts) (now numbers)) (now jumps) (now rates) (now «t_words») (now «t_numbers») ⌝ }
-    ensures { λ _. ⌜ StoresJumps (jumpsCompiled «n_qubits» (now (given .entry)) (now (counts .entry)) (now (lengths .entry)) (now (texts .entry)) (now (numbers .entry))) (now (jumps .entry)) (now (rates .entry)) (now («t_words» .entry)) (now («t_numbers» .entry)) (now (jumps .exit)) (now (rates .exit)) (now («t_words» .exit)) (now («t_numbers» .exit)) ⌝ }
+    requires { ⌜ JumpsFit (now counts) (now lengths) (now texts) (now numbers) × (length (now given) ≡ length (now counts)) × WorkRoom 0 (now words) (now sums) × JumpsRoom (jumpsCompiled «n_qubits» (now given) (now counts) (now lengths) (now texts) (now numbers)) 0 0 (now jumps) (now rates) (now «t_words») (now «t_numbers») ⌝ }
+    ensures { λ _. ⌜ StoresJumps (jumpsCompiled «n_qubits» (now (given .entry)) (now (counts .entry)) (now (lengths .entry)) (now (texts .entry)) (now (numbers .entry))) 0 0 (now (jumps .entry)) (now (rates .entry)) (now («t_words» .entry)) (now («t_numbers» .entry)) (now (jumps .exit)) (now (rates .exit)) (now («t_words» .exit)) (now («t_numbers» .exit)) ⌝ }
 {
     let mut place = 0;
     let mut at = 0;

@@ -18,7 +18,7 @@ use word::word::ParsedWord;
 use word::word::parse_pauli_string;
 
 // The terms that an operator may have.
-const MAX_TERMS: usize = 16;
+pub const MAX_TERMS: usize = 16;
 
 // Whether parts of these lengths make up a whole of length `have`.
 pub fn parts_fit(lengths: &[u64], have: usize) -> Answer

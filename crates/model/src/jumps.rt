@@ -7,7 +7,7 @@ ghost use mathlib.Core.Path.{_≡_};
 ghost use Prim.Native.Nat.{_≤_};
 ghost use lib.ListN.{length};
 ghost use Rattle.model.specs.Compiled.{compileJump, termCount};
-ghost use Rattle.model.specs.Work.{operatorIn, isPauli, WorkRoom, TextsFit, operatorTaken, JumpRoom, StoresJump};
+ghost use Rattle.model.specs.Work.{operatorIn, isPauli, WorkRoom, ReadRoom, TextsFit, operatorTaken, JumpRoom, StoresJump};
 use crate::product::SUM_PLACES;
 use crate::product::precompute_adag_b;
 use crate::product::term_at;
@@ -30,7 +30,7 @@ pub fn read_operator(
     words: &mut [u64],
     sums: &mut [f64],
 )
-    requires { ⌜ TextsFit (now lengths) (now texts) (now numbers) × WorkRoom (length (now lengths)) (now words) (now sums) ⌝ }
+    requires { ⌜ TextsFit (now lengths) (now texts) (now numbers) × ReadRoom (length (now lengths)) (now words) (now sums) ⌝ }
     ensures { λ _. ⌜ operatorIn (length (now (lengths .entry))) (now (words .exit)) (now (sums .exit)) ≡ operatorTaken «n_qubits» (now (lengths .entry)) (now (texts .entry)) (now (numbers .entry)) ⌝ }
 {
     let mut at = 0;

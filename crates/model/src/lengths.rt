@@ -17,10 +17,10 @@ use refusal::Refusal;
 use word::flat::WORD_LANES;
 
 // The work places of the largest operator and its product: 16 terms and 256 sums.
-const WORK_PLACES: usize = 272;
+pub const WORK_PLACES: usize = 272;
 
 // The refusal of a length.
-fn mismatch(needed: usize, given: usize) -> Answer
+pub fn mismatch(needed: usize, given: usize) -> Answer
     ensures { λ r. ⌜ r ≡ Refused (LengthMismatch needed given) ⌝ }
 {
     Answer::Refused(Refusal::LengthMismatch { needed, given })

@@ -20,6 +20,7 @@ use refusal::Answer;
 use refusal::Refusal;
 use table::clear::clear_lanes;
 use table::clear::clear_numbers;
+use word::flat::WORD_LANES;
 
 // The answer of a builder.
 pub enum Built {
@@ -28,7 +29,7 @@ pub enum Built {
 }
 
 // The terms table, as 13 names it.
-const TERMS_TABLE: usize = 4;
+pub const TERMS_TABLE: usize = 4;
 
 // Builds a model from what was tested.
 fn compile_given(
@@ -65,7 +66,7 @@ fn compile_given(
         work_words,
         work_numbers,
     );
-    let places = smaller(t_words.len() / 4, t_numbers.len() / 2);
+    let places = smaller(t_words.len() / WORD_LANES, t_numbers.len() / 2);
     if places < kept {
         clear_lanes(work_words);
         clear_numbers(work_numbers);

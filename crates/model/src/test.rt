@@ -216,7 +216,7 @@ fn bad_given(re: f64, im: f64) -> bool
 
 // The first term of a range whose numbers are not in range, or the count of all terms. A range that
 // reaches beyond the table ends with it.
-fn test_range(r: Range, numbers: &[f64], terms: usize) -> usize
+pub fn test_range(r: Range, numbers: &[f64], terms: usize) -> usize
     requires { ⌜ 2 * terms ≤ length (now numbers) ⌝ }
     ensures { λ p. ⌜ p ≡ firstTo terms (failsIn r (now (numbers .entry))) ⌝ }
 {

@@ -82,13 +82,13 @@ module _ (n : ℕ) (i : Input) (t : Tables) (workWords : List ℕ) (workNumbers 
   refusal-good : (r : Refusal) (b : Building) → b .answer ≡ Answers.Refused r → Good b
   refusal-good r b e m h = let z : _≡_ {A = ℕ} 0 1 = cc in absurd (omega arith)
 
-  by-test : (a : Answer) (after : Building) → (a ≡ Tests.Accepted → Good after) → Good (tested n i t workWords workNumbers a after)
+  by-test : (a : Answer) (after : Building) → (a ≡ Tests.Accepted → Good after) → Good (tested t workWords workNumbers a after)
   by-test Tests.Accepted after h = h refl
-  by-test (Tests.Refused r) after h = refusal-good r (refusal n i t workWords workNumbers (Answers.Refused r)) refl
+  by-test (Tests.Refused r) after h = refusal-good r (refusal t workWords workNumbers (Answers.Refused r)) refl
 
-  by-read : {A : Type 0} (x : Read A) (f : A → Building) → ((a : A) → x ≡ got a → Good (f a)) → Good (whenRead n i t workWords workNumbers x f)
+  by-read : {A : Type 0} (x : Read A) (f : A → Building) → ((a : A) → x ≡ got a → Good (f a)) → Good (whenRead t workWords workNumbers x f)
   by-read (got a) f h = h a refl
-  by-read (refused r) f h = refusal-good r (refusal n i t workWords workNumbers (Answers.Refused r)) refl
+  by-read (refused r) f h = refusal-good r (refusal t workWords workNumbers (Answers.Refused r)) refl
 
   module _ (within : n ≤ maxQubits) (few-reals : length (i .hNumbers) ≤ maxHamiltonian) (few-jumps : length (i .rates) ≤ maxJumps) (fit : LengthsFit i t workWords workNumbers)
       (hs : List (RealTerm floats pauli)) (reals : readHamiltonian n i ≡ got hs) (js : List (JumpOver floats pauli)) (jumps : readJumps n i ≡ got js) where
@@ -145,8 +145,8 @@ module _ (n : ℕ) (i : Input) (t : Tables) (workWords : List ℕ) (workNumbers 
         (stands-tested (larger (empty n) added) (extended (empty n) t added) (extended-stands (empty n) t added (empty-stands n t within) (extends room)))
 
     by-room : (b : Bool) → ltb (termPlaces t) (length (termsOf cs)) ≡ b
-        → Good (cond b (finished n i t workWords workNumbers (Answers.Refused (TableFull 4 (termPlaces t))) t) (finished n i t workWords workNumbers (Answers.Model made) (stored hs cs t)))
-    by-room true e = refusal-good (TableFull 4 (termPlaces t)) (finished n i t workWords workNumbers (Answers.Refused (TableFull 4 (termPlaces t))) t) refl
+        → Good (cond b (finished t workWords workNumbers (Answers.Refused (TableFull 4 (termPlaces t))) t) (finished t workWords workNumbers (Answers.Model made) (stored hs cs t)))
+    by-room true e = refusal-good (TableFull 4 (termPlaces t)) (finished t workWords workNumbers (Answers.Refused (TableFull 4 (termPlaces t))) t) refl
     by-room false e =
         λ (m : Model) (h : Answers.Model made ≡ Answers.Model m).
         let same : made ≡ m = cc in

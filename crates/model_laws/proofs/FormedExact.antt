@@ -2,24 +2,22 @@
 -- SPDX-License-Identifier: Apache-2.0
 
 -- Whole numbers with parts of at most 256: what building makes of them over f64 is exactly what it makes over the whole
--- numbers, and thinning and skipping drop the same. Assumes nothing.
-use mathlib.Core.Path.{_≡_, sym, ap, _∙_, subst}
+-- numbers, and thinning drops the same. Assumes nothing.
 use mathlib.Core.List.{List}
 use Prim.Native.Nat.{ℕ, _+_, _*_, _^_, _≤_}
 use native.Mathlib.Nat.{le-trans, mul-le-mul, mul-le-mul-right}
 use native.Mathlib.Omega.{arith}
 use lib.Dec.{lit≤}
-use lib.IntN.{ℤ, pos, natAbs}
-use lib.Ieee.{Float, binary64, mul}
-use lib.Ieee.Fits.{add-fits}
+use lib.IntN.{ℤ, natAbs}
+use lib.Ieee.{Float}
 use lib.ListN.{length}
-use Rattle.number.specs.Numbers.{Cx, addC, mulC, conjC, zeroC, square, unitC}
+use Rattle.number.specs.Numbers.{Cx, addC, mulC, conjC, zeroC, unitC}
 use Rattle.number.specs.Whole.{_⊠_, whole}
 use Rattle.number.specs.Floats.{floats}
 use Rattle.number.specs.Exact.{Is, IsG, Within}
 use Rattle.number.proofs.ExactLaws.{is-nought, is-mul}
-use Rattle.number.proofs.ExactComplex.{times, within-mono, within-add, within-mul, within-conj, within-unit, is-sum, is-product, is-conjugate, is-power, is-square, square-is}
-use Rattle.number.proofs.ToleranceLaws.{small-is, slighter-is}
+use Rattle.number.proofs.ExactComplex.{times, within-mono, within-add, within-mul, within-conj, within-unit, is-sum, is-product, is-conjugate, is-power}
+use Rattle.number.proofs.ToleranceLaws.{small-is}
 use Rattle.gksl.specs.Operator.{Onto}
 use Rattle.gksl.specs.Rules.{formedOver}
 use Rattle.gksl.specs.Words.{pauli}
@@ -78,10 +76,3 @@ factor-exact a g b h k z = exact-mul (lit≤ tt) (exact-mul (lit≤ tt) (exact-c
 pub product-exact : {k c : Cx floats} {z g : Cx whole} → IsG k z → Within 256 z → IsG c g → Within (2 ^ 26) g
     → IsG (mulC floats k c) (mulC whole z g) × Within (2 ^ 35) (mulC whole z g)
 product-exact k z c g = exact-mul (lit≤ tt) (k, z) (c, g)
-
--- an entry of K is skipped beside the largest squared magnitude over both, or over neither
-pub skips-exact : {k : Cx floats} {z : Cx whole} {largest : Float} {l : ℕ} → IsG k z → Within 256 z → Is largest (pos l) → l ≤ 2 * (256 * 256)
-    → floats .slighter (square floats k) largest ≡ whole .slighter (square whole z) (pos l)
-skips-exact {k} {z} {largest} {l} p w q m =
-    slighter-is (add-fits binary64 (mul binary64 (k .re) (k .re)) (mul binary64 (k .im) (k .im))) (subst (Is (square floats k)) (square-is z) (is-square p w (lit≤ tt))) q (le-trans m (lit≤ tt))
-    ∙ ap (λ (s : ℤ). whole .slighter s (pos l)) (sym (square-is z))

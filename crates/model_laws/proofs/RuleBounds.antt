@@ -3,24 +3,28 @@
 
 -- The rules over f64, of a model with numbers in range: each value that they add is at most 2^822, and every number of the
 -- action is finite. Assumes nothing.
-use mathlib.Core.Bool.{Bool, true, false, cond}
+use mathlib.Core.Path.{subst⁻¹}
+use mathlib.Core.Bool.{Bool, true, false, _&&_, cond}
 use mathlib.Core.List.{List, [], _∷_, _++_, map}
-use Prim.Native.Nat.{ℕ, zero, suc}
-use lib.Dec.{T, lit≤, lit<}
+use Prim.Native.Nat.{ℕ, zero, suc, _+_, _*_, _<_}
+use native.Mathlib.Omega.{arith}
+use native.Mathlib.Decide.{decLt}
+use lib.Dec.{T, ltb, lit≤, lit<}
 use lib.Ieee.{Float}
+use lib.ListN.{length, getD, List·getD-eq-default}
 use Rattle.word.specs.declared.word.Word.{Word}
-use Rattle.number.specs.Numbers.{Cx, mulC, conjC, square}
+use Rattle.number.specs.Numbers.{Cx, mulC, conjC, zeroC, square, largestOver}
 use Rattle.number.specs.Floats.{floats, isFinite}
 use Rattle.number.specs.Bounds.{AtMost, AtMostC}
-use Rattle.number.proofs.RangeLaws.{atMost-mono, atMost-neg, atMost-mul, atMost-unit, atMost-two, atMostC-mono, atMostC-mul, atMostC-conj}
-use Rattle.gksl.specs.Model.{RealTerm, JumpOver, MatrixOver, ModelOver, Row, rowsOver}
+use Rattle.number.proofs.RangeLaws.{atMost-mono, atMost-neg, atMost-mul, atMost-nought, atMost-unit, atMost-two, atMostC-mono, atMostC-mul, atMostC-conj, atMostC-real}
+use Rattle.gksl.specs.Model.{RealTerm, JumpOver, MatrixOver, ModelOver, Row, rowsOver, entryIn, entryOver}
 use Rattle.gksl.specs.Table.{putAllOver, withoutOver}
 use Rattle.gksl.specs.Rules.{pairsOver, gatherOver, signed, factored, overlapsOver, formedOver, termsOver, clashOver, generalOver, shapeOver, jumpsOver, diagonalOver, bothOver, oneOver, pairOver, rowOver, matrixOver, matricesOver, rulesOver, actionOver}
 use Rattle.gksl.specs.Words.{pauli}
 use Rattle.model.specs.Given.{Term}
 use Rattle.model_laws.specs.Every.{Every}
 use Rattle.model_laws.specs.Ranged.{RangedOp, Ranged}
-use Rattle.model_laws.proofs.Lists.{every-weaken, every-append, every-map}
+use Rattle.model_laws.proofs.Lists.{every-at, every-weaken, every-append, every-map}
 use Rattle.model_laws.proofs.FormedBounds.{formed-bound}
 use Rattle.model_laws.proofs.ActionBounds.{factored-value, pauli-value, sandwich-value, product-value, factor-value, twice-value, diagonal-value, both-value, two-minus, sign-minus, sums-finite}
 
@@ -182,11 +186,23 @@ module _ (big : Float) (K : ℕ → ℕ → Cx floats) (h : (i j : ℕ) → AtMo
       (append (diagonal-small (K (x .row) (x .row)) (h (x .row) (x .row)) (x .op) p (a .0) big) (row-small x X (a .0) (a .1)))
       (matrix-small X (a .1))
 
-matrices-small : (Ks : List (MatrixOver floats pauli)) (p : Word) → Every (λ k. Every RangedOp (k .ops) × ((i j : ℕ) → AtMostC 200 (k .entry i j))) Ks → Added (matricesOver floats pauli Ks p)
+entry-small : (ops : ℕ) (K : List (Cx floats)) → Every (AtMostC 200) K → (i j : ℕ) → AtMostC 200 (entryIn floats ops K i j)
+unfolding entryIn
+entry-small ops K h i j = go (ltb i ops && ltb j ops) (decLt (i * ops + j) (length K))
+  where
+    nought : AtMostC 200 (zeroC floats)
+    nought = atMostC-real (atMost-nought 200)
+
+    go : (b : Bool) → Dec (i * ops + j < length K) → AtMostC 200 (cond b (getD K (i * ops + j) (zeroC floats)) (zeroC floats))
+    go true (yes l) = every-at (AtMostC 200) K (i * ops + j) (zeroC floats) h l
+    go true (no l) = subst⁻¹ (AtMostC 200) (List·getD-eq-default K (zeroC floats) {n = i * ops + j} (omega arith)) nought
+    go false d = nought
+
+matrices-small : (Ks : List (MatrixOver floats pauli)) (p : Word) → Every (λ k. Every RangedOp (k .ops) × Every (AtMostC 200) (k .entries)) Ks → Added (matricesOver floats pauli Ks p)
 unfolding matricesOver
 matrices-small [] p h = none
 matrices-small (k ∷ Ks) p h =
-    append (matrix-small (k .largest) (k .entry) (h .0 .1) p (rowsOver floats pauli 0 (k .ops)) (rows-ranged 0 (k .ops) (h .0 .0))) (matrices-small Ks p (h .1))
+    append (matrix-small (largestOver floats (k .entries)) (entryOver floats pauli k) (entry-small (length (k .ops)) (k .entries) (h .0 .1)) p (rowsOver floats pauli 0 (k .ops)) (rows-ranged 0 (k .ops) (h .0 .0))) (matrices-small Ks p (h .1))
 
 -- ---- all of them
 module _ (m : ModelOver floats pauli) (h : Ranged m) (p : Word) where

@@ -2,7 +2,7 @@
 -- SPDX-License-Identifier: Apache-2.0
 
 -- A model over f64 with numbers of at most 2^200 and operators of at most 16 terms.
-use Prim.Native.Nat.{ℕ, _≤_}
+use Prim.Native.Nat.{_≤_}
 use mathlib.Core.List.{List}
 use lib.ListN.{length}
 use Rattle.number.specs.Floats.{floats}
@@ -19,4 +19,4 @@ pub record RangedOp (op : List Term) : Type 0 where
 pub record Ranged (m : ModelOver floats pauli) : Type 0 where
   pub terms : Every (λ h. AtMost 200 (h .num)) (m .terms)
   pub jumps : Every (λ j. AtMost 200 (j .rate) × RangedOp (j .op)) (m .jumps)
-  pub matrices : Every (λ k. Every RangedOp (k .ops) × ((i j : ℕ) → AtMostC 200 (k .entry i j))) (m .matrices)
+  pub matrices : Every (λ k. Every RangedOp (k .ops) × Every (AtMostC 200) (k .entries)) (m .matrices)

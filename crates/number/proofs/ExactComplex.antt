@@ -9,7 +9,7 @@ use native.Mathlib.Omega.{arith}
 use lib.Dec.{lit≤}
 use lib.IntN.{ℤ, pos, negsuc, natAbs}
 use lib.Ieee.{Float}
-use Rattle.number.specs.Numbers.{Cx, addC, negC, mulC, conjC, zeroC, realC, square, unitC}
+use Rattle.number.specs.Numbers.{Cx, addC, subC, negC, mulC, conjC, zeroC, realC, square, unitC}
 use Rattle.number.specs.Whole.{_⊞_, neg, _⊠_, whole}
 use Rattle.number.specs.Floats.{floats}
 use Rattle.number.specs.Exact.{Is, IsG, Within, normG}
@@ -45,6 +45,10 @@ module _ {b c : ℕ} {g h : Cx whole} (p : Within b g) (q : Within c h) where
   unfolding addC
   within-add = record { re = plus (g .re) (h .re) (p .re) (q .re); im = plus (g .im) (h .im) (p .im) (q .im) }
 
+  pub within-sub : Within (b + c) (subC whole g h)
+  unfolding subC
+  within-sub = record { re = less (g .re) (h .re) (p .re) (q .re); im = less (g .im) (h .im) (p .im) (q .im) }
+
   pub within-mul : Within (2 * (b * c)) (mulC whole g h)
   unfolding mulC
   within-mul = record {
@@ -76,6 +80,10 @@ module _ {x y : Cx floats} {g h : Cx whole} (p : IsG x g) (q : IsG y h) where
   pub is-sum : Within (2 ^ 53) (addC whole g h) → IsG (addC floats x y) (addC whole g h)
   unfolding addC
   is-sum w = record { re = is-add (p .re) (q .re) (w .re); im = is-add (p .im) (q .im) (w .im) }
+
+  pub is-difference : Within (2 ^ 53) (subC whole g h) → IsG (subC floats x y) (subC whole g h)
+  unfolding subC
+  is-difference w = record { re = is-sub (p .re) (q .re) (w .re); im = is-sub (p .im) (q .im) (w .im) }
 
   -- half of a bound
   part : (n : ℕ) → 2 * n ≤ 2 ^ 53 → n ≤ 2 ^ 53

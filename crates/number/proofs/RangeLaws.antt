@@ -203,6 +203,7 @@ signs b s a c h =
     go true (suc q) j h = h
     go false q j h = absurd h
 
+-- the whole number b, rounded, is r
 abbrev pub RoundsTo : ℕ → ℕ → Type 0
 RoundsTo b r = HasValue (round binary64 false b 1) false r 1
 

@@ -9,7 +9,7 @@ use lib.Ieee.Scale.{finite}
 use Rattle.number.specs.Numbers.{Numbers, Cx}
 use Rattle.number.specs.declared.scalar.Complex.{Complex}
 
--- 0, 1, 2 and 1e-14, by their bits
+-- 0, 1, 2, 1e-14 and 1e-10, by their bits
 abbrev pub float0 : Float
 float0 = ofBits binary64 0
 
@@ -22,13 +22,22 @@ float2 = ofBits binary64 0x4000_0000_0000_0000
 abbrev pub tolerance : Float
 tolerance = ofBits binary64 0x3d06_849b_86a1_2b9b
 
--- 1e-14 × 1e-14, rounded
+abbrev pub hermiticityTolerance : Float
+hermiticityTolerance = ofBits binary64 0x3ddb_7cdf_d9d7_bdbb
+
+-- 1e-14 × 1e-14 and 1e-10 × 1e-10, rounded
 abbrev pub toleranceSquared : Float
 toleranceSquared = mul binary64 tolerance tolerance
+
+abbrev pub hermiticitySquared : Float
+hermiticitySquared = mul binary64 hermiticityTolerance hermiticityTolerance
 
 -- x without its sign, by a comparison with 0. Of the two zeros each is its own magnitude.
 unfoldable pub magnitude : Float → Float
 magnitude x = cond (lt x float0) (neg x) x
+
+unfoldable pub largerFloat : Float → Float → Float
+largerFloat x y = cond (lt x y) y x
 
 abbrev pub floats : Numbers
 floats = record {
@@ -43,7 +52,9 @@ floats = record {
   small = λ x. le x toleranceSquared;
   slight = λ x. le (magnitude x) tolerance;
   slighter = λ x largest. le x (mul binary64 toleranceSquared largest);
+  near = λ x largest. le x (mul binary64 hermiticitySquared (largerFloat float1 largest));
   isZero = λ x. eq x float0;
+  larger = largerFloat;
 }
 
 -- a complex number of the code

@@ -3,6 +3,7 @@
 
 -- Numbers, and complex numbers over them. What is defined over any Numbers is one text for two arithmetics.
 use mathlib.Core.Bool.{Bool}
+use mathlib.Core.List.{List, [], _∷_}
 use Prim.Native.Nat.{ℕ, zero, suc}
 
 pub record Numbers : Type 1 where
@@ -20,8 +21,12 @@ pub record Numbers : Type 1 where
   pub slight : Num → Bool
   -- a squared magnitude of at most (1e-14 × 1e-14) × the largest one
   pub slighter : Num → Num → Bool
+  -- a squared magnitude of at most (1e-10 × 1e-10) × the larger of 1 and the largest one
+  pub near : Num → Num → Bool
   -- equal to 0
   pub isZero : Num → Bool
+  -- the larger of two
+  pub larger : Num → Num → Num
 
 -- a complex number: its real and its imaginary part
 pub record Cx (N : Numbers) : Type 0 where
@@ -30,6 +35,9 @@ pub record Cx (N : Numbers) : Type 0 where
 
 unfoldable pub addC : (N : Numbers) → Cx N → Cx N → Cx N
 addC N x y = record { re = N .plus (x .re) (y .re); im = N .plus (x .im) (y .im) }
+
+unfoldable pub subC : (N : Numbers) → Cx N → Cx N → Cx N
+subC N x y = record { re = N .less (x .re) (y .re); im = N .less (x .im) (y .im) }
 
 unfoldable pub negC : (N : Numbers) → Cx N → Cx N
 negC N x = record { re = N .opposite (x .re); im = N .opposite (x .im) }
@@ -54,6 +62,14 @@ realC N x = record { re = x; im = N .nought }
 -- re·re + im·im
 abbrev pub square : (N : Numbers) → Cx N → N .Num
 square N x = N .plus (N .times (x .re) (x .re)) (N .times (x .im) (x .im))
+
+-- the largest squared magnitude in a list, or a number that is larger
+unfoldable pub largestFrom : (N : Numbers) → N .Num → List (Cx N) → N .Num
+largestFrom N big [] = big
+largestFrom N big (z ∷ l) = largestFrom N (N .larger big (square N z)) l
+
+abbrev pub largestOver : (N : Numbers) → List (Cx N) → N .Num
+largestOver N l = largestFrom N (N .nought) l
 
 -- i^n for n from 0 to 3: 1, i, −1, −i
 unfoldable pub unitC : (N : Numbers) → ℕ → Cx N

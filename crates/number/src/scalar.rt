@@ -5,7 +5,7 @@
 // order in which it is written, so that every sum and product is the same bit for bit everywhere.
 ghost use mathlib.Core.Path.{_≡_};
 ghost use Prim.Native.Nat.{_%_};
-ghost use Rattle.number.specs.Numbers.{addC, negC, mulC, conjC, realC, square, unitC};
+ghost use Rattle.number.specs.Numbers.{addC, subC, negC, mulC, conjC, realC, square, unitC};
 ghost use Rattle.number.specs.Floats.{floats, cx, magnitude, isFinite, inRange, bounded};
 
 #[repr(C)]
@@ -16,6 +16,9 @@ pub struct Complex {
 
 // Coefficients up to this magnitude are as good as 0.
 const COEFF_DROP_TOL: f64 = 1e-14;
+
+// The same for an entry of K beside its mirror entry.
+const HERMITICITY_TOL: f64 = 1e-10;
 
 // 2^-200 and 2^200, the range of numbers given, and 2^620, the bound of compiled ones.
 const LEAST: f64 = 6.223015277861142e-61;
@@ -30,6 +33,15 @@ pub fn add(a: Complex, b: Complex) -> Complex
     Complex {
         re: a.re + b.re,
         im: a.im + b.im,
+    }
+}
+
+pub fn sub(a: Complex, b: Complex) -> Complex
+    ensures { λ r. ⌜ cx r ≡ subC floats (cx a) (cx b) ⌝ }
+{
+    Complex {
+        re: a.re - b.re,
+        im: a.im - b.im,
     }
 }
 
@@ -110,6 +122,19 @@ pub fn negligible_beside(square: f64, largest: f64) -> bool
     ensures { λ r. ⌜ r ≡ floats .slighter square largest ⌝ }
 {
     square <= COEFF_DROP_TOL * COEFF_DROP_TOL * largest
+}
+
+pub fn larger(x: f64, y: f64) -> f64
+    ensures { λ r. ⌜ r ≡ floats .larger x y ⌝ }
+{
+    if x < y { y } else { x }
+}
+
+// Whether a difference with this squared magnitude is as good as 0 beside the largest one, or 1.
+pub fn near(square: f64, largest: f64) -> bool
+    ensures { λ r. ⌜ r ≡ floats .near square largest ⌝ }
+{
+    square <= HERMITICITY_TOL * HERMITICITY_TOL * larger(1.0, largest)
 }
 
 // Whether a number with this magnitude is as good as 0.

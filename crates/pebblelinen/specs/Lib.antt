@@ -3,4 +3,5 @@
 
 -- What the exported functions answer, in plain numbers.
 pub mod Words
+pub mod Models
 pub mod Examples

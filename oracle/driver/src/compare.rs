@@ -6,6 +6,7 @@
 //! The port must give document 01's answer to every case. The Rust must give it too, but where the
 //! document lists a difference.
 
+mod models;
 mod words;
 
 use std::fmt::Debug;
@@ -117,7 +118,8 @@ impl Tally {
 
 /// Compares all operations and prints what was found. Fails on a disagreement.
 pub fn run(seed: u64, cases: usize) -> ExitCode {
-    let tallies = words::compare(seed, cases);
+    let mut tallies = words::compare(seed, cases);
+    tallies.extend(models::compare(seed, cases / 5));
 
     println!("operation            cases disagreements  expected port alone");
     tallies.iter().for_each(Tally::print);

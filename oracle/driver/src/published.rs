@@ -3,6 +3,8 @@
 
 //! The published Rust, asked and answering in the port's structs.
 
+pub mod models;
+
 use crate::port::{Commutator, Parsed, Phased, Status, Word};
 use ppvm_lindblad::{Error, W_CHUNKS, open};
 
@@ -29,7 +31,9 @@ fn status(error: &Error) -> Status {
         Error::WrongLength { expected, got } => (2, expected as u64, got as u64),
         Error::InvalidPauliChar { c } => (3, c as u64, 0),
         Error::InvalidPauliCode { code } => (4, code as u64, 0),
-        _ => unreachable!("no error of words: {error:?}"),
+        Error::NegativeRate { index, .. } => (5, index as u64, 0),
+        Error::EmptyLincomb { index } => (6, index as u64, 0),
+        _ => unreachable!("no error of words and models: {error:?}"),
     };
     Status {
         refusal,

@@ -7,6 +7,8 @@
 //! the Rust cannot be asked. A word is taken apart into its letters first; only `order` looks at
 //! lanes.
 
+pub mod models;
+
 use crate::port::{Commutator, Parsed, Phased, Status, Word};
 use std::cmp::Ordering;
 

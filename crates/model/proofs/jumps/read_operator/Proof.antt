@@ -30,10 +30,10 @@ complex-at-requires : tie.Need-complex-at-requires Inv-loop μ-loop
 complex-at-requires c κs = omega (arith, c .before .before .before .before .before .before .before .before .before .before .pre .0 .two, c .before .before .before .loop-test .taken)
 
 set-word-requires : tie.Need-set-word-requires Inv-loop μ-loop
-set-word-requires c κs = omega (arith, c .before .before .before .before .before .before .before .before .before .before .before .before .pre .1 .lanes-long, c .before .before .before .before .before .before .before .before .before .before .before .before .pre .1 .few, c .before .before .before .before .before .before .loop .inv .lanes-same, c .before .before .before .before .before .loop-test .taken)
+set-word-requires c κs = omega (arith, c .before .before .before .before .before .before .before .before .before .before .before .before .pre .1 .lanes-long, c .before .before .before .before .before .before .loop .inv .lanes-same, c .before .before .before .before .before .loop-test .taken)
 
 set-complex-requires : tie.Need-set-complex-requires Inv-loop μ-loop
-set-complex-requires c κs = omega (arith, c .before .before .before .before .before .before .before .before .before .before .before .before .before .before .before .before .pre .1 .numbers-long, c .before .before .before .before .before .before .before .before .before .before .before .before .before .before .before .before .pre .1 .few, c .before .before .before .before .before .before .before .before .before .before .loop .inv .numbers-same, c .before .before .before .before .before .before .before .before .before .loop-test .taken)
+set-complex-requires c κs = omega (arith, c .before .before .before .before .before .before .before .before .before .before .before .before .before .before .before .before .pre .1 .numbers-long, c .before .before .before .before .before .before .before .before .before .before .loop .inv .numbers-same, c .before .before .before .before .before .before .before .before .before .loop-test .taken)
 
 add-at : tie.Need-add-at Inv-loop μ-loop
 add-at c = let a = c .before .before .before .before .before .before .before .before .before .before .before .before .before .before .before .before .before .before .before .args in omega (arith, text-inside (a .n-qubits) (a .lengths .now) (a .texts .now) (a .numbers .now) (a .words .now) (a .sums .now) (c .before .before .before .before .before .before .before .before .before .before .before .before .before .before .before .before .before .before .before .pre .0) (c .before .before .before .before .before .before .before .before .before .before .before .before .before .before .before .before .before .before .before .pre .1) (c .before .before .before .before .before .before .before .before .before .before .before .before .before .loop .words) (c .before .before .before .before .before .before .before .before .before .before .before .before .before .loop .words) (c .before .before .before .before .before .before .before .before .before .before .before .before .before .loop .sums) (c .before .before .before .before .before .before .before .before .before .before .before .before .before .loop .sums) (c .before .before .before .before .before .before .before .before .before .before .before .before .before .loop .at) (c .before .before .before .before .before .before .before .before .before .before .before .before .before .loop .i) (c .before .before .before .before .before .before .before .before .before .before .before .before .before .loop .inv) (c .before .before .before .before .before .before .before .before .before .before .before .before .loop-test .taken))

@@ -1,0 +1,16 @@
+-- SPDX-FileCopyrightText: 2026 The PPVM Authors
+-- SPDX-License-Identifier: Apache-2.0
+
+-- What a builder answers and leaves in the lent tables, part by part. Assumes nothing.
+use mathlib.Core.Path.{_≡_, ap, _∙_}
+use Rattle.model.specs.Built.{Building}
+use Rattle.pebblelinen.specs.Models.{builtOf, Leaves}
+use Rattle.pebblelinen.specs.declared.models.BuiltModel.{BuiltModel}
+
+pub leaves : (b made : Building) (r : BuiltModel) → r ≡ builtOf (made .answer) → made ≡ b → Leaves b r (made .tables) (made .workWords) (made .workNumbers)
+leaves b made r a e = record {
+  answers = a ∙ ap (λ (x : Building). builtOf (x .answer)) e;
+  tables-are = ap (λ (x : Building). x .tables) e;
+  work-words = ap (λ (x : Building). x .workWords) e;
+  work-numbers = ap (λ (x : Building). x .workNumbers) e;
+}

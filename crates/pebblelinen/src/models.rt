@@ -1,0 +1,217 @@
+// SPDX-FileCopyrightText: 2026 The PPVM Authors
+// SPDX-License-Identifier: Apache-2.0
+
+// Models: built in lent tables, tested where one is lent, and the lengths that are enough.
+ghost use mathlib.Core.Path.{_≡_};
+ghost use Prim.Native.Nat.{_+_, _*_, _/_, _≤_, _<_};
+ghost use Rattle.refusal.specs.Cause.{answerStatus};
+ghost use Rattle.model.specs.Built.{build};
+ghost use Rattle.model.specs.Tested.{testModel};
+ghost use Rattle.kossakowski.specs.Added.{add};
+ghost use Rattle.pebblelinen.specs.Models.{builtOf, Leaves, lengthsOf, modelSizes, matrixSizes};
+use kossakowski::check::MAX_OPERATORS;
+use model::items::MAX_TERMS;
+use model::lengths::WORK_PLACES;
+use model::product::SUM_PLACES;
+use model::spec::Built;
+use model::tables::Model;
+use model::test::MAX_HAMILTONIAN;
+use model::test::MAX_JUMPS;
+use model::test::smaller;
+use refusal::Refusal;
+use refusal::Status;
+
+// A model that was built; all its counts are 0 where the status is a refusal.
+#[repr(C)]
+pub struct BuiltModel {
+    pub status: Status,
+    pub model: Model,
+}
+
+fn built_of(answer: Built) -> BuiltModel
+    ensures { λ r. ⌜ r ≡ builtOf answer ⌝ }
+{
+    match answer {
+        Built::Model(model) => BuiltModel {
+            status: Status {
+                refusal: 0,
+                first: 0,
+                second: 0,
+            },
+            model,
+        },
+        Built::Refused(refusal) => BuiltModel {
+            status: refusal::status_of(refusal),
+            model: Model {
+                qubits: 0,
+                hamiltonian: 0,
+                jumps: 0,
+                terms: 0,
+            },
+        },
+    }
+}
+
+#[no_mangle]
+pub extern "C" fn pebblelinen_build_model(
+    texts: &[u8],
+    lengths: &[u64],
+    h_numbers: &[f64],
+    given: &[f64],
+    counts: &[u64],
+    numbers: &[f64],
+    n_qubits: usize,
+    h_words: &mut [u64],
+    h_coeffs: &mut [f64],
+    jumps: &mut [u64],
+    rates: &mut [f64],
+    t_words: &mut [u64],
+    t_numbers: &mut [f64],
+    work_words: &mut [u64],
+    work_numbers: &mut [f64],
+) -> BuiltModel
+    ensures { λ r. ⌜ Leaves (build «n_qubits» (record { texts = now (texts .entry); lengths = now (lengths .entry); hNumbers = now («h_numbers» .entry); rates = now (given .entry); counts = now (counts .entry); numbers = now (numbers .entry) }) (record { hWords = now («h_words» .entry); hCoeffs = now («h_coeffs» .entry); jumps = now (jumps .entry); rates = now (rates .entry); tWords = now («t_words» .entry); tNumbers = now («t_numbers» .entry) }) (now («work_words» .entry)) (now («work_numbers» .entry))) r (record { hWords = now («h_words» .exit); hCoeffs = now («h_coeffs» .exit); jumps = now (jumps .exit); rates = now (rates .exit); tWords = now («t_words» .exit); tNumbers = now («t_numbers» .exit) }) (now («work_words» .exit)) (now («work_numbers» .exit)) ⌝ }
+{
+    built_of(model::spec::build_model(
+        texts,
+        lengths,
+        h_numbers,
+        given,
+        counts,
+        numbers,
+        n_qubits,
+        h_words,
+        h_coeffs,
+        jumps,
+        rates,
+        t_words,
+        t_numbers,
+        work_words,
+        work_numbers,
+    ))
+}
+
+#[no_mangle]
+pub extern "C" fn pebblelinen_add_kossakowski(
+    model: Model,
+    texts: &[u8],
+    lengths: &[u64],
+    counts: &[u64],
+    numbers: &[f64],
+    k: &[f64],
+    h_words: &[u64],
+    h_coeffs: &[f64],
+    jumps: &mut [u64],
+    rates: &mut [f64],
+    t_words: &mut [u64],
+    t_numbers: &mut [f64],
+    work_words: &mut [u64],
+    work_numbers: &mut [f64],
+) -> BuiltModel
+    ensures { λ r. ⌜ Leaves (add model (record { texts = now (texts .entry); lengths = now (lengths .entry); counts = now (counts .entry); numbers = now (numbers .entry); k = now (k .entry) }) (record { hWords = now («h_words» .entry); hCoeffs = now («h_coeffs» .entry); jumps = now (jumps .entry); rates = now (rates .entry); tWords = now («t_words» .entry); tNumbers = now («t_numbers» .entry) }) (now («work_words» .entry)) (now («work_numbers» .entry))) r (record { hWords = now («h_words» .entry); hCoeffs = now («h_coeffs» .entry); jumps = now (jumps .exit); rates = now (rates .exit); tWords = now («t_words» .exit); tNumbers = now («t_numbers» .exit) }) (now («work_words» .exit)) (now («work_numbers» .exit)) ⌝ }
+{
+    built_of(kossakowski::kossakowski::add_kossakowski(
+        model,
+        texts,
+        lengths,
+        counts,
+        numbers,
+        k,
+        h_words,
+        h_coeffs,
+        jumps,
+        rates,
+        t_words,
+        t_numbers,
+        work_words,
+        work_numbers,
+    ))
+}
+
+#[no_mangle]
+pub extern "C" fn pebblelinen_test_model(
+    model: Model,
+    h_words: &[u64],
+    h_coeffs: &[f64],
+    jumps: &[u64],
+    rates: &[f64],
+    t_words: &[u64],
+    t_numbers: &[f64],
+) -> Status
+    ensures { λ r. ⌜ r ≡ answerStatus (testModel model (record { hWords = now («h_words» .entry); hCoeffs = now («h_coeffs» .entry); jumps = now (jumps .entry); rates = now (rates .entry); tWords = now («t_words» .entry); tNumbers = now («t_numbers» .entry) })) ⌝ }
+{
+    refusal::answer_status(model::test::test_model(
+        model,
+        h_words,
+        h_coeffs,
+        jumps,
+        rates,
+        t_words,
+        t_numbers,
+    ))
+}
+
+// The lengths of slices.
+#[repr(C)]
+pub struct Sizes {
+    pub h_words: usize,
+    pub h_coeffs: usize,
+    pub jumps: usize,
+    pub rates: usize,
+    pub t_words: usize,
+    pub t_numbers: usize,
+    pub work_words: usize,
+    pub work_numbers: usize,
+}
+
+// The lengths for so many places of each table. No table of this library has more than 2^32.
+fn lengths_of(hamiltonian: usize, jumps: usize, terms: usize, work: usize) -> Sizes
+    requires { ⌜ (hamiltonian < 4294967296) × (jumps < 4294967296) × (terms < 4294967296) × (work < 4294967296) ⌝ }
+    ensures { λ r. ⌜ r ≡ lengthsOf hamiltonian jumps terms work ⌝ }
+{
+    Sizes {
+        h_words: 4 * hamiltonian,
+        h_coeffs: hamiltonian,
+        jumps: 8 * jumps,
+        rates: jumps,
+        t_words: 4 * terms,
+        t_numbers: 2 * terms,
+        work_words: 4 * work,
+        work_numbers: 2 * work,
+    }
+}
+
+fn model_lengths(h: usize, j: usize, c: usize) -> Sizes
+    requires { ⌜ (h ≤ 4096) × (j ≤ 4096) × (c ≤ 16) ⌝ }
+    ensures { λ r. ⌜ r ≡ lengthsOf h j (j * (c + c * c)) 272 ⌝ }
+{
+    lengths_of(h, j, j * (c + c * c), WORK_PLACES)
+}
+
+#[no_mangle]
+pub extern "C" fn pebblelinen_model_sizes(hamiltonian: usize, jumps: usize, terms: usize) -> Sizes
+    ensures { λ r. ⌜ r ≡ modelSizes hamiltonian jumps terms ⌝ }
+{
+    let h = smaller(hamiltonian, MAX_HAMILTONIAN);
+    let j = smaller(jumps, MAX_JUMPS);
+    let c = smaller(terms, MAX_TERMS);
+    model_lengths(h, j, c)
+}
+
+fn matrix_lengths(k: usize, c: usize) -> Sizes
+    requires { ⌜ (k ≤ 64) × (c ≤ 16) ⌝ }
+    ensures { λ r. ⌜ r ≡ lengthsOf 0 (k * (k + 1) / 2) (k * c + k * (k + 1) / 2 * (2 * (c * c))) (256 + k * c) ⌝ }
+{
+    let pairs = k * (k + 1) / 2;
+    let given = k * c;
+    lengths_of(0, pairs, given + pairs * (2 * (c * c)), SUM_PLACES + given)
+}
+
+#[no_mangle]
+pub extern "C" fn pebblelinen_matrix_sizes(operators: usize, terms: usize) -> Sizes
+    ensures { λ r. ⌜ r ≡ matrixSizes operators terms ⌝ }
+{
+    let k = smaller(operators, MAX_OPERATORS);
+    let c = smaller(terms, MAX_TERMS);
+    matrix_lengths(k, c)
+}
