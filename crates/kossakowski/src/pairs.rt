@@ -5,9 +5,8 @@
 // the sums: a factor for each term of the left operator with each of the right one, then the thinned
 // product after K. They are counted, then stored.
 ghost use mathlib.Core.Path.{_≡_};
-ghost use mathlib.Core.List.{List, map};
-ghost use Prim.Native.Nat.{ℕ, _+_, _*_, _<_, _≤_};
-ghost use lib.Ieee.{Float};
+ghost use mathlib.Core.List.{map};
+ghost use Prim.Native.Nat.{ℕ, _+_, _<_, _≤_};
 ghost use lib.ListN.{length};
 ghost use Rattle.number.specs.Floats.{cx};
 ghost use Rattle.table.specs.Numbers.{complexes};
@@ -209,8 +208,10 @@ pub fn count_terms(
             let left = operator_range(256, counts, p / ops);
             let right = operator_range(256, counts, p % ops);
             kept += count_pair(words, sums, left, right);
+            p += 1;
+        } else {
+            p += 1;
         }
-        p += 1;
     }
     kept
 }
@@ -259,7 +260,9 @@ pub fn store_pairs(
                 t_numbers,
             );
             j += 1;
+            p += 1;
+        } else {
+            p += 1;
         }
-        p += 1;
     }
 }

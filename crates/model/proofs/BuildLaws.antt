@@ -38,10 +38,10 @@ use Rattle.model.proofs.ItemAnswers.{terms-count}
 use Rattle.model.proofs.TakenLaws.{reals-taken, jumps-taken, jumps-few}
 
 -- ---- one test passed
-refused-not : (r : Refusal) → Refused r ≡ Accepted → ⊥
+pub refused-not : (r : Refusal) → Refused r ≡ Accepted → ⊥
 refused-not r e = let z : _≡_ {A = ℕ} 0 1 = cc in omega arith
 
-refused-same : (r s : Refusal) → Refused r ≡ Refused s → r ≡ s
+pub refused-same : (r s : Refusal) → Refused r ≡ Refused s → r ≡ s
 refused-same r s e = cc
 
 kept : (b : Bool) (r : Refusal) (after : Answer) → cond b after (Refused r) ≡ Accepted → (b ≡ true) × (after ≡ Accepted)
@@ -52,11 +52,11 @@ pub passed : (b : Bool) (r : Refusal) (after : Answer) → cond b (Refused r) af
 passed true r after e = absurd (refused-not r e)
 passed false r after e = (refl, e)
 
-both : (a after : Answer) → andThen a after ≡ Accepted → (a ≡ Accepted) × (after ≡ Accepted)
+pub both : (a after : Answer) → andThen a after ≡ Accepted → (a ≡ Accepted) × (after ≡ Accepted)
 both Accepted after e = (refl, e)
 both (Refused r) after e = absurd (refused-not r e)
 
-equal-passed : (needed have : ℕ) (after : Answer) → equal needed have after ≡ Accepted → (have ≡ needed) × (after ≡ Accepted)
+pub equal-passed : (needed have : ℕ) (after : Answer) → equal needed have after ≡ Accepted → (have ≡ needed) × (after ≡ Accepted)
 equal-passed needed have after e =
     let k = kept (eqb have needed) (LengthMismatch needed have) after e in
     (eqb-true have needed (k .0), k .1)

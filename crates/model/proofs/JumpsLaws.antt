@@ -128,7 +128,7 @@ pub terms-turn : (c : Compiled) (rest : List Compiled) → length (termsOf (c �
 unfolding termsOf
 terms-turn c rest = length-append (c .terms) (termsOf rest)
 
-terms-end : length (termsOf []) ≡ 0
+pub terms-end : length (termsOf []) ≡ 0
 unfolding termsOf
 terms-end = refl
 

@@ -57,7 +57,7 @@ unfolding pairsOver
 pairs-few f [] B h = omega arith
 pairs-few f (a ∷ A) B h = omega (arith, length-append (map (f a) B) (pairsOver floats pauli f A B), length-map B (f a), pairs-few f A B h)
 
-without-fewer : (p : Term → Bool) (T : List Term) → length (withoutOver floats pauli p T) ≤ length T
+pub without-fewer : (p : Term → Bool) (T : List Term) → length (withoutOver floats pauli p T) ≤ length T
 unfolding withoutOver
 without-fewer p [] = omega arith
 without-fewer p (t ∷ T) = step (p t) (without-fewer p T)

@@ -100,7 +100,7 @@ module _ {A : Type 0} where
       rw (add-one i, drop-cons ns i 0 h)
       (ap (λ (r : List A). take (getD ns i 0) (drop p l) ∷ parts (drop (suc i) ns) r) (drop-drop (getD ns i 0) p l))
 
-  parts-end : (ns : List ℕ) (l : List A) (i : ℕ) → length ns ≤ i → parts (drop i ns) l ≡ []
+  pub parts-end : (ns : List ℕ) (l : List A) (i : ℕ) → length ns ≤ i → parts (drop i ns) l ≡ []
   unfolding parts
   parts-end ns l i h = ap (λ (r : List ℕ). parts r l) (drop-of-length-le ns h)
 
@@ -212,15 +212,15 @@ drop-terms (suc k) (t ∷ ts) (x ∷ xs) = drop-terms k ts xs
 -- ---- jumps, each of so many terms
 module _ (ns l : List ℕ) (xs : List Float) (t p : ℕ) where
   -- the terms that are left at place t, whose texts start at place p
-  abbrev termsFrom : List GivenTerm
+  abbrev pub termsFrom : List GivenTerm
   termsFrom = termItems (parts (drop t ns) (drop p l)) (complexes (drop (2 * t) xs))
 
-  take-terms-from : (k : ℕ) → take k termsFrom ≡ termItems (parts (take k (drop t ns)) (drop p l)) (complexes (take (2 * k) (drop (2 * t) xs)))
+  pub take-terms-from : (k : ℕ) → take k termsFrom ≡ termItems (parts (take k (drop t ns)) (drop p l)) (complexes (take (2 * k) (drop (2 * t) xs)))
   take-terms-from k =
       take-terms k (parts (drop t ns) (drop p l)) (complexes (drop (2 * t) xs))
       ∙ ap₂ termItems (take-parts k (drop t ns) (drop p l)) (take-complexes k (drop (2 * t) xs))
 
-  drop-terms-from : (k : ℕ)
+  pub drop-terms-from : (k : ℕ)
       → drop k termsFrom ≡ termItems (parts (drop (t + k) ns) (drop (p + total (take k (drop t ns))) l)) (complexes (drop (2 * (t + k)) xs))
   drop-terms-from k =
       let e : 2 * t + 2 * k ≡ 2 * (t + k) = omega arith in

@@ -226,7 +226,7 @@ module _ (f : Onto floats pauli → Onto floats pauli) (len start end : ℕ) (la
         subst (λ (k : ℕ). Forms (map f (termsIn lanes₀ numbers₀ start k)) len lanes₀ numbers₀ count lanes numbers) e (s .forms)
 
 -- ---- the products of each term of A with each of B
-pairs-more : (f : Onto floats pauli → Onto floats pauli → Onto floats pauli) (A : List (Onto floats pauli)) (a : Onto floats pauli) (B : List (Onto floats pauli))
+pub pairs-more : (f : Onto floats pauli → Onto floats pauli → Onto floats pauli) (A : List (Onto floats pauli)) (a : Onto floats pauli) (B : List (Onto floats pauli))
     → pairsOver floats pauli f (A ++ (a ∷ [])) B ≡ pairsOver floats pauli f A B ++ map (f a) B
 unfolding pairsOver
 pairs-more f [] a B = append-nil (map (f a) B)

@@ -1,0 +1,80 @@
+-- SPDX-FileCopyrightText: 2026 The PPVM Authors
+-- SPDX-License-Identifier: Apache-2.0
+
+-- The lengths of a matrix and its operators: where the input's own agree, what the lent tables answer is the answer; where
+-- all agree, each of them is what is needed. Assumes nothing.
+use mathlib.Core.Path.{_≡_, ap, _∙_}
+use mathlib.Core.List.{List}
+use Prim.Native.Nat.{ℕ, _+_, _*_, _/_, _≤_, min}
+use native.Mathlib.Numerals.{add-one}
+use native.Mathlib.Omega.{arith}
+use borrow.Author.Tests.{eq-eqb}
+use lib.Ieee.{Float}
+use lib.ListN.{length}
+use Rattle.refusal.specs.declared.Answer.{Answer}
+use Rattle.refusal.specs.declared.Answer.the-variants.{Accepted}
+use Rattle.model.specs.Stored.{Tables}
+use Rattle.model.specs.Tested.{maxJumps, lent}
+use Rattle.model.specs.Items.{total}
+use Rattle.model.specs.Built.{partsFit}
+use Rattle.model.specs.declared.tables.Model.{Model}
+use Rattle.model.proofs.Parts.{fit-total}
+use Rattle.model.proofs.BuildLaws.{both, equal-passed, lent-passed}
+use Rattle.kossakowski.specs.Added.{Input, operators, entriesNeeded, workNeeded, lengthsAnswer}
+
+-- ---- lengths that agree
+pub record LengthsFit (m : Model) (i : Input) (t : Tables) (workWords : List ℕ) (workNumbers : List Float) : Type 0 where
+  pub entries-all : length (i .k) ≡ 2 * (operators i * operators i)
+  pub terms-counted : total (i .counts) ≡ length (i .lengths)
+  pub numbers-two : length (i .numbers) ≡ 2 * length (i .lengths)
+  pub texts-whole : total (i .lengths) ≤ length (i .texts)
+  pub jumps-room : entriesNeeded m (operators i) ≤ length (t .jumps) / 8
+  pub rates-room : entriesNeeded m (operators i) ≤ length (t .rates)
+  pub work-words-room : 256 + length (i .lengths) ≤ length workWords / 4
+  pub work-numbers-room : 256 + length (i .lengths) ≤ length workNumbers / 2
+
+module _ (m : Model) (i : Input) (t : Tables) (workWords : List ℕ) (workNumbers : List Float) where
+  abbrev terms : ℕ
+  terms = length (i .numbers) / 2
+
+  -- what the lent tables answer, where so many entries are needed
+  abbrev pub tablesAnswer : ℕ → Answer
+  tablesAnswer needed =
+      lent needed (length (t .jumps) / 8)
+      (lent needed (length (t .rates))
+      (lent (workNeeded terms) (length workWords / 4)
+      (lent (workNeeded terms) (length workNumbers / 2)
+      Accepted)))
+
+  pub own-agree : length (i .k) / 2 ≡ operators i * operators i → length (i .k) ≡ operators i * operators i * 2
+      → length (i .lengths) ≡ terms → length (i .numbers) ≡ terms * 2
+      → partsFit (i .counts) terms ≡ Accepted → partsFit (i .lengths) (length (i .texts)) ≡ Accepted
+      → (needed : ℕ) → needed ≡ min maxJumps (m .jumps + operators i * (operators i + 1) / 2) → lengthsAnswer m i t workWords workNumbers ≡ tablesAnswer needed
+  unfolding lengthsAnswer
+  own-agree h k l x byCounts byLengths needed e =
+      let n : needed ≡ entriesNeeded m (operators i) = e ∙ ap (λ (s : ℕ). min maxJumps (m .jumps + operators i * s / 2)) (add-one (operators i)) in
+      rw (n, eq-eqb _ _ h, eq-eqb _ _ k, eq-eqb _ _ l, eq-eqb _ _ x, byCounts, byLengths)
+
+  pub lengths-fit : lengthsAnswer m i t workWords workNumbers ≡ Accepted → LengthsFit m i t workWords workNumbers
+  unfolding lengthsAnswer
+  lengths-fit e =
+      let e1 = equal-passed (operators i * operators i) (length (i .k) / 2) _ e in
+      let e2 = equal-passed (operators i * operators i * 2) (length (i .k)) _ (e1 .1) in
+      let e3 = equal-passed terms (length (i .lengths)) _ (e2 .1) in
+      let e4 = equal-passed (terms * 2) (length (i .numbers)) _ (e3 .1) in
+      let e5 = both (partsFit (i .counts) terms) _ (e4 .1) in
+      let e6 = both (partsFit (i .lengths) (length (i .texts))) _ (e5 .1) in
+      let e7 = lent-passed (entriesNeeded m (operators i)) (length (t .jumps) / 8) _ (e6 .1) in
+      let e8 = lent-passed (entriesNeeded m (operators i)) (length (t .rates)) _ (e7 .1) in
+      let e9 = lent-passed (workNeeded terms) (length workWords / 4) _ (e8 .1) in
+      let e10 = lent-passed (workNeeded terms) (length workNumbers / 2) _ (e9 .1) in
+      record {
+        entries-all = omega (arith, e2 .0);
+        terms-counted = omega (arith, fit-total (i .counts) terms (e5 .0), e3 .0);
+        numbers-two = omega (arith, e4 .0, e3 .0);
+        texts-whole = omega (arith, fit-total (i .lengths) (length (i .texts)) (e6 .0));
+        jumps-room = e7 .0;
+        rates-room = e8 .0;
+        work-words-room = omega (arith, e9 .0, e3 .0);
+        work-numbers-room = omega (arith, e10 .0, e3 .0);
+      }
