@@ -35,15 +35,15 @@ module _ {A : Type 0} where
   refused-not : (r : Refusal) (a : A) → refused r ≡ got a → ⊥
   refused-not r a e = let z : _≡_ {A = ℕ} 0 1 = cc in omega arith
 
-  got-is : (a b : A) → got a ≡ got b → b ≡ a
+  pub got-is : (a b : A) → got a ≡ got b → b ≡ a
   got-is a b e = cc
 
-  refuse-got : (t : Bool) (r : Refusal) (x : Read A) (a : A) → refuseIf t r x ≡ got a → (t ≡ false) × (x ≡ got a)
+  pub refuse-got : (t : Bool) (r : Refusal) (x : Read A) (a : A) → refuseIf t r x ≡ got a → (t ≡ false) × (x ≡ got a)
   refuse-got true r x a e = absurd (refused-not r a e)
   refuse-got false r x a e = (refl, e)
 
 module _ {A B : Type 0} where
-  onward-got : (x : Read A) (f : A → Read B) (b : B) → onward x f ≡ got b → (a : A) × (x ≡ got a) × (f a ≡ got b)
+  pub onward-got : (x : Read A) (f : A → Read B) (b : B) → onward x f ≡ got b → (a : A) × (x ≡ got a) × (f a ≡ got b)
   onward-got (got a) f b e = (a, refl, e)
   onward-got (refused r) f b e = absurd (refused-not r b e)
 
@@ -101,7 +101,7 @@ terms-taken n j i gs ts e = each-taken (λ _. readTerm n j) (termTaken n) (λ _.
 
 -- ---- operators and jumps
 module _ (n i : ℕ) (gs : List GivenTerm) (op : List Term) (e : readOperator n i gs ≡ got op) where
-  operator-tested : (eqb (length gs) 0 ≡ false) × (ltb maxTerms (length gs) ≡ false) × (each (λ _. readTerm n i) 0 gs ≡ got op)
+  pub operator-tested : (eqb (length gs) 0 ≡ false) × (ltb maxTerms (length gs) ≡ false) × (each (λ _. readTerm n i) 0 gs ≡ got op)
   unfolding readOperator
   operator-tested =
       let some = refuse-got (eqb (length gs) 0) (EmptyLincomb i) _ op e in

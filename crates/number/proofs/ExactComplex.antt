@@ -26,7 +26,7 @@ less : {b c : ℕ} (z w : ℤ) → natAbs z ≤ b → natAbs w ≤ c → natAbs 
 unfolding _⊞_ neg
 less z w p q = le-trans (abs-minus z w) (add-le-add p q)
 
-times : {b c : ℕ} (z w : ℤ) → natAbs z ≤ b → natAbs w ≤ c → natAbs (z ⊠ w) ≤ b * c
+pub times : {b c : ℕ} (z w : ℤ) → natAbs z ≤ b → natAbs w ≤ c → natAbs (z ⊠ w) ≤ b * c
 unfolding _⊠_
 times z w p q = le-trans (le-of-eq (abs-mul z w)) (mul-le-mul p q)
 

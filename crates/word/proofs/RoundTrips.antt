@@ -44,6 +44,7 @@ no-word e = let z : _≡_ {A = ℕ} 0 1 = cc in omega arith
 -- ---- texts
 pub record Text (n : ℕ) (text : List ℕ) (w : Word) : Type 0 where
   pub whole : length (dropped text) ≡ n
+  pub sound : Sound w
   pub below : (q : ℕ) → q < n → letterAt w q ≡ codeOf (getD (dropped text) q 73)
   pub above : (q : ℕ) → n ≤ q → letterAt w q ≡ 0
 
@@ -101,7 +102,7 @@ module _ (n : ℕ) (text : List ℕ) (l : Lanes) (fits : n ≤ maxQubits) (whole
   all-letters h e =
       let below : (q : ℕ) → q < n → f q < 4 = λ q k. letter-code s q (omega arith) (none-before noLetter s h q (omega arith)) in
       let above : (q : ℕ) → n ≤ q → f q ≡ 0 = λ q k. past-letters s q (omega arith) in
-      record { whole = whole; below = its-letters f n fits below above l e; above = none-above f n fits below above l e }
+      record { whole = whole; sound = subst⁻¹ Sound (its-word f n fits below above l e) (sound-wordOf f); below = its-letters f n fits below above l e; above = none-above f n fits below above l e }
 
   letters-are : readLetters s ≡ Parsed l → Text n text (unpack l)
   unfolding readLetters

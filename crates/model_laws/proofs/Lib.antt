@@ -1,0 +1,19 @@
+-- SPDX-FileCopyrightText: 2026 The PPVM Authors
+-- SPDX-License-Identifier: Apache-2.0
+
+-- Laws of this crate.
+pub mod Lists
+pub mod LaidLaws
+pub mod StandsLaws
+pub mod JumpTests
+pub mod ExtendedLaws
+pub mod RelatedLaws
+pub mod WordsBelow
+pub mod FormedBounds
+pub mod ReadItems
+pub mod CompiledLaws
+pub mod BuiltLaws
+pub mod FormedExact
+pub mod ActionBounds
+pub mod TestedNumbers
+pub mod RuleBounds

@@ -1,0 +1,5 @@
+// SPDX-FileCopyrightText: 2026 The PPVM Authors
+// SPDX-License-Identifier: Apache-2.0
+
+// What building and testing a model promise together is proved in proofs/: a model that was built
+// passes the test, and so does one that stands with more laid after it. Nothing here runs.
