@@ -46,13 +46,14 @@ impl Items {
     }
 }
 
-/// A number within the range of model numbers: whole, near thinning, at the range's ends, or any.
+/// A number within the range of model numbers: whole, at the range's ends, any, or such that the
+/// product of an operator with one of its terms 1 has numbers at the tolerance of thinning.
 fn number(rng: &mut Rng) -> f64 {
     let size = match rng.below(8) {
         0 => 0.0,
         1..=3 => rng.below(5) as f64,
-        4 => 1e-7 * (1.0 + rng.below(3) as f64 * f64::EPSILON),
-        5 => rng.pick(&[2f64.powi(200), 2f64.powi(-200), 1e-8, 6e-15, 8e-15]),
+        4 => rng.pick(&[5e-15f64.next_down(), 5e-15, 5e-15f64.next_up(), 1e-7]),
+        5 => rng.pick(&[2f64.powi(200), 2f64.powi(-200), 6e-15, 8e-15]),
         _ => (rng.next() >> 11) as f64 * 2f64.powi(-50 - rng.below(8) as i32),
     };
     if rng.one_in(2) { size } else { -size }
