@@ -6,7 +6,8 @@
 
 use super::{EDGES, Rng, damage, letters};
 use crate::port::models::{Given, Lent, Model, Sizes};
-use crate::rules::models::{Complex, MAX_TERMS};
+use crate::rules::MAX_QUBITS;
+use crate::rules::models::{Complex, MAX_HAMILTONIAN, MAX_JUMPS, MAX_TERMS};
 
 /// What a model is built from, item by item: texts with their numbers, and rates with their terms.
 #[derive(Clone, Debug)]
@@ -120,6 +121,35 @@ pub fn sound(rng: &mut Rng) -> Items {
         n_qubits,
         hamiltonian,
         jumps,
+    }
+}
+
+/// The largest model of Hamiltonian items and general jumps of two terms. Words have letters on two
+/// neighbours, or every weight as likely as every other.
+pub fn largest(rng: &mut Rng, neighbours: bool) -> Items {
+    let n_qubits = MAX_QUBITS;
+    let text = |rng: &mut Rng| {
+        if !neighbours {
+            return letters(rng, n_qubits);
+        }
+        let mut text = vec![b'I'; n_qubits];
+        let qubit = rng.below(n_qubits - 1);
+        text[qubit] = rng.pick(b"XYZ");
+        text[qubit + 1] = rng.pick(b"IXYZ");
+        text
+    };
+    let number = |rng: &mut Rng| 1.0 + rng.below(1000) as f64 / 1024.0;
+    Items {
+        n_qubits,
+        hamiltonian: (0..MAX_HAMILTONIAN)
+            .map(|_| (text(rng), number(rng)))
+            .collect(),
+        jumps: (0..MAX_JUMPS)
+            .map(|_| {
+                let term = |rng: &mut Rng| (text(rng), (number(rng), number(rng)));
+                (number(rng), vec![term(rng), term(rng)])
+            })
+            .collect(),
     }
 }
 
