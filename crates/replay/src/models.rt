@@ -8,6 +8,7 @@
 //     refusal first second hamiltonian jumps terms
 //   6 the same
 // Numbers are recorded by their bits. Where building was refused, the recorded counts are 0.
+ghost use Prim.Native.Nat.{_≤_};
 use crate::read;
 use crate::read::Cursor;
 use crate::read::Filled;
@@ -17,7 +18,8 @@ use crate::tally;
 use crate::tally::Verdict;
 use pebblelinen::models::BuiltModel;
 
-// The places that there are for a slice of a case, and for a work table.
+// The places that there are for a slice of a case, and for a work table. What `build_lent` asks for
+// names the numbers too.
 const PLACES: usize = 288;
 
 const WORK_PLACES: usize = 1096;
@@ -48,7 +50,111 @@ fn judged_build(line: &[u8], c: Cursor, answer: BuiltModel) -> Verdict {
     tally::judged(agrees)
 }
 
-// A model is built from what was read, in tables whose lengths come next.
+// A model is built from what was read in these tables, and the answer is judged.
+fn build_in(
+    line: &[u8],
+    c: Cursor,
+    n_qubits: usize,
+    texts: &[u8],
+    lengths: &[u64],
+    h_numbers: &[f64],
+    given: &[f64],
+    counts: &[u64],
+    numbers: &[f64],
+    h_words: &mut [u64],
+    h_coeffs: &mut [f64],
+    jumps: &mut [u64],
+    rates: &mut [f64],
+    t_words: &mut [u64],
+    t_numbers: &mut [f64],
+    work_words: &mut [u64],
+    work_numbers: &mut [f64],
+) -> Verdict {
+    let answer = pebblelinen::models::pebblelinen_build_model(
+        texts,
+        lengths,
+        h_numbers,
+        given,
+        counts,
+        numbers,
+        n_qubits,
+        h_words,
+        h_coeffs,
+        jumps,
+        rates,
+        t_words,
+        t_numbers,
+        work_words,
+        work_numbers,
+    );
+    judged_build(line, c, answer)
+}
+
+// The lengths of the lent slices.
+struct Lengths {
+    h_words: usize,
+    h_coeffs: usize,
+    jumps: usize,
+    rates: usize,
+    t_words: usize,
+    t_numbers: usize,
+    work_words: usize,
+    work_numbers: usize,
+}
+
+// A model is built from what was read, in tables of these lengths.
+fn build_lent(
+    line: &[u8],
+    c: Cursor,
+    n_qubits: usize,
+    texts: &[u8],
+    lengths: &[u64],
+    h_numbers: &[f64],
+    given: &[f64],
+    counts: &[u64],
+    numbers: &[f64],
+    lent: Lengths,
+) -> Verdict
+    requires { ⌜ (lent .«h_words» ≤ 288) × (lent .«h_coeffs» ≤ 288) × (lent .jumps ≤ 288) × (lent .rates ≤ 288) × (lent .«t_words» ≤ 288) × (lent .«t_numbers» ≤ 288) × (lent .«work_words» ≤ 1096) × (lent .«work_numbers» ≤ 1096) ⌝ }
+{
+    let h_len = lent.h_words;
+    let coeffs_len = lent.h_coeffs;
+    let jumps_len = lent.jumps;
+    let rates_len = lent.rates;
+    let t_len = lent.t_words;
+    let numbers_len = lent.t_numbers;
+    let work_len = lent.work_words;
+    let sums_len = lent.work_numbers;
+    let mut h_words = [0u64; PLACES];
+    let mut h_coeffs = [0f64; PLACES];
+    let mut jumps = [0u64; PLACES];
+    let mut rates = [0f64; PLACES];
+    let mut t_words = [0u64; PLACES];
+    let mut t_numbers = [0f64; PLACES];
+    let mut work_words = [0u64; WORK_PLACES];
+    let mut work_numbers = [0f64; WORK_PLACES];
+    build_in(
+        line,
+        c,
+        n_qubits,
+        texts,
+        lengths,
+        h_numbers,
+        given,
+        counts,
+        numbers,
+        &mut h_words[0..h_len],
+        &mut h_coeffs[0..coeffs_len],
+        &mut jumps[0..jumps_len],
+        &mut rates[0..rates_len],
+        &mut t_words[0..t_len],
+        &mut t_numbers[0..numbers_len],
+        &mut work_words[0..work_len],
+        &mut work_numbers[0..sums_len],
+    )
+}
+
+// The lengths of the lent slices come next.
 fn build_given(
     line: &[u8],
     c: Cursor,
@@ -60,68 +166,75 @@ fn build_given(
     counts: &[u64],
     numbers: &[f64],
 ) -> Verdict {
-    let mut sizes = [0u64; 8];
-    let Filled::Whole(c1) = read::numbers(line, c, &mut sizes) else {
+    let Read::Number(h_words, c1) = read::number(line, c) else {
         return Verdict::Malformed;
     };
-    let h_len = sizes[0] as usize;
-    let coeffs_len = sizes[1] as usize;
-    let jumps_len = sizes[2] as usize;
-    let rates_len = sizes[3] as usize;
-    let t_len = sizes[4] as usize;
-    let numbers_len = sizes[5] as usize;
-    let work_len = sizes[6] as usize;
-    let sums_len = sizes[7] as usize;
-    if PLACES < h_len {
+    let Read::Number(h_coeffs, c2) = read::number(line, c1) else {
+        return Verdict::Malformed;
+    };
+    let Read::Number(jumps, c3) = read::number(line, c2) else {
+        return Verdict::Malformed;
+    };
+    let Read::Number(rates, c4) = read::number(line, c3) else {
+        return Verdict::Malformed;
+    };
+    let Read::Number(t_words, c5) = read::number(line, c4) else {
+        return Verdict::Malformed;
+    };
+    let Read::Number(t_numbers, c6) = read::number(line, c5) else {
+        return Verdict::Malformed;
+    };
+    let Read::Number(work_words, c7) = read::number(line, c6) else {
+        return Verdict::Malformed;
+    };
+    let Read::Number(work_numbers, c8) = read::number(line, c7) else {
+        return Verdict::Malformed;
+    };
+    if PLACES < h_words as usize {
         return Verdict::Malformed;
     }
-    if PLACES < coeffs_len {
+    if PLACES < h_coeffs as usize {
         return Verdict::Malformed;
     }
-    if PLACES < jumps_len {
+    if PLACES < jumps as usize {
         return Verdict::Malformed;
     }
-    if PLACES < rates_len {
+    if PLACES < rates as usize {
         return Verdict::Malformed;
     }
-    if PLACES < t_len {
+    if PLACES < t_words as usize {
         return Verdict::Malformed;
     }
-    if PLACES < numbers_len {
+    if PLACES < t_numbers as usize {
         return Verdict::Malformed;
     }
-    if WORK_PLACES < work_len {
+    if WORK_PLACES < work_words as usize {
         return Verdict::Malformed;
     }
-    if WORK_PLACES < sums_len {
+    if WORK_PLACES < work_numbers as usize {
         return Verdict::Malformed;
     }
-    let mut h_words = [0u64; PLACES];
-    let mut h_coeffs = [0f64; PLACES];
-    let mut jumps = [0u64; PLACES];
-    let mut rates = [0f64; PLACES];
-    let mut t_words = [0u64; PLACES];
-    let mut t_numbers = [0f64; PLACES];
-    let mut work_words = [0u64; WORK_PLACES];
-    let mut work_numbers = [0f64; WORK_PLACES];
-    let answer = pebblelinen::models::pebblelinen_build_model(
+    build_lent(
+        line,
+        c8,
+        n_qubits,
         texts,
         lengths,
         h_numbers,
         given,
         counts,
         numbers,
-        n_qubits,
-        &mut h_words[0..h_len],
-        &mut h_coeffs[0..coeffs_len],
-        &mut jumps[0..jumps_len],
-        &mut rates[0..rates_len],
-        &mut t_words[0..t_len],
-        &mut t_numbers[0..numbers_len],
-        &mut work_words[0..work_len],
-        &mut work_numbers[0..sums_len],
-    );
-    judged_build(line, c1, answer)
+        Lengths {
+            h_words: h_words as usize,
+            h_coeffs: h_coeffs as usize,
+            jumps: jumps as usize,
+            rates: rates as usize,
+            t_words: t_words as usize,
+            t_numbers: t_numbers as usize,
+            work_words: work_words as usize,
+            work_numbers: work_numbers as usize,
+        },
+    )
 }
 
 // What is given is read slice by slice, each with its length before it, into the places of the last
