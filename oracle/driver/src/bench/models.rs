@@ -4,12 +4,13 @@
 //! Models: building the largest one of Hamiltonian items and jumps.
 //!
 //! The Rust's items are made before the clock starts, and so are the port's tables. What the Rust
-//! built is dropped after the clock was read.
+//! built is dropped after the clock was read. To tell where the port's time goes, it is also timed
+//! on a last number that is refused, and on a terms table without places.
 
 use super::Side;
 use crate::inputs::Rng;
 use crate::inputs::models::{self as inputs, Items};
-use crate::port::models::{self as port, Model};
+use crate::port::models::{self as port, Built, Model};
 use crate::published::models::{RustItems, RustModel};
 
 const ROUNDS: usize = 100;
@@ -39,8 +40,15 @@ fn build(what: &str, rng: &mut Rng, neighbours: bool) -> bool {
     let sizes = port::model_sizes(hamiltonian.len(), jumps.len(), items.longest());
     let mut lent = inputs::lent(rng, sizes);
 
+    let mut wrong = given.clone();
+    *wrong.numbers.last_mut().expect("there are terms") = f64::NAN;
+    let mut without_places = lent.clone();
+    without_places.t_words.clear();
+
     let mut rust = Side::new("Rust");
     let mut port = Side::new("port");
+    let mut tests = Side::new("port, tests alone");
+    let mut counting = Side::new("port, tests and counting");
     for _ in 0..ROUNDS {
         let rust_digest = |model: &Result<RustModel, _>| match model {
             Ok(model) => digest(model.num_h_terms(), model.num_jump_terms()),
@@ -56,6 +64,12 @@ fn build(what: &str, rng: &mut Rng, neighbours: bool) -> bool {
                 digest(hamiltonian, jumps)
             },
         );
+        let refusal = |built: &Built| built.status.refusal;
+        tests.once(|| port::build_model(&wrong, *n_qubits, &mut lent), refusal);
+        counting.once(
+            || port::build_model(&given, *n_qubits, &mut without_places),
+            refusal,
+        );
     }
 
     println!(
@@ -65,8 +79,9 @@ fn build(what: &str, rng: &mut Rng, neighbours: bool) -> bool {
         jumps.len(),
         items.longest(),
     );
-    rust.print();
-    port.print();
+    for side in [&rust, &port, &tests, &counting] {
+        side.print();
+    }
     port.print_ratio(&rust);
     rust.checksum == port.checksum
 }
