@@ -1,11 +1,13 @@
 // SPDX-FileCopyrightText: 2026 The PPVM Authors
 // SPDX-License-Identifier: Apache-2.0
 
-// Runs the examples of document 01 through the exported functions and prints a line for each. Each
-// section has its module.
+// Runs the examples of document 01 and a small model through the exported functions and prints a line
+// for each. Each section has its module.
+mod models;
 mod print;
 mod words;
 
 fn main() {
     words::run();
+    models::run();
 }

@@ -1,13 +1,15 @@
 // SPDX-FileCopyrightText: 2026 The PPVM Authors
 // SPDX-License-Identifier: Apache-2.0
 
-// Compares the port with answers of the published Rust, recorded on standard input, bit for bit.
+// Compares the port with answers of the published Rust, recorded on standard input, bit for bit; kind
+// 6 has answers of document 01 that the Rust does not give.
 //
 // A case is a line of lower-case hexadecimal numbers with a space between two; the first is its
 // kind, which says what the others are. `#` starts a comment to the end of the line. The program
 // counts the cases and the disagreements of each kind and the lines that are no case, so that an
 // empty or a damaged recording shows. Each kind stands in the module of what it is about.
 mod float;
+mod models;
 mod read;
 mod tally;
 mod words;
@@ -31,6 +33,7 @@ fn replay_case(kind: u64, line: &[u8], c: Cursor) -> Verdict {
         2 => words::codes_read(line, c),
         3 => words::codes_written(line, c),
         4 => words::product(line, c),
+        5 | 6 => models::build(line, c),
         _ => Verdict::Malformed,
     }
 }

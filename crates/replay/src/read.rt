@@ -5,6 +5,7 @@
 // with what it read and the next cursor.
 ghost use Prim.Native.Nat.{_≤_, _<_};
 ghost use lib.ListN.{length};
+use crate::float;
 use refusal::Status;
 use word::word::Lanes;
 
@@ -123,6 +124,36 @@ pub fn bytes(line: &[u8], c: Cursor, out: &mut [u8]) -> Filled {
             return Filled::Malformed;
         }
         out[i] = value as u8;
+        next = after;
+        i += 1;
+    }
+    Filled::Whole(next)
+}
+
+// As many numbers as there are places.
+pub fn numbers(line: &[u8], c: Cursor, out: &mut [u64]) -> Filled {
+    let mut next = c;
+    let mut i = 0;
+    while i < out.len() {
+        let Read::Number(value, after) = number(line, next) else {
+            return Filled::Malformed;
+        };
+        out[i] = value;
+        next = after;
+        i += 1;
+    }
+    Filled::Whole(next)
+}
+
+// As many f64 numbers, recorded by their bits, as there are places.
+pub fn floats(line: &[u8], c: Cursor, out: &mut [f64]) -> Filled {
+    let mut next = c;
+    let mut i = 0;
+    while i < out.len() {
+        let Read::Number(value, after) = number(line, next) else {
+            return Filled::Malformed;
+        };
+        out[i] = float::of_bits(value);
         next = after;
         i += 1;
     }

@@ -4,6 +4,7 @@
 // The counts of cases and disagreements, and how they are printed.
 ghost use Prim.Native.Nat.{_<_};
 use libc::STDOUT_FILENO;
+use refusal::Status;
 
 // What replaying a case finds.
 pub enum Verdict {
@@ -20,8 +21,13 @@ pub fn judged(agrees: bool) -> Verdict {
     }
 }
 
+// The same, exactly where no bit differs.
+pub fn same_status(a: Status, b: Status) -> bool {
+    (a.refusal ^ b.refusal) | (a.first ^ b.first) | (a.second ^ b.second) == 0
+}
+
 // Kinds are counted from 1; place 0 stays empty.
-const KINDS: usize = 5;
+const KINDS: usize = 7;
 
 // The lines that are named before the counts; more would hide them.
 const NAMED: u64 = 10;
@@ -80,14 +86,14 @@ impl Tally {
     }
 
     fn with_case(mut self, k: usize) -> Tally
-        requires { ⌜ k < 5 ⌝ }
+        requires { ⌜ k < 7 ⌝ }
     {
         self.cases[k] = one_more(self.cases[k]);
         self
     }
 
     fn with_disagreement(mut self, k: usize, line_number: u64) -> Tally
-        requires { ⌜ k < 5 ⌝ }
+        requires { ⌜ k < 7 ⌝ }
     {
         self.disagreements[k] = one_more(self.disagreements[k]);
         self.naming(line_number, b" disagrees\n")
@@ -114,6 +120,8 @@ impl Tally {
         print_kind(b"codes read", self.cases[2], self.disagreements[2]);
         print_kind(b"codes written", self.cases[3], self.disagreements[3]);
         print_kind(b"products", self.cases[4], self.disagreements[4]);
+        print_kind(b"models", self.cases[5], self.disagreements[5]);
+        print_kind(b"models refused", self.cases[6], self.disagreements[6]);
         text(b"malformed lines: ");
         number(self.malformed);
         text(b"\n");

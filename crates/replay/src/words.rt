@@ -17,7 +17,6 @@ use crate::read::ReadStatus;
 use crate::tally;
 use crate::tally::Verdict;
 use pebblelinen::words::Parsed;
-use refusal::Status;
 use word::word::Lanes;
 use word::word::MAX_QUBITS;
 use word::word::Word;
@@ -27,11 +26,6 @@ use word::word::Word;
 const LONGEST: usize = 512;
 
 // The same, exactly where no bit differs.
-fn same_status(a: Status, b: Status) -> bool {
-    (a.refusal ^ b.refusal) | (a.first ^ b.first) | (a.second ^ b.second) == 0
-}
-
-// As above, for a word's lanes.
 fn same_lanes(l: Lanes, w: Word) -> bool {
     let x = (l.x0 ^ w.x[0]) | (l.x1 ^ w.x[1]);
     let z = (l.z0 ^ w.z[0]) | (l.z1 ^ w.z[1]);
@@ -49,7 +43,7 @@ fn judged_parse(line: &[u8], c: Cursor, answer: Parsed) -> Verdict {
     if !read::is_end(line, c2) {
         return Verdict::Malformed;
     }
-    let agrees = same_status(status, answer.status) && same_lanes(lanes, answer.word);
+    let agrees = tally::same_status(status, answer.status) && same_lanes(lanes, answer.word);
     tally::judged(agrees)
 }
 

@@ -5,6 +5,7 @@
 //!
 //! The sides take turns, so that a busy machine slows them alike, and the best round counts.
 
+mod models;
 mod words;
 
 use std::hint::black_box;
@@ -36,13 +37,22 @@ impl Side {
         self.nanoseconds = self.nanoseconds.min(each);
     }
 
+    /// Answers one input. The answer is dropped when the clock has been read.
+    fn once<A>(&mut self, answer: impl FnOnce() -> A, digest: impl FnOnce(&A) -> u64) {
+        let start = Instant::now();
+        let answer = black_box(answer());
+        let nanoseconds = start.elapsed().as_secs_f64() * 1e9;
+        self.checksum = digest(&answer);
+        self.nanoseconds = self.nanoseconds.min(nanoseconds);
+    }
+
     fn print(&self) {
         let Self {
             name,
             nanoseconds,
             checksum,
         } = self;
-        println!("{name:<26} {nanoseconds:>8.2} ns   checksum {checksum:016x}");
+        println!("{name:<26} {nanoseconds:>11.2} ns   checksum {checksum:016x}");
     }
 
     fn print_ratio(&self, to: &Side) {
@@ -57,7 +67,8 @@ impl Side {
 
 /// Times everything. Fails where the sides do not answer alike.
 pub fn run(seed: u64) -> ExitCode {
-    if words::bench(seed) {
+    let alike = [words::bench(seed), models::bench(seed)];
+    if alike.iter().all(|&alike| alike) {
         ExitCode::SUCCESS
     } else {
         ExitCode::FAILURE

@@ -119,7 +119,7 @@ impl Tally {
 /// Compares all operations and prints what was found. Fails on a disagreement.
 pub fn run(seed: u64, cases: usize) -> ExitCode {
     let mut tallies = words::compare(seed, cases);
-    tallies.extend(models::compare(seed, cases / 5));
+    tallies.extend(models::compare(seed, cases));
 
     println!("operation            cases disagreements  expected port alone");
     tallies.iter().for_each(Tally::print);

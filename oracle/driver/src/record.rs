@@ -4,8 +4,10 @@
 //! Prints answers of the published Rust, for a program that replays them against the port.
 //!
 //! A case is a line of hexadecimal numbers, the first of which is its kind; `#` starts a comment.
-//! Only cases are recorded to which document 01 and the Rust have one answer.
+//! Only cases are recorded to which document 01 and the Rust have one answer, but for kinds that say
+//! otherwise.
 
+mod models;
 mod words;
 
 use crate::port::Word;
@@ -21,6 +23,16 @@ impl Line {
 
     fn number(mut self, number: u64) -> Self {
         self.0.push(number);
+        self
+    }
+
+    fn numbers(mut self, numbers: &[u64]) -> Self {
+        self.0.extend(numbers);
+        self
+    }
+
+    fn floats(mut self, floats: &[f64]) -> Self {
+        self.0.extend(floats.iter().map(|x| x.to_bits()));
         self
     }
 
@@ -45,7 +57,8 @@ pub fn run(seed: u64, cases: usize) -> ExitCode {
     println!("# SPDX-FileCopyrightText: 2026 The PPVM Authors");
     println!("# SPDX-License-Identifier: Apache-2.0");
     println!("#");
-    println!("# Answers of the published Rust: {cases} cases of each kind, seed {seed}.");
+    println!("# Answers of the published Rust, seed {seed}.");
     words::record(seed, cases);
+    models::record(seed, cases / 4);
     ExitCode::SUCCESS
 }

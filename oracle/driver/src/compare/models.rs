@@ -3,7 +3,7 @@
 
 //! Models: building, testing, lengths of tables.
 //!
-//! Cases of building are counted by what document 01 answers to them. The Rust has no number
+//! Cases of building and testing are counted by what document 01 answers to them. The Rust has no number
 //! ranges, no limits of counts and no lent tables, and it reads characters where the port reads
 //! bytes. So a difference is expected where document 01 refuses for one of these, and only if the
 //! Rust answers as the rest of the rules do.
@@ -17,7 +17,7 @@ use crate::published::models::RustItems;
 use crate::rules::MAX_QUBITS;
 use crate::rules::models as rules;
 
-/// How many of the cases are of each size: most are small.
+/// How often each large model is built.
 const LARGE_CASES: usize = 4;
 
 pub fn compare(seed: u64, cases: usize) -> Vec<Tally> {
@@ -30,15 +30,15 @@ pub fn compare(seed: u64, cases: usize) -> Vec<Tally> {
         build_large(rng, &mut tallies);
     }
     let Tallies { built, tested } = tallies;
-    let mut all: Vec<Tally> = built.into_iter().filter(|tally| tally.cases > 0).collect();
-    all.push(tested);
+    let all = built.into_iter().chain(tested);
+    let mut all: Vec<Tally> = all.filter(|tally| tally.cases > 0).collect();
     all.push(sizes(rng, cases));
     all
 }
 
-/// The operations by the number of document 01's answer.
-const BUILT: [&str; 14] = [
-    "model built",
+/// The operations: the first where document 01 accepts, then by the number of its refusal.
+const OPERATIONS: [&str; 14] = [
+    "",
     "  refusal 1",
     "  refusal 2",
     "  refusal 3",
@@ -56,14 +56,19 @@ const BUILT: [&str; 14] = [
 
 struct Tallies {
     built: Vec<Tally>,
-    tested: Tally,
+    tested: Vec<Tally>,
 }
 
 impl Tallies {
     fn new() -> Self {
+        let by_answer = |accepted: &'static str| {
+            let mut tallies: Vec<Tally> = OPERATIONS.map(Tally::new).into();
+            tallies[0] = Tally::new(accepted);
+            tallies
+        };
         Self {
-            built: BUILT.map(Tally::new).into(),
-            tested: Tally::new("model tested"),
+            built: by_answer("model built"),
+            tested: by_answer("model tested"),
         }
     }
 }
@@ -185,7 +190,7 @@ fn test(tallies: &mut Tallies, model: Model, lent: &Lent, size: usize) {
         listed: false,
     };
     let input = || format!("{model:?} in {lent:?}");
-    tallies.tested.count(size, input, answers);
+    tallies.tested[answers.rules.refusal as usize].count(size, input, answers);
 }
 
 /// A small model, sound or not, in tables that are long enough or not; then, where it was built, the

@@ -6,7 +6,8 @@
 
 use super::{EDGES, Rng, damage, letters};
 use crate::port::models::{Given, Lent, Model, Sizes};
-use crate::rules::models::{Complex, MAX_TERMS};
+use crate::rules::MAX_QUBITS;
+use crate::rules::models::{Complex, MAX_HAMILTONIAN, MAX_JUMPS, MAX_TERMS};
 
 /// What a model is built from, item by item: texts with their numbers, and rates with their terms.
 #[derive(Clone, Debug)]
@@ -46,13 +47,14 @@ impl Items {
     }
 }
 
-/// A number within the range of model numbers: whole, near thinning, at the range's ends, or any.
+/// A number within the range of model numbers: whole, at the range's ends, any, or such that the
+/// product of an operator with one of its terms 1 has numbers at the tolerance of thinning.
 fn number(rng: &mut Rng) -> f64 {
     let size = match rng.below(8) {
         0 => 0.0,
         1..=3 => rng.below(5) as f64,
-        4 => 1e-7 * (1.0 + rng.below(3) as f64 * f64::EPSILON),
-        5 => rng.pick(&[2f64.powi(200), 2f64.powi(-200), 1e-8, 6e-15, 8e-15]),
+        4 => rng.pick(&[5e-15f64.next_down(), 5e-15, 5e-15f64.next_up(), 1e-7]),
+        5 => rng.pick(&[2f64.powi(200), 2f64.powi(-200), 6e-15, 8e-15]),
         _ => (rng.next() >> 11) as f64 * 2f64.powi(-50 - rng.below(8) as i32),
     };
     if rng.one_in(2) { size } else { -size }
@@ -119,6 +121,35 @@ pub fn sound(rng: &mut Rng) -> Items {
         n_qubits,
         hamiltonian,
         jumps,
+    }
+}
+
+/// The largest model of Hamiltonian items and general jumps of two terms. Words have letters on two
+/// neighbours, or every weight as likely as every other.
+pub fn largest(rng: &mut Rng, neighbours: bool) -> Items {
+    let n_qubits = MAX_QUBITS;
+    let text = |rng: &mut Rng| {
+        if !neighbours {
+            return letters(rng, n_qubits);
+        }
+        let mut text = vec![b'I'; n_qubits];
+        let qubit = rng.below(n_qubits - 1);
+        text[qubit] = rng.pick(b"XYZ");
+        text[qubit + 1] = rng.pick(b"IXYZ");
+        text
+    };
+    let number = |rng: &mut Rng| 1.0 + rng.below(1000) as f64 / 1024.0;
+    Items {
+        n_qubits,
+        hamiltonian: (0..MAX_HAMILTONIAN)
+            .map(|_| (text(rng), number(rng)))
+            .collect(),
+        jumps: (0..MAX_JUMPS)
+            .map(|_| {
+                let term = |rng: &mut Rng| (text(rng), (number(rng), number(rng)));
+                (number(rng), vec![term(rng), term(rng)])
+            })
+            .collect(),
     }
 }
 
