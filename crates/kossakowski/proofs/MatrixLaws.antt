@@ -20,6 +20,7 @@ use Rattle.number.specs.Floats.{floats}
 use Rattle.gksl.specs.Model.{entryIn}
 use Rattle.table.specs.Numbers.{complexes, noNumber}
 use Rattle.table.proofs.NumberLaws.{complexes-low, complexes-high}
+use Rattle.model.proofs.Parts.{length-complexes}
 use Rattle.kossakowski.specs.Matrix.{apart, apartAt, skipped, isPair, passing, pairPlaces}
 use Rattle.kossakowski.specs.Work.{Square}
 
@@ -48,21 +49,18 @@ module _ (ops p : ℕ) (l : p < ops * ops) where
 -- ---- what is read
 module _ {A : Type 0} where
   -- below the length the default does not matter
-  pub getD-inside : (l : List A) (i : ℕ) (d e : A) → i < length l → getD l i d ≡ getD l i e
+  getD-inside : (l : List A) (i : ℕ) (d e : A) → i < length l → getD l i d ≡ getD l i e
   getD-inside [] i d e h = absurd (omega arith)
   getD-inside (a ∷ l) zero d e h = refl
   getD-inside (a ∷ l) (suc i) d e h = getD-inside l i d e (omega arith)
 
-module _ (ops : ℕ) (k : List Float) (all : length k ≡ 2 * (ops * ops)) where
-  pub entry-at : (n m : ℕ) → n < ops → m < ops → getD (complexes k) (n * ops + m) noNumber ≡ entryIn floats ops (complexes k) n m
+module _ (ops : ℕ) (K : List (Cx floats)) (all : length K ≡ ops * ops) where
+  entry-at : (n m : ℕ) → n < ops → m < ops → getD K (n * ops + m) noNumber ≡ entryIn floats ops K n m
   unfolding entryIn
-  entry-at n m h l =
-      let inside : n * ops + m < length (complexes k) = omega (arith, place-below ops n m h l, complexes-high k, all) in
-      rw (lt-ltb n ops h, lt-ltb m ops l) (getD-inside (complexes k) (n * ops + m) noNumber (zeroC floats) inside)
+  entry-at n m h l = rw (lt-ltb n ops h, lt-ltb m ops l) (getD-inside K (n * ops + m) noNumber (zeroC floats) (omega (arith, place-below ops n m h l, all)))
 
-  pub entry-place : (p : ℕ) → p < ops * ops → getD (complexes k) p noNumber ≡ entryIn floats ops (complexes k) (p / ops) (p % ops)
-  entry-place p l =
-      ap (λ (q : ℕ). getD (complexes k) q noNumber) (sym (div-add-mod' p ops)) ∙ entry-at (p / ops) (p % ops) (row-below ops p l) (column-below ops p l)
+  pub entry-place : (p : ℕ) → p < ops * ops → getD K p noNumber ≡ entryIn floats ops K (p / ops) (p % ops)
+  entry-place p l = ap (λ (q : ℕ). getD K q noNumber) (sym (div-add-mod' p ops)) ∙ entry-at (p / ops) (p % ops) (row-below ops p l) (column-below ops p l)
 
 -- ---- the largest square, of the entries before a place and of those that are left
 module _ (k : List Float) where
@@ -101,12 +99,15 @@ module _ (ops : ℕ) (k : List Float) (largest : Float) (s : Square ops k larges
       → less ≡ subC floats own turned → x ≡ square floats less → r ≡ floats .near x largest → not r ≡ apart floats ops (complexes k) n m
   unfolding apart
   apart-told n m h l eo em et es ex er =
-      rw (er, ex, es, et, em, eo, s .largest-is, entry-at ops k (s .entries-all) n m h l, entry-at ops k (s .entries-all) m n l h)
+      let all : length (complexes k) ≡ ops * ops = length-complexes (ops * ops) k (s .entries-all) in
+      rw (er, ex, es, et, em, eo, s .largest-is, entry-at ops (complexes k) all n m h l, entry-at ops (complexes k) all m n l h)
 
   pub pair-told : (p : ℕ) → p < ops * ops → p / ops ≤ p % ops → {z : Cx floats} {x : Float} {r : Bool}
       → z ≡ getD (complexes k) p noNumber → x ≡ square floats z → r ≡ floats .slighter x largest → not r ≡ isPair floats ops (complexes k) p
   unfolding isPair skipped
-  pair-told p l h ez ex er = rw (le-leb (p / ops) (p % ops) h, er, ex, ez, s .largest-is, entry-place ops k (s .entries-all) p l)
+  pair-told p l h ez ex er =
+      let all : length (complexes k) ≡ ops * ops = length-complexes (ops * ops) k (s .entries-all) in
+      rw (le-leb (p / ops) (p % ops) h, er, ex, ez, s .largest-is, entry-place ops (complexes k) all p l)
 
 -- ---- the numbers that pass a test
 module _ (f : ℕ → Bool) where
@@ -126,7 +127,7 @@ module _ (f : ℕ → Bool) where
   unfolding passing
   passing-end p n l = let d : n - p ≡ 0 = omega arith in rw d
 
-  pub passing-most : (p n : ℕ) → length (passing f p n) ≤ n
+  passing-most : (p n : ℕ) → length (passing f p n) ≤ n
   unfolding passing
   passing-most p zero = omega arith
   passing-most p (suc n) = go (f p) (passing-most (suc p) n)

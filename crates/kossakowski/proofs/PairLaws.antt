@@ -5,7 +5,7 @@
 use mathlib.Core.Path.{_≡_, refl, sym, ap, ap₂, _∙_, subst, subst⁻¹}
 use mathlib.Core.List.{List, [], _∷_, _++_, map, map-append}
 use Prim.Native.Nat.{ℕ, suc, _+_, _-_, _*_, _≤_, _<_}
-use native.Mathlib.Nat.{suc-mul, mul-le-mul, mul-le-mul-right}
+use native.Mathlib.Nat.{zero-mul, suc-mul, mul-le-mul, mul-le-mul-right}
 use native.Mathlib.Omega.{arith}
 use lib.Ieee.{Float}
 use lib.ListN.{length, set, length-append, length-map, length-take}
@@ -25,7 +25,7 @@ use Rattle.model.specs.Compiled.{Compiled}
 use Rattle.model.specs.Laid.{layEntry}
 use Rattle.model.specs.Product.{onto, termAt, termsIn, termsOf, formedTerm, PairRoom, Forms}
 use Rattle.model.specs.Stored.{range, entry}
-use Rattle.model.specs.Thinned.{thinned, LaysTerms, KeepRoom, Keeps}
+use Rattle.model.specs.Thinned.{thinned, LaysTerms, StoreRoom, KeepRoom, Keeps}
 use Rattle.model.specs.Work.{JumpRoom, StoresJump}
 use Rattle.model.specs.declared.product.Term as Held
 use Rattle.model.specs.declared.tables.Range.{Range}
@@ -34,7 +34,7 @@ use Rattle.model.proofs.WorkLaws.{terms-none, terms-more, pairs-more}
 use Rattle.model.proofs.StoreLaws.{lays-none, lays-one, lays-append, terms-length, thinned-drops, thinned-keeps, thinned-fewer}
 use Rattle.model.proofs.OperatorLaws.{without-fewer}
 use Rattle.kossakowski.specs.Pairs.{factorOf, factorsOf, scaled, productAfter, compilePair}
-use Rattle.kossakowski.specs.Work.{RowRoom, FactorsRoom, CountsPair, WorkStays}
+use Rattle.kossakowski.specs.Work.{FactorsRoom, CountsPair, WorkStays}
 
 -- ---- a factor
 pub factor-is : (a b : Held.Term) (k c m n : Complex) → cx c ≡ conjC floats (cx (a .number)) → cx m ≡ mulC floats (cx c) (cx (b .number)) → cx n ≡ mulC floats (cx m) (cx k)
@@ -57,7 +57,7 @@ pub record RowState (f : Term → Term) (right : Range) (at : ℕ) (lanes : List
   pub numbers-same : length tNumbers ≡ length tNumbers₀
   pub lays : LaysTerms (map f (termsIn lanes numbers (right .start) j)) at tLanes₀ tNumbers₀ tLanes tNumbers
 
-module _ (f : Term → Term) (right : Range) (at : ℕ) (lanes : List ℕ) (numbers : List Float) (tLanes₀ : List ℕ) (tNumbers₀ : List Float) (room : RowRoom right lanes numbers at tLanes₀ tNumbers₀) where
+module _ (f : Term → Term) (right : Range) (at : ℕ) (lanes : List ℕ) (numbers : List Float) (tLanes₀ : List ℕ) (tNumbers₀ : List Float) (room : StoreRoom (right .start) (right .end) lanes numbers at tLanes₀ tNumbers₀) where
   pub row-start : RowState f right at lanes numbers tLanes₀ tNumbers₀ tLanes₀ tNumbers₀ (right .start) at
   row-start = record {
     low = omega arith;
@@ -98,12 +98,9 @@ module _ (f : Term → Term) (right : Range) (at : ℕ) (lanes : List ℕ) (numb
         subst (λ (m : ℕ). LaysTerms (map f (termsIn lanes numbers (right .start) m)) at tLanes₀ tNumbers₀ tLanes tNumbers) e (s .lays)
 
 -- ---- how many there are: a row for each term of A
-pub pairs-length : (f : Term → Term → Term) (A B : List Term) → length (pairsOver floats pauli f A B) ≡ length A * length B
+pairs-length : (f : Term → Term → Term) (A B : List Term) → length (pairsOver floats pauli f A B) ≡ length A * length B
 unfolding pairsOver
-pairs-length f [] B = sym (zero-times (length B))
-  where
-    zero-times : (n : ℕ) → 0 * n ≡ 0
-    zero-times n = omega arith
+pairs-length f [] B = sym (zero-mul (length B))
 pairs-length f (a ∷ A) B =
     let l = length-append (map (f a) B) (pairsOver floats pauli f A B) in
     let m = length-map B (f a) in
@@ -134,7 +131,7 @@ module _ (k : Cx floats) (left right : Range) (at : ℕ) (lanes : List ℕ) (num
   unfolding pairsOver
   factors-start =
       let d : left .start - left .start ≡ 0 = omega arith in
-      let z : (left .start - left .start) * width ≡ 0 = ap (λ (m : ℕ). m * width) d ∙ none width in
+      let z : (left .start - left .start) * width ≡ 0 = ap (λ (m : ℕ). m * width) d ∙ zero-mul width in
       record {
         low = omega arith;
         high = room .left-order;
@@ -143,9 +140,6 @@ module _ (k : Cx floats) (left right : Range) (at : ℕ) (lanes : List ℕ) (num
         numbers-same = refl;
         lays = subst⁻¹ (λ (T : List Term). LaysTerms (factorsOf k T B) at tLanes₀ tNumbers₀ tLanes₀ tNumbers₀) (terms-none lanes numbers (left .start)) (lays-none at tLanes₀ tNumbers₀);
       }
-    where
-      none : (n : ℕ) → 0 * n ≡ 0
-      none n = omega arith
 
   module _ (tLanes : List ℕ) (tNumbers : List Float) (i place : ℕ) (s : FactorsState k left right at lanes numbers tLanes₀ tNumbers₀ tLanes tNumbers i place) where
     module _ (h : i < left .end) where
@@ -153,7 +147,7 @@ module _ (k : Cx floats) (left right : Range) (at : ℕ) (lanes : List ℕ) (num
       pub row-ends : place + width ≤ at + (left .end - left .start) * width
       row-ends = let l : i - left .start < left .end - left .start = omega (arith, s .low) in omega (arith, s .here, row-fits (i - left .start) (left .end - left .start) width l)
 
-      pub factors-room : RowRoom right lanes numbers place tLanes tNumbers
+      pub factors-room : StoreRoom (right .start) (right .end) lanes numbers place tLanes tNumbers
       factors-room = record {
         order = room .right-order;
         lanes-long = room .lanes-long .1;

@@ -3,18 +3,15 @@
 
 -- All pairs of K in turn, over operators whose terms stand in the work table: counted, then stored. Assumes nothing.
 use mathlib.Core.Path.{_≡_, refl, sym, ap, ap₂, _∙_, subst, subst⁻¹}
-use mathlib.Core.Bool.{Bool, true, false, cond}
+use mathlib.Core.Bool.{true, false}
 use mathlib.Core.List.{List, [], _∷_, map}
 use Prim.Native.Nat.{ℕ, zero, suc, _+_, _-_, _*_, _/_, _%_, _≤_, _<_}
-use native.Mathlib.Nat.{mul-le-mul, mod-lt, div-lt-iff-lt-mul, div-add-mod'}
-use native.Mathlib.Numerals.{add-one}
 use native.Mathlib.Omega.{arith}
-use borrow.Author.Tests.{lt-ltb}
 use lib.Ieee.{Float}
 use lib.ListN.{length, getD, take, drop}
 use lib.Seq.{take-take, drop-drop}
 use Rattle.word.specs.Flat.{words}
-use Rattle.number.specs.Numbers.{Cx, zeroC}
+use Rattle.number.specs.Numbers.{Cx}
 use Rattle.number.specs.Floats.{floats}
 use Rattle.gksl.specs.Model.{entryIn}
 use Rattle.table.specs.Numbers.{complexes, noNumber}
@@ -32,49 +29,8 @@ use Rattle.model.proofs.WorkLaws.{terms-stay}
 use Rattle.model.proofs.JumpsLaws.{terms-turn, terms-end, Storing, storing-start, storing-room, storing-next, storing-done}
 use Rattle.kossakowski.specs.Matrix.{isPair, passing}
 use Rattle.kossakowski.specs.Pairs.{compilePair, rangeOf, pairAt, pairsOf}
-use Rattle.kossakowski.specs.Work.{Square, OperatorsRoom, operatorsIn, CountsPair, WorkStays}
-
--- ---- the numbers from p to before n that pass a test: the first and what is left
-module _ (f : ℕ → Bool) (p n : ℕ) where
-  passing-turn : p < n → passing f p (n - p) ≡ cond (f p) (p ∷ passing f (p + 1) (n - (p + 1))) (passing f (p + 1) (n - (p + 1)))
-  unfolding passing
-  passing-turn h =
-      let m : ℕ = n - (p + 1) in
-      let e : n - p ≡ suc m = omega arith in
-      ap (passing f p) e ∙ ap (λ (q : ℕ). cond (f p) (p ∷ passing f q m) (passing f q m)) (sym (add-one p))
-
-  pub passing-yes : p < n → f p ≡ true → passing f p (n - p) ≡ p ∷ passing f (p + 1) (n - (p + 1))
-  passing-yes h e = passing-turn h ∙ ap (λ (b : Bool). cond b (p ∷ passing f (p + 1) (n - (p + 1))) (passing f (p + 1) (n - (p + 1)))) e
-
-  pub passing-no : p < n → f p ≡ false → passing f p (n - p) ≡ passing f (p + 1) (n - (p + 1))
-  passing-no h e = passing-turn h ∙ ap (λ (b : Bool). cond b (p ∷ passing f (p + 1) (n - (p + 1))) (passing f (p + 1) (n - (p + 1)))) e
-
-  pub passing-end : n ≤ p → passing f p (n - p) ≡ []
-  unfolding passing
-  passing-end h = let e : n - p ≡ 0 = omega arith in ap (passing f p) e
-
--- ---- a place of K, its row and its column
-pub places-some : (ops p : ℕ) → p < ops * ops → 0 < ops
-places-some zero p h = absurd (omega arith)
-places-some (suc ops) p h = omega arith
-
-pub row-low : (ops p : ℕ) → p < ops * ops → p / ops < ops
-row-low ops p h = div-lt-iff-lt-mul {k = ops} {x = p} {y = ops} (places-some ops p h) .1 h
-
-pub column-low : (ops p : ℕ) → p < ops * ops → p % ops < ops
-column-low ops p h = mod-lt p {m = ops} (places-some ops p h)
-
--- below a list's length the default does not matter
-pub getD-any : {A : Type 0} (l : List A) (i : ℕ) (d e : A) → i < length l → getD l i d ≡ getD l i e
-getD-any [] i d e h = absurd (omega arith)
-getD-any (a ∷ l) zero d e h = refl
-getD-any (a ∷ l) (suc i) d e h = getD-any l i d e (omega arith)
-
-pub entry-at : (ops : ℕ) (K : List (Cx floats)) (p : ℕ) → p < ops * ops → length K ≡ ops * ops → entryIn floats ops K (p / ops) (p % ops) ≡ getD K p noNumber
-unfolding entryIn
-entry-at ops K p h e =
-    rw (lt-ltb (p / ops) ops (row-low ops p h), lt-ltb (p % ops) ops (column-low ops p h))
-    (ap (λ (i : ℕ). getD K i (zeroC floats)) (div-add-mod' p ops) ∙ getD-any K p (zeroC floats) noNumber (omega (arith, h, e)))
+use Rattle.kossakowski.specs.Work.{OperatorsRoom, operatorsIn, CountsPair, WorkStays}
+use Rattle.kossakowski.proofs.MatrixLaws.{row-below, column-below, entry-place, passing-yes, passing-no, passing-end}
 
 -- ---- where the terms of operator n stand
 pub range-fits : (counts : List ℕ) (n : ℕ) → n < length counts → total (take n counts) + getD counts n 0 ≤ total counts
@@ -93,7 +49,7 @@ module _ {A : Type 0} where
   take-inside m (suc n) (suc k) [] h = refl
   take-inside m (suc n) (suc k) (a ∷ l) h = take-inside m n k l (omega arith)
 
-pub operator-at : (counts lanes : List ℕ) (numbers : List Float) (n : ℕ) → n < length counts → termsOf lanes numbers (rangeOf 256 counts n) ≡ getD (operatorsIn counts lanes numbers) n []
+operator-at : (counts lanes : List ℕ) (numbers : List Float) (n : ℕ) → n < length counts → termsOf lanes numbers (rangeOf 256 counts n) ≡ getD (operatorsIn counts lanes numbers) n []
 operator-at counts lanes numbers n h =
     let R : List Term = rows (words lanes) (complexes numbers) in
     let t : ℕ = total (take n counts) in
@@ -137,7 +93,7 @@ module _ (counts lanes₀ : List ℕ) (numbers₀ : List Float) (room : Operator
   pub standing-room : (p : ℕ) (left right : Range) → p < length counts * length counts → left ≡ rangeOf 256 counts (p / length counts) → right ≡ rangeOf 256 counts (p % length counts)
       → PairRoom left right lanes numbers
   standing-room p left right h el er =
-      rw (el, er) (ranges-fit (p / length counts) (p % length counts) (row-low (length counts) p h) (column-low (length counts) p h))
+      rw (el, er) (ranges-fit (p / length counts) (p % length counts) (row-below (length counts) p h) (column-below (length counts) p h))
 
   standing-operator : (n : ℕ) (own : Range) → n < length counts → own ≡ rangeOf 256 counts n → termsOf lanes numbers own ≡ getD (operatorsIn counts lanes₀ numbers₀) n []
   standing-operator n own h e =
@@ -163,10 +119,6 @@ module _ (from : ℕ) (counts : List ℕ) (K : List (Cx floats)) (ops : List (Li
 
     left-end : length counts * length counts ≤ p → pairsLeft p ≡ []
     left-end h = ap (map (pairAt from counts K ops)) (passing-end (isPair floats (length counts) K) p (length counts * length counts) h)
-
--- there are at most 64 times 64 places
-pub places-few : (ops : ℕ) (k : List Float) (largest : Float) → Square ops k largest → ops * ops ≤ 4096
-places-few ops k largest h = mul-le-mul (h .few) (h .few)
 
 -- ---- counting: the terms so far and those that are left
 pub record CountState (K : List (Cx floats)) (counts lanes₀ : List ℕ) (numbers₀ : List Float) (lanes : List ℕ) (numbers : List Float) (kept p : ℕ) : Type 0 where
@@ -207,8 +159,8 @@ module _ (K : List (Cx floats)) (counts lanes₀ : List ℕ) (numbers₀ : List 
     count-next lanes′ numbers′ left right r h e el er c w hl hn =
         let n : ℕ = p / length counts in
         let m : ℕ = p % length counts in
-        let ln = standing-operator counts lanes₀ numbers₀ room lanes numbers (s .standing) n left (row-low (length counts) p h) el in
-        let lm = standing-operator counts lanes₀ numbers₀ room lanes numbers (s .standing) m right (column-low (length counts) p h) er in
+        let ln = standing-operator counts lanes₀ numbers₀ room lanes numbers (s .standing) n left (row-below (length counts) p h) el in
+        let lm = standing-operator counts lanes₀ numbers₀ room lanes numbers (s .standing) m right (column-below (length counts) p h) er in
         record {
           high = omega arith;
           standing = standing-next lanes₀ lanes lanes′ numbers₀ numbers numbers′ (s .standing) w hl hn;
@@ -271,9 +223,9 @@ module _ (from first at : ℕ) (K : List (Cx floats)) (counts lanes₀ : List �
       own-is =
           let n : ℕ = p / length counts in
           let m : ℕ = p % length counts in
-          let ez : z ≡ entryIn floats (length counts) K n m = is ∙ sym (entry-at (length counts) K p h square) in
-          let ln = standing-operator counts lanes₀ numbers₀ work lanes numbers (s .standing) n left (row-low (length counts) p h) el in
-          let lm = standing-operator counts lanes₀ numbers₀ work lanes numbers (s .standing) m right (column-low (length counts) p h) er in
+          let ez : z ≡ entryIn floats (length counts) K n m = is ∙ entry-place (length counts) K square p h in
+          let ln = standing-operator counts lanes₀ numbers₀ work lanes numbers (s .standing) n left (row-below (length counts) p h) el in
+          let lm = standing-operator counts lanes₀ numbers₀ work lanes numbers (s .standing) m right (column-below (length counts) p h) er in
           λ i. compilePair (ez i) (ol i) (or i) (ln i) (lm i)
 
       left-first : pairsLeft from counts K As p ≡ own ∷ pairsLeft from counts K As (p + 1)

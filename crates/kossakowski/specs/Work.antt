@@ -47,14 +47,7 @@ pub record WorkStays (lanes : List ℕ) (numbers : List Float) (lanes′ : List 
   pub lanes-stay : drop 1024 lanes′ ≡ drop 1024 lanes
   pub numbers-stay : drop 512 numbers′ ≡ drop 512 numbers
 
--- ---- a pair: room for a row of factors, for all of them, and how many terms it has
-pub record RowRoom (right : Range) (lanes : List ℕ) (numbers : List Float) (at : ℕ) (tLanes : List ℕ) (tNumbers : List Float) : Type 0 where
-  pub order : right .start ≤ right .end
-  pub lanes-long : 4 * right .end ≤ length lanes
-  pub numbers-long : 2 * right .end ≤ length numbers
-  pub lanes-room : 4 * (at + (right .end - right .start)) ≤ length tLanes
-  pub numbers-room : 2 * (at + (right .end - right .start)) ≤ length tNumbers
-
+-- ---- a pair: room for its factors, and how many terms it has
 pub record FactorsRoom (left right : Range) (lanes : List ℕ) (numbers : List Float) (at : ℕ) (tLanes : List ℕ) (tNumbers : List Float) : Type 0 where
   pub left-order : left .start ≤ left .end
   pub right-order : right .start ≤ right .end

@@ -14,10 +14,10 @@ ghost use Rattle.table.specs.Sums.{table};
 ghost use Rattle.model.specs.Items.{total};
 ghost use Rattle.model.specs.Product.{onto, termsOf, PairRoom};
 ghost use Rattle.model.specs.Built as Compiled;
-ghost use Rattle.model.specs.Thinned.{thinned, LaysTerms, KeepRoom, Keeps};
+ghost use Rattle.model.specs.Thinned.{thinned, LaysTerms, StoreRoom, KeepRoom, Keeps};
 ghost use Rattle.model.specs.Work.{JumpRoom, StoresJump, JumpsRoom, StoresJumps};
 ghost use Rattle.kossakowski.specs.Pairs.{factorOf, factorsOf, scaled, compilePair, rangeOf, pairsOf};
-ghost use Rattle.kossakowski.specs.Work.{Square, OperatorsRoom, operatorsIn, RowRoom, FactorsRoom, CountsPair, WorkStays};
+ghost use Rattle.kossakowski.specs.Work.{Square, OperatorsRoom, operatorsIn, FactorsRoom, CountsPair, WorkStays};
 use crate::matrix::makes_pair;
 use model::items::sum_of;
 use model::product::Term;
@@ -58,7 +58,7 @@ fn store_row(
     t_numbers: &mut [f64],
     at: usize,
 )
-    requires { ⌜ RowRoom right (now words) (now numbers) at (now «t_words») (now «t_numbers») ⌝ }
+    requires { ⌜ StoreRoom (right .start) (right .end) (now words) (now numbers) at (now «t_words») (now «t_numbers») ⌝ }
     ensures { λ _. ⌜ LaysTerms (map (factorOf (cx k) (onto a)) (termsOf (now (words .entry)) (now (numbers .entry)) right)) at (now («t_words» .entry)) (now («t_numbers» .entry)) (now («t_words» .exit)) (now («t_numbers» .exit)) ⌝ }
 {
     let end = right.end;

@@ -7,7 +7,8 @@ use Prim.Native.Nat.{_-_}
 use Rattle.number.specs.Floats.{cx}
 use Rattle.table.specs.Numbers.{complexes}
 use Rattle.model.proofs.Parts.{length-complexes}
-use Rattle.kossakowski.proofs.PairsLaws.{places-some, row-low, column-low, places-few, standing-room, StoreState, store-start, store-skips, store-room, store-next, store-done}
+use Rattle.kossakowski.proofs.MatrixLaws.{places-few, some-ops, row-below, column-below}
+use Rattle.kossakowski.proofs.PairsLaws.{standing-room, StoreState, store-start, store-skips, store-room, store-next, store-done}
 use borrow.Author.Needs.{needs}
 use native.Mathlib.Omega.{arith}
 use Rattle.kossakowski.proofs.pairs.store_pairs.Statement.{statement}
@@ -21,7 +22,7 @@ abbrev μ-loop : tie.MeasureT-loop
 μ-loop k counts largest from first at words₀ sums₀ jumps₀ rates₀ t-words₀ t-numbers₀ ops places place₀ j₀ p₀ words sums jumps rates t-words t-numbers place j p = places - p
 
 mul-places : tie.Need-mul-places Inv-loop μ-loop
-mul-places c = omega (arith, places-few _ _ _ (c .before .before .before .before .before .before .before .before .pre .0))
+mul-places c = omega (arith, places-few _ (c .before .before .before .before .before .before .before .before .pre .0 .few))
 
 loop-holds : tie.Need-loop-holds Inv-loop μ-loop
 loop-holds c = let a = c .before .before .before .before .before .before .before .before .args in store-start (a .from) (a .first) (a .at) (complexes (a .k .now)) (a .counts .now) (a .words .now) (a .sums .now) (a .jumps .now) (a .rates .now) (a .t-words .now) (a .t-numbers .now) (length-complexes _ _ (c .before .before .before .before .before .before .before .before .pre .0 .entries-all)) (c .before .before .before .before .before .before .before .before .pre .1) (c .before .before .before .before .before .before .before .before .pre .3)
@@ -30,25 +31,25 @@ makes-pair-requires : tie.Need-makes-pair-requires Inv-loop μ-loop
 makes-pair-requires c κs = (c .before .before .before .before .before .before .before .before .before .before .pre .0, c .loop-test .taken)
 
 div-n : tie.Need-div-n Inv-loop μ-loop
-div-n c = omega (arith, places-some _ _ (c .before .before .loop-test .taken))
+div-n c = omega (arith, some-ops _ _ (c .before .before .loop-test .taken))
 
 rem-m : tie.Need-rem-m Inv-loop μ-loop
-rem-m c = omega (arith, places-some _ _ (c .before .before .loop-test .taken))
+rem-m c = omega (arith, some-ops _ _ (c .before .before .loop-test .taken))
 
 operator-range-requires : tie.Need-operator-range-requires Inv-loop μ-loop
-operator-range-requires c κs = (omega (arith, c .before .before .before .before .before .before .before .before .before .before .before .before .before .before .pre .1 .lanes-long, c .before .before .before .before .before .before .before .before .before .before .before .before .before .before .good .1 .1 .1 .1 .1 .1 .0 .0), row-low _ _ (c .before .before .before .before .loop-test .taken))
+operator-range-requires c κs = (omega (arith, c .before .before .before .before .before .before .before .before .before .before .before .before .before .before .pre .1 .lanes-long, c .before .before .before .before .before .before .before .before .before .before .before .before .before .before .good .1 .1 .1 .1 .1 .1 .0 .0), row-below _ _ (c .before .before .before .before .loop-test .taken))
 
 operator-range-requires-2 : tie.Need-operator-range-requires-2 Inv-loop μ-loop
-operator-range-requires-2 c κs = (omega (arith, c .before .before .before .before .before .before .before .before .before .before .before .before .before .before .before .pre .1 .lanes-long, c .before .before .before .before .before .before .before .before .before .before .before .before .before .before .before .good .1 .1 .1 .1 .1 .1 .0 .0), column-low _ _ (c .before .before .before .before .before .loop-test .taken))
+operator-range-requires-2 c κs = (omega (arith, c .before .before .before .before .before .before .before .before .before .before .before .before .before .before .before .pre .1 .lanes-long, c .before .before .before .before .before .before .before .before .before .before .before .before .before .before .before .good .1 .1 .1 .1 .1 .1 .0 .0), column-below _ _ (c .before .before .before .before .before .loop-test .taken))
 
 complex-at-requires : tie.Need-complex-at-requires Inv-loop μ-loop
 complex-at-requires c κs = omega (arith, c .before .before .before .before .before .before .before .before .before .before .before .before .before .before .before .before .pre .0 .entries-all, c .before .before .before .before .before .before .loop-test .taken)
 
 operator-range-requires-3 : tie.Need-operator-range-requires-3 Inv-loop μ-loop
-operator-range-requires-3 c κs = (c .before .before .before .before .before .before .before .before .before .before .before .before .before .before .before .before .before .pre .2, row-low _ _ (c .before .before .before .before .before .before .before .loop-test .taken))
+operator-range-requires-3 c κs = (c .before .before .before .before .before .before .before .before .before .before .before .before .before .before .before .before .before .pre .2, row-below _ _ (c .before .before .before .before .before .before .before .loop-test .taken))
 
 operator-range-requires-4 : tie.Need-operator-range-requires-4 Inv-loop μ-loop
-operator-range-requires-4 c κs = (c .before .before .before .before .before .before .before .before .before .before .before .before .before .before .before .before .before .before .pre .2, column-low _ _ (c .before .before .before .before .before .before .before .before .loop-test .taken))
+operator-range-requires-4 c κs = (c .before .before .before .before .before .before .before .before .before .before .before .before .before .before .before .before .before .before .pre .2, column-below _ _ (c .before .before .before .before .before .before .before .before .loop-test .taken))
 
 store-pair-requires : tie.Need-store-pair-requires Inv-loop μ-loop
 store-pair-requires c κs =
@@ -70,7 +71,7 @@ add-j c =
     omega (arith, r .rate-room, l .inv .storing .rates-same, c .before .before .before .before .before .before .before .before .before .before .before .before .before .before .before .before .before .before .before .before .before .before .before .before .before .before .before .before .before .before .before .before .before .before .before .before .good .1 .1 .1 .1 .1 .1 .1 .1 .1 .0 .0)
 
 add-p : tie.Need-add-p Inv-loop μ-loop
-add-p c = omega (arith, c .before .before .before .before .before .before .before .before .before .before .before .before .before .before .before .before .before .before .before .before .before .before .before .before .before .before .loop-test .taken, places-few _ _ _ (c .before .before .before .before .before .before .before .before .before .before .before .before .before .before .before .before .before .before .before .before .before .before .before .before .before .before .before .before .before .before .before .before .before .before .before .before .pre .0))
+add-p c = omega (arith, c .before .before .before .before .before .before .before .before .before .before .before .before .before .before .before .before .before .before .before .before .before .before .before .before .before .before .loop-test .taken, places-few _ (c .before .before .before .before .before .before .before .before .before .before .before .before .before .before .before .before .before .before .before .before .before .before .before .before .before .before .before .before .before .before .before .before .before .before .before .before .pre .0 .few))
 
 loop-less : tie.Need-loop-less Inv-loop μ-loop
 loop-less c = omega (arith, c .before .before .before .before .before .before .before .before .before .before .before .before .before .before .before .before .before .before .before .before .before .before .before .before .before .before .loop-test .taken)
@@ -87,7 +88,7 @@ loop-again c =
     (r .kept .1 .1 .1 .1 .1 .1 .1 .1 .1 .0) (r .kept .1 .1 .1 .1 .1 .1 .1 .1 .1 .1 .0) (r .kept .1 .1 .1 .1 .1 .1 .1 .1 .1 .1 .1 .0) (r .kept .1 .1 .1 .1 .1 .1 .1 .1 .1 .1 .1 .1 .0)
 
 add-p-2 : tie.Need-add-p-2 Inv-loop μ-loop
-add-p-2 c = omega (arith, c .before .before .loop-test .taken, places-few _ _ _ (c .before .before .before .before .before .before .before .before .before .before .before .before .pre .0))
+add-p-2 c = omega (arith, c .before .before .loop-test .taken, places-few _ (c .before .before .before .before .before .before .before .before .before .before .before .before .pre .0 .few))
 
 loop-again-2 : tie.Need-loop-again-2 Inv-loop μ-loop
 loop-again-2 c =
