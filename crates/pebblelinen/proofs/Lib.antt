@@ -3,4 +3,5 @@
 
 -- The parts of what the exported builders promise, and the examples of document 01, which hold.
 pub mod Exported
+pub mod SizeLaws
 pub mod Examples
