@@ -1,6 +1,9 @@
 -- SPDX-FileCopyrightText: 2026 The PPVM Authors
 -- SPDX-License-Identifier: Apache-2.0
 
--- The parts of what the exported builders promise, and the examples of document 01, which hold.
+-- Exported: what a builder promises, part by part. SizeLaws, ReadSizes: the sizes that are named are enough.
+-- Examples: the examples of document 01 hold.
 pub mod Exported
+pub mod SizeLaws
+pub mod ReadSizes
 pub mod Examples
