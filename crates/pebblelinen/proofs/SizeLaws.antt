@@ -15,7 +15,7 @@ use lib.ListN.{length, getD, length-append, length-map}
 use Rattle.number.specs.Floats.{floats}
 use Rattle.gksl.specs.Model.{RealTerm, JumpOver}
 use Rattle.gksl.specs.Rules.{formedOver, pairsOver}
-use Rattle.gksl.specs.Table.{putAllOver, withoutOver}
+use Rattle.gksl.specs.Table.{putAllOver}
 use Rattle.gksl.specs.Words.{pauli}
 use Rattle.table.proofs.SumLaws.{length-put-all-high}
 use Rattle.model.specs.Compiled.{compileJump, generalJump, pauliJump}
@@ -24,6 +24,7 @@ use Rattle.model.specs.Stored.{Tables}
 use Rattle.model.specs.Tested.{maxHamiltonian, maxJumps}
 use Rattle.model.specs.Built.{Input, termsOf, termPlaces, workPlaces, compiledModel}
 use Rattle.model.specs.declared.spec.Built.the-variants as Answers
+use Rattle.model.proofs.OperatorLaws.{without-fewer}
 use Rattle.pebblelinen.specs.Models.{modelSizes}
 use Rattle.pebblelinen.specs.declared.models.Sizes.{Sizes}
 
@@ -35,15 +36,6 @@ pairs-few : (f : Term → Term → Term) (A B : List Term) (c : ℕ) → length 
 unfolding pairsOver
 pairs-few f [] B c h = omega arith
 pairs-few f (a ∷ A) B c h = omega (arith, h, length-append (map (f a) B) (pairsOver floats pauli f A B), length-map B (f a), pairs-few f A B c h, suc-mul (length A) c)
-
-without-fewer : (p : Term → Bool) (T : List Term) → length (withoutOver floats pauli p T) ≤ length T
-unfolding withoutOver
-without-fewer p [] = omega arith
-without-fewer p (t ∷ T) = step (p t) (without-fewer p T)
-  where
-    step : (b : Bool) → length (withoutOver floats pauli p T) ≤ length T → length (cond b (withoutOver floats pauli p T) (t ∷ withoutOver floats pauli p T)) ≤ suc (length T)
-    step true h = omega (arith, h)
-    step false h = omega (arith, h)
 
 put-few : (A : List Term) → length (putAllOver floats pauli A []) ≤ length A
 put-few A = omega (arith, length-put-all-high A [])
