@@ -44,7 +44,7 @@ pub formed-few : (A B : List Term) → length (formedOver floats pauli A B) ≤ 
 unfolding formedOver
 formed-few A B = le-trans (without-fewer _ _) (le-trans (put-few _) (pairs-few _ A B (length B) (le-refl (length B))))
 
--- ---- a jump stores its terms, and for its product at most a term for two of them
+-- ---- a jump stores its terms and its product
 abbrev pub placesOf : ℕ → ℕ
 placesOf k = k + k * k
 

@@ -49,17 +49,18 @@ lengthsOf hamiltonian jumps terms work = record {
   «work_numbers» = 2 * work;
 }
 
--- the lengths that are enough for so many Hamiltonian items and jumps of at most so many terms: a jump stores its terms, and
--- its product a term for two of them at most. More than a limit is refused, so it asks for no more than the limit does
+-- the lengths that are enough for so many Hamiltonian items and jumps of at most so many terms: a jump stores its terms and
+-- its product, which has no more words than there are pairs of terms. Counts above a limit are refused, so they ask for no more
+-- than the limit does
 unfoldable pub modelSizes : ℕ → ℕ → ℕ → Sizes
 modelSizes hamiltonian jumps terms =
     let j : ℕ = min jumps maxJumps in
     let c : ℕ = min terms maxTerms in
     lengthsOf (min hamiltonian maxHamiltonian) j (j * (c + c * c)) workPlaces
 
--- the further lengths for a matrix over so many operators of at most so many terms, and those of its work tables: pairs in
--- which the first operator is not above the second, the operators' terms, and for each pair a factor and a term of the
--- product for two of them at most; the work tables hold a product's sums and all operators
+-- the further lengths for a matrix over so many operators of at most so many terms, and those of its work tables: an entry for
+-- each two operators, the first not above the second; the operators' terms, and for each entry its factors and its product, each
+-- no more than there are pairs of terms. The work tables hold a product's sums and all operators
 unfoldable pub matrixSizes : ℕ → ℕ → Sizes
 matrixSizes operators terms =
     let k : ℕ = min operators maxOperators in

@@ -6,7 +6,7 @@
 //     rates_len rate.. counts_len count.. numbers_len number..
 //     the lengths of the eight lent slices, in their order
 //     refusal first second hamiltonian jumps terms
-//   6 the same
+//   6 the same, for refusals that the Rust does not have
 // Numbers are recorded by their bits. Where building was refused, the recorded counts are 0.
 ghost use Prim.Native.Nat.{_≤_};
 use crate::read;
