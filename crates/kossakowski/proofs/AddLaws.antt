@@ -5,12 +5,12 @@
 use mathlib.Core.Path.{_≡_, refl, sym, ap, ap₂, _∙_}
 use mathlib.Core.Bool.{Bool, cond}
 use mathlib.Core.List.{List, [], _∷_, _++_, map}
-use Prim.Native.Nat.{ℕ, zero, suc, _+_, _-_, _*_, _/_, _≤_, _<_, min}
+use Prim.Native.Nat.{ℕ, zero, suc, _+_, _*_, _/_, _≤_, _<_, min}
 use native.Mathlib.Decide.{decLt}
 use native.Mathlib.Omega.{arith}
 use borrow.Author.Tests.{lt-ltb, le-ltb}
 use lib.Ieee.{Float}
-use lib.ListN.{length, getD, take, drop, set, replicate, length-map, length-append, length-drop, take-append-drop, List·getD-eq-default}
+use lib.ListN.{length, getD, take, drop, replicate, length-map, length-append, length-drop, take-append-drop, List·getD-eq-default}
 use lib.Seq.{length-take-le}
 use Rattle.refusal.specs.declared.Refusal.the-variants.{TableFull}
 use Rattle.number.specs.Floats.{floats, float0}
@@ -18,9 +18,9 @@ use Rattle.table.specs.Numbers.{complexes}
 use Rattle.model.specs.declared.tables.Model.{Model}
 use Rattle.model.specs.declared.spec.Built.the-variants as Answers
 use Rattle.model.specs.Stored.{Tables}
-use Rattle.model.specs.Given.{Read, got, GivenTerm, Term, readOperator}
+use Rattle.model.specs.Given.{got, Term, readOperator}
 use Rattle.model.specs.Compiled.{Compiled}
-use Rattle.model.specs.Built.{parts, termItems, termsOf, termPlaces, finished}
+use Rattle.model.specs.Built.{parts, termsOf, termPlaces, finished}
 use Rattle.model.specs.Items.{total}
 use Rattle.model.specs.Taken.{termTaken}
 use Rattle.model.specs.Product.{termsIn}

@@ -3,9 +3,9 @@
 
 -- An accepted matrix is compiled: each step has the room that it asks for, and the last leaves what adding is defined to
 -- leave. Assumes nothing.
-use mathlib.Core.Path.{_≡_, refl, sym, ap, _∙_, subst}
+use mathlib.Core.Path.{_≡_, sym, ap, _∙_, subst}
 use mathlib.Core.List.{List, [], _∷_}
-use Prim.Native.Nat.{ℕ, zero, suc, _+_, _-_, _*_, _/_, _≤_, _<_, min}
+use Prim.Native.Nat.{ℕ, suc, _+_, _*_, _/_, _≤_, _<_, min}
 use native.Mathlib.Omega.{arith}
 use lib.Dec.{ltb}
 use lib.Ieee.{Float}
@@ -18,7 +18,6 @@ use Rattle.number.specs.Floats.{floats, float0}
 use Rattle.model.specs.Stored.{Tables}
 use Rattle.model.specs.Tested.{maxHamiltonian, maxJumps, testModel}
 use Rattle.model.specs.Given.{Term}
-use Rattle.model.specs.Compiled.{Compiled}
 use Rattle.model.specs.Built.{termsOf}
 use Rattle.model.specs.Items.{total}
 use Rattle.model.specs.Product.{termsIn}
