@@ -66,7 +66,7 @@ reals-few [] xs = omega arith
 reals-few (t ∷ ts) [] = omega arith
 reals-few (t ∷ ts) (x ∷ xs) = omega (arith, reals-few ts xs)
 
-jumps-few : (gs : List Float) (ts : List (List GivenTerm)) → length (jumpItems gs ts) ≤ length gs
+pub jumps-few : (gs : List Float) (ts : List (List GivenTerm)) → length (jumpItems gs ts) ≤ length gs
 unfolding jumpItems
 jumps-few [] ts = omega arith
 jumps-few (g ∷ gs) [] = omega arith
