@@ -53,7 +53,7 @@ module _ {A B : Type 0} (f : A → B) where
   parts-map (n ∷ ns) l = ap₂ (λ (a : List B) (r : List (List B)). a ∷ r) (take-map n l) (ap (parts ns) (drop-map n l) ∙ parts-map ns (drop n l))
 
 -- each part has its length, and they make up the whole
-part-count : {A : Type 0} (ns : List ℕ) (l : List A) → total ns ≤ length l → (j : ℕ) → j < length ns → length (getD (parts ns l) j []) ≡ getD ns j 0
+pub part-count : {A : Type 0} (ns : List ℕ) (l : List A) → total ns ≤ length l → (j : ℕ) → j < length ns → length (getD (parts ns l) j []) ≡ getD ns j 0
 unfolding parts total
 part-count [] l h j k = absurd (omega arith)
 part-count (n ∷ ns) l h zero k = length-take-le n l (omega arith)

@@ -98,7 +98,7 @@ module _ (f : Term → Term) (right : Range) (at : ℕ) (lanes : List ℕ) (numb
         subst (λ (m : ℕ). LaysTerms (map f (termsIn lanes numbers (right .start) m)) at tLanes₀ tNumbers₀ tLanes tNumbers) e (s .lays)
 
 -- ---- how many there are: a row for each term of A
-pairs-length : (f : Term → Term → Term) (A B : List Term) → length (pairsOver floats pauli f A B) ≡ length A * length B
+pub pairs-length : (f : Term → Term → Term) (A B : List Term) → length (pairsOver floats pauli f A B) ≡ length A * length B
 unfolding pairsOver
 pairs-length f [] B = sym (zero-mul (length B))
 pairs-length f (a ∷ A) B =
