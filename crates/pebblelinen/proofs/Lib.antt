@@ -1,9 +1,8 @@
 -- SPDX-FileCopyrightText: 2026 The PPVM Authors
 -- SPDX-License-Identifier: Apache-2.0
 
--- Exported: what a builder promises, part by part. SizeLaws, ReadSizes: the sizes that are named are enough.
+-- Exported: what a builder promises, part by part. Sizes: the sizes that are named are enough.
 -- Examples: the examples of document 01 hold.
 pub mod Exported
-pub mod SizeLaws
-pub mod ReadSizes
+pub mod Sizes
 pub mod Examples
