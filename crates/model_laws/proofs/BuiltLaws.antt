@@ -2,8 +2,7 @@
 -- SPDX-License-Identifier: Apache-2.0
 
 -- A model that was built passes the test. Assumes nothing.
-use mathlib.Core.Path.{_≡_, refl, sym, ap, _∙_, subst}
-use mathlib.Core.Bool.{Bool, true, false, cond}
+use mathlib.Core.Path.{_≡_, sym, ap, _∙_, subst}
 use mathlib.Core.List.{List, [], _∷_, map}
 use Prim.Native.Nat.{ℕ, _+_, _≤_}
 use native.Mathlib.Omega.{arith}
@@ -11,9 +10,7 @@ use borrow.Author.Tests.{ltb-false}
 use lib.Dec.{ltb}
 use lib.Ieee.{Float}
 use lib.ListN.{length, take, drop, length-map}
-use Rattle.refusal.specs.declared.Refusal.{Refusal}
-use Rattle.refusal.specs.declared.Refusal.the-variants.{TooManyQubits, TableFull}
-use Rattle.refusal.specs.declared.Answer.{Answer}
+use Rattle.refusal.specs.declared.Refusal.the-variants.{TooManyQubits}
 use Rattle.refusal.specs.declared.Answer.the-variants as Tests
 use Rattle.word.specs.Word.{maxQubits}
 use Rattle.number.specs.Floats.{floats}
@@ -22,10 +19,10 @@ use Rattle.gksl.specs.Words.{pauli}
 use Rattle.table.specs.Numbers.{complexes}
 use Rattle.model.specs.Stored.{Tables}
 use Rattle.model.specs.Tested.{maxHamiltonian, maxJumps, testModel}
-use Rattle.model.specs.Given.{Read, got, refused, GivenTerm, readReal, readJump}
+use Rattle.model.specs.Given.{got, GivenTerm, readReal, readJump}
 use Rattle.model.specs.Compiled.{Compiled, compileJump}
 use Rattle.model.specs.Taken.{realTaken, jumpTaken}
-use Rattle.model.specs.Built.{Input, hamiltonian, jumpsGiven, realItems, termItems, jumpItems, parts, readHamiltonian, readJumps, entriesFrom, termsOf, ratesOf, stored, termPlaces, Building, refusal, finished, tested, whenRead, build}
+use Rattle.model.specs.Built.{Input, hamiltonian, jumpsGiven, realItems, termItems, jumpItems, parts, readHamiltonian, readJumps, entriesFrom, termsOf, ratesOf, stored, termPlaces, build}
 use Rattle.model.specs.declared.tables.Model.{Model}
 use Rattle.model.specs.declared.spec.Built.the-variants as Answers
 use Rattle.model.proofs.BuildLaws.{passed, counted-passed, LengthsFit, lengths-fit}
@@ -37,6 +34,7 @@ use Rattle.model_laws.proofs.Lists.{every-weaken, every-map}
 use Rattle.model_laws.proofs.StandsLaws.{stands-tested}
 use Rattle.model_laws.proofs.ExtendedLaws.{extended-stands}
 use Rattle.model_laws.proofs.ReadItems.{JumpGood, real-read, jump-read, each-every}
+use Rattle.model_laws.proofs.Answered.{by-test, by-read, by-room}
 use Rattle.model_laws.proofs.CompiledLaws.{CompiledGood, compiled-good, entries-length, terms-good, entries-good}
 
 -- a model without items
@@ -68,28 +66,13 @@ reals-few [] xs = omega arith
 reals-few (t ∷ ts) [] = omega arith
 reals-few (t ∷ ts) (x ∷ xs) = omega (arith, reals-few ts xs)
 
-jumps-few : (gs : List Float) (ts : List (List GivenTerm)) → length (jumpItems gs ts) ≤ length gs
+pub jumps-few : (gs : List Float) (ts : List (List GivenTerm)) → length (jumpItems gs ts) ≤ length gs
 unfolding jumpItems
 jumps-few [] ts = omega arith
 jumps-few (g ∷ gs) [] = omega arith
 jumps-few (g ∷ gs) (t ∷ ts) = omega (arith, jumps-few gs ts)
 
 module _ (n : ℕ) (i : Input) (t : Tables) (workWords : List ℕ) (workNumbers : List Float) where
-  -- where a model is answered, it passes the test with the tables
-  abbrev Good : Building → Type 0
-  Good b = (m : Model) → b .answer ≡ Answers.Model m → testModel m (b .tables) ≡ Tests.Accepted
-
-  refusal-good : (r : Refusal) (b : Building) → b .answer ≡ Answers.Refused r → Good b
-  refusal-good r b e m h = let z : _≡_ {A = ℕ} 0 1 = cc in absurd (omega arith)
-
-  by-test : (a : Answer) (after : Building) → (a ≡ Tests.Accepted → Good after) → Good (tested t workWords workNumbers a after)
-  by-test Tests.Accepted after h = h refl
-  by-test (Tests.Refused r) after h = refusal-good r (refusal t workWords workNumbers (Answers.Refused r)) refl
-
-  by-read : {A : Type 0} (x : Read A) (f : A → Building) → ((a : A) → x ≡ got a → Good (f a)) → Good (whenRead t workWords workNumbers x f)
-  by-read (got a) f h = h a refl
-  by-read (refused r) f h = refusal-good r (refusal t workWords workNumbers (Answers.Refused r)) refl
-
   module _ (within : n ≤ maxQubits) (few-reals : length (i .hNumbers) ≤ maxHamiltonian) (few-jumps : length (i .rates) ≤ maxJumps) (fit : LengthsFit i t workWords workNumbers)
       (hs : List (RealTerm floats pauli)) (reals : readHamiltonian n i ≡ got hs) (js : List (JumpOver floats pauli)) (jumps : readJumps n i ≡ got js) where
     abbrev cs : List Compiled
@@ -144,22 +127,15 @@ module _ (n : ℕ) (i : Input) (t : Tables) (workWords : List ℕ) (workNumbers 
         subst (λ (m : Model). testModel m (stored hs cs t) ≡ Tests.Accepted) made-is
         (stands-tested (larger (empty n) added) (extended (empty n) t added) (extended-stands (empty n) t added (empty-stands n t within) (extends room)))
 
-    by-room : (b : Bool) → ltb (termPlaces t) (length (termsOf cs)) ≡ b
-        → Good (cond b (finished t workWords workNumbers (Answers.Refused (TableFull 4 (termPlaces t))) t) (finished t workWords workNumbers (Answers.Model made) (stored hs cs t)))
-    by-room true e = refusal-good (TableFull 4 (termPlaces t)) (finished t workWords workNumbers (Answers.Refused (TableFull 4 (termPlaces t))) t) refl
-    by-room false e =
-        λ (m : Model) (h : Answers.Model made ≡ Answers.Model m).
-        let same : made ≡ m = cc in
-        subst (λ (m : Model). testModel m (stored hs cs t) ≡ Tests.Accepted) same (made-passes (ltb-false (termPlaces t) (length (termsOf cs)) e))
-
   -- a model that was built passes the test
   pub built-passes : (m : Model) → build n i t workWords workNumbers .answer ≡ Answers.Model m → testModel m (build n i t workWords workNumbers .tables) ≡ Tests.Accepted
   unfolding build
   built-passes =
-      by-test _ _ (λ first.
+      by-test t workWords workNumbers _ _ (λ first.
       let e1 = passed (ltb maxQubits n) (TooManyQubits n maxQubits) _ first in
       let e2 = counted-passed maxHamiltonian (length (i .hNumbers)) _ (e1 .1) in
       let e3 = counted-passed maxJumps (length (i .rates)) _ (e2 .1) in
-      by-read (readHamiltonian n i) _ (λ hs reals. by-read (readJumps n i) _ (λ js jumps.
-      by-room (ltb-false maxQubits n (e1 .0)) (e2 .0) (e3 .0) (lengths-fit i t workWords workNumbers (e3 .1)) hs reals js jumps
-      (ltb (termPlaces t) (length (termsOf (map compileJump js)))) refl)))
+      by-read t workWords workNumbers (readHamiltonian n i) _ (λ hs reals. by-read t workWords workNumbers (readJumps n i) _ (λ js jumps.
+      by-room t workWords workNumbers (termPlaces t) (length (termsOf (map compileJump js)))
+      (record { qubits = n; hamiltonian = length hs; jumps = length (map compileJump js); terms = length (termsOf (map compileJump js)) }) (stored hs (map compileJump js) t)
+      (made-passes (ltb-false maxQubits n (e1 .0)) (e2 .0) (e3 .0) (lengths-fit i t workWords workNumbers (e3 .1)) hs reals js jumps))))

@@ -41,20 +41,24 @@ use Rattle.model_laws.proofs.ReadItems.{Inside, GivenGood, JumpGood}
 abbrev pub TermGood : ℕ → Term → Type 0
 TermGood n z = Sound (z .word) × GoodTerm n (z .word) (z .num)
 
-given-term : (n : ℕ) (z : Term) → GivenGood n z → TermGood n z
+pub given-term : (n : ℕ) (z : Term) → GivenGood n z → TermGood n z
 given-term n z g = (g .word .sound, record { below = g .word .below; bound = atMostC-bounded (omega arith) (inRange-atMostC (g .number)) })
 
 inside-mul : (n : ℕ) (v w : Word) → Inside n v → Inside n w → Inside n (mul v w)
 inside-mul n v w p q = record { sound = sound-mul v w; below = reaches-mul v w n (p .below) (q .below) }
 
 -- the product of two given operators
-pub formed-good : (n : ℕ) (A B : List Term) → length A ≤ 16 → length B ≤ 16 → Every (GivenGood n) A → Every (GivenGood n) B → Every (TermGood n) (formedOver floats pauli A B)
-formed-good n A B la lb a b =
-    every-weaken _ (TermGood n) (λ c s. (s .0 .sound, record { below = s .0 .below; bound = atMostC-bounded (omega arith) (s .1) })) (formedOver floats pauli A B)
-    (formed-bound (Inside n) (inside-mul n) A B la lb (numbers A a) (numbers B b))
+pub formed-sizes : (n : ℕ) (A B : List Term) → length A ≤ 16 → length B ≤ 16 → Every (GivenGood n) A → Every (GivenGood n) B
+    → Every (λ c. Inside n (c .word) × AtMostC 410 (c .num)) (formedOver floats pauli A B)
+formed-sizes n A B la lb a b = formed-bound (Inside n) (inside-mul n) A B la lb (numbers A a) (numbers B b)
   where
     numbers : (A : List Term) → Every (GivenGood n) A → Every (λ z. Inside n (z .word) × AtMostC 200 (z .num)) A
     numbers A a = every-weaken (GivenGood n) (λ z. Inside n (z .word) × AtMostC 200 (z .num)) (λ z g. (g .word, inRange-atMostC (g .number))) A a
+
+formed-good : (n : ℕ) (A B : List Term) → length A ≤ 16 → length B ≤ 16 → Every (GivenGood n) A → Every (GivenGood n) B → Every (TermGood n) (formedOver floats pauli A B)
+formed-good n A B la lb a b =
+    every-weaken _ (TermGood n) (λ c s. (s .0 .sound, record { below = s .0 .below; bound = atMostC-bounded (omega arith) (s .1) })) (formedOver floats pauli A B)
+    (formed-sizes n A B la lb a b)
 
 -- ---- one jump
 -- its entry, for terms that are stored from a place on, and its terms
@@ -145,10 +149,13 @@ unfolding entriesFrom
 entries-length at [] = refl
 entries-length at (c ∷ cs) = ap suc (entries-length (at + length (c .terms)) cs)
 
-pub terms-good : (n : ℕ) (cs : List Compiled) → Every (CompiledGood n) cs → Every (TermGood n) (termsOf cs)
+pub terms-every : (P : Term → Type 0) (cs : List Compiled) → Every (λ c. Every P (c .terms)) cs → Every P (termsOf cs)
 unfolding termsOf
-terms-good n [] h = tt
-terms-good n (c ∷ cs) h = every-append (TermGood n) (c .terms) (termsOf cs) (h .0 .terms) (terms-good n cs (h .1))
+terms-every P [] h = tt
+terms-every P (c ∷ cs) h = every-append P (c .terms) (termsOf cs) (h .0) (terms-every P cs (h .1))
+
+pub terms-good : (n : ℕ) (cs : List Compiled) → Every (CompiledGood n) cs → Every (TermGood n) (termsOf cs)
+terms-good n cs h = terms-every (TermGood n) cs (every-weaken (CompiledGood n) _ (λ c g. g .terms) cs h)
 
 pub entries-good : (n at : ℕ) (cs : List Compiled) → Every (CompiledGood n) cs → (j : ℕ) → j < length cs
     → GoodEntry at (termsOf cs) (getD (entriesFrom at cs) j []) (getD (ratesOf cs) j nan)

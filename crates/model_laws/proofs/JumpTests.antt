@@ -22,7 +22,7 @@ pub together : {a b : Bool} → a ≡ true → b ≡ true → (a && b) ≡ true
 together p q = rw (p, q)
 
 -- one of two tests
-either : {P : Type 0} (a b : Bool) → (a ≡ true → P) → (b ≡ true → P) → (a || b) ≡ true → P
+pub either : {P : Type 0} (a b : Bool) → (a ≡ true → P) → (b ≡ true → P) → (a || b) ≡ true → P
 either true b f g h = f refl
 either false b f g h = g h
 

@@ -11,8 +11,11 @@ pub mod RelatedLaws
 pub mod WordsBelow
 pub mod FormedBounds
 pub mod ReadItems
+pub mod Answered
 pub mod CompiledLaws
 pub mod BuiltLaws
+pub mod PairsGood
+pub mod AddedLaws
 pub mod FormedExact
 pub mod ActionBounds
 pub mod TestedNumbers

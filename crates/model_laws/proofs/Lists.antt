@@ -26,6 +26,10 @@ module _ {A : Type 0} where
   every-weaken P Q f [] h = tt
   every-weaken P Q f (a ∷ l) h = (f a (h .0), every-weaken P Q f l (h .1))
 
+  pub every-both : (P Q : A → Type 0) (l : List A) → Every P l → Every Q l → Every (λ a. P a × Q a) l
+  every-both P Q [] h k = tt
+  every-both P Q (a ∷ l) h k = ((h .0, k .0), every-both P Q l (h .1) (k .1))
+
   pub every-append : (P : A → Type 0) (l m : List A) → Every P l → Every P m → Every P (l ++ m)
   every-append P [] m h k = k
   every-append P (a ∷ l) m h k = (h .0, every-append P l m (h .1) k)

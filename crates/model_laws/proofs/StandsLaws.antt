@@ -49,7 +49,7 @@ any-some (suc n) f e = go (anyTo n f) (f n) (any-some n f) refl e
     go false true h k t = (n, omega arith, k)
     go false false h k t = absurd (true≢false (sym t))
 
-none-bad : (n : ℕ) (f : ℕ → Bool) (after : Answer) → entries n f after ≡ Accepted → NoneBefore f n × (after ≡ Accepted)
+pub none-bad : (n : ℕ) (f : ℕ → Bool) (after : Answer) → entries n f after ≡ Accepted → NoneBefore f n × (after ≡ Accepted)
 unfolding entries
 none-bad n f after e =
     let p = passed (ltb (firstTo n f) n) (NumberOutOfRange (firstTo n f)) after e in

@@ -1,5 +1,6 @@
 // SPDX-FileCopyrightText: 2026 The PPVM Authors
 // SPDX-License-Identifier: Apache-2.0
 
-// What building and testing a model promise together is proved in proofs/: a model that was built
-// passes the test, and so does one that stands with more laid after it. Nothing here runs.
+// What building, adding and testing a model promise together is proved in proofs/: a model that was
+// built passes the test, so does one to which a matrix was added, and so does one that stands with
+// more laid after it. Nothing here runs.
