@@ -16,6 +16,8 @@ pub mod CompiledLaws
 pub mod BuiltLaws
 pub mod PairsGood
 pub mod AddedLaws
+pub mod SizesLaws
+pub mod RoomLaws
 pub mod FormedExact
 pub mod ActionBounds
 pub mod TestedNumbers

@@ -8,3 +8,5 @@ pub mod Extended
 pub mod Related
 pub mod Exactly
 pub mod Ranged
+pub mod BuiltFrom
+pub mod AddedFrom
