@@ -25,11 +25,11 @@ use Rattle.model.specs.Built.{entriesFrom, termsOf, ratesOf}
 use Rattle.model.specs.declared.tables.Range.{Range}
 use Rattle.kossakowski.specs.Matrix.{passing}
 use Rattle.kossakowski.specs.Pairs.{factorOf, factorsOf, scaled, productAfter, compilePair}
-use Rattle.kossakowski.proofs.PairLaws.{pairs-length}
 use Rattle.model_laws.specs.Every.{Every}
 use Rattle.model_laws.specs.Stands.{InRange}
 use Rattle.model_laws.specs.Extended.{noTerm, GoodEntry}
 use Rattle.model_laws.proofs.Lists.{every-at, every-weaken, every-append, every-map}
+use Rattle.model_laws.proofs.RelatedLaws.{pairs-length}
 use Rattle.model_laws.proofs.JumpTests.{both, together, either}
 use Rattle.model_laws.proofs.FormedBounds.{inRange-atMostC, factor-bounded, product-bounded}
 use Rattle.model_laws.proofs.ReadItems.{GivenGood}
@@ -90,7 +90,7 @@ module _ (from own places : ℕ) (room : from + own ≤ places) (k : Cx floats) 
       let wl : left .end - left .start ≡ length A = omega (arith, inLeft .count) in
       let wr : right .end - right .start ≡ length B = omega (arith, inRight .count) in
       let many : (left .end - left .start) * (right .end - right .start) ≡ length A * length B = ap₂ _*_ wl wr in
-      let factors : length F ≡ length A * length B = pairs-length (factorOf k) A B in
+      let factors : length F ≡ length A * length B = pairs-length floats pauli (factorOf k) A B in
       record {
         eight = refl;
         kind = omega arith;

@@ -27,14 +27,14 @@ use Rattle.kossakowski.specs.Matrix.{pairPlaces}
 use Rattle.kossakowski.specs.Pairs.{factorOf, factorsOf, scaled, productAfter, compilePair, pairAt, pairsOf}
 use Rattle.kossakowski.specs.Added.{allTerms}
 use Rattle.kossakowski.proofs.MatrixLaws.{pairs-few}
-use Rattle.kossakowski.proofs.PairLaws.{pairs-length}
 use Rattle.model_laws.specs.Every.{Every}
 use Rattle.model_laws.specs.AddedFrom.{pairsUpTo, matrixPlaces}
 use Rattle.model_laws.proofs.Lists.{every-all, every-weaken, every-map}
+use Rattle.model_laws.proofs.RelatedLaws.{pairs-length}
 
 -- ---- a product has no more terms than there are pairs of terms
 put-few : (f : Term → Term → Term) (A B : List Term) → length (putAllOver floats pauli (pairsOver floats pauli f A B) []) ≤ length A * length B
-put-few f A B = omega (arith, length-put-all-high (pairsOver floats pauli f A B) [], pairs-length f A B)
+put-few f A B = omega (arith, length-put-all-high (pairsOver floats pauli f A B) [], pairs-length floats pauli f A B)
 
 formed-few : (A B : List Term) → length (formedOver floats pauli A B) ≤ length A * length B
 unfolding formedOver
@@ -88,7 +88,7 @@ jumps-fit c js h =
 pair-most : (c : ℕ) (k : Cx floats) (left right : Range) (A B : List Term) → length A ≤ c → length B ≤ c → length (compilePair k left right A B .terms) ≤ 2 * (c * c)
 unfolding compilePair
 pair-most c k left right A B a b =
-    omega (arith, length-append (factorsOf k A B) (productAfter k A B), pairs-length (factorOf k) A B, length-map (formedOver floats pauli A B) (scaled k), formed-few A B, mul-le-mul a b)
+    omega (arith, length-append (factorsOf k A B) (productAfter k A B), pairs-length floats pauli (factorOf k) A B, length-map (formedOver floats pauli A B) (scaled k), formed-few A B, mul-le-mul a b)
 
 operator-most : (c : ℕ) (As : List (List Term)) → Every (λ A. length A ≤ c) As → (n : ℕ) → length (getD As n []) ≤ c
 operator-most c [] h n = omega arith
