@@ -19,6 +19,7 @@ pub mod AddedLaws
 pub mod SizesLaws
 pub mod RoomLaws
 pub mod FormedExact
+pub mod WholeStored
 pub mod ActionBounds
 pub mod TestedNumbers
 pub mod RuleBounds

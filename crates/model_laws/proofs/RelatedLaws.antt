@@ -57,15 +57,27 @@ module _ (N M : Numbers) (S : Words) where
         go true k = k
         go false k = (h .0, h .1, k)
 
+  -- what f and g make of each
+  module _ (P R : S .Word → Cx N → Cx M → Type 0) (f : Onto N S → Onto N S) (g : Onto M S → Onto M S)
+      (make : (a : Onto N S) (b : Onto M S) → a .word ≡ b .word → P (a .word) (a .num) (b .num) → (f a .word ≡ g b .word) × R (f a .word) (f a .num) (g b .num)) where
+    pub like-map : (A : List (Onto N S)) (B : List (Onto M S)) → Like N M S P A B → Like N M S R (map f A) (map g B)
+    like-map [] [] h = tt
+    like-map [] (b ∷ B) h = absurd h
+    like-map (a ∷ A) [] h = absurd h
+    like-map (a ∷ A) (b ∷ B) h = let m = make a b (h .0) (h .1) in (m .0, m .1, like-map A B (h .2))
+
+  pub like-weaken : (P R : S .Word → Cx N → Cx M → Type 0) → ((w : S .Word) (x : Cx N) (y : Cx M) → P w x y → R w x y) → (A : List (Onto N S)) (B : List (Onto M S)) → Like N M S P A B → Like N M S R A B
+  like-weaken P R f [] [] h = tt
+  like-weaken P R f [] (b ∷ B) h = absurd h
+  like-weaken P R f (a ∷ A) [] h = absurd h
+  like-weaken P R f (a ∷ A) (b ∷ B) h = (h .0, f (a .word) (a .num) (b .num) (h .1), like-weaken P R f A B (h .2))
+
   -- ---- each with each
   module _ (P Q R : S .Word → Cx N → Cx M → Type 0) (f : Onto N S → Onto N S → Onto N S) (g : Onto M S → Onto M S → Onto M S)
       (make : (a b : Onto N S) (c d : Onto M S) → a .word ≡ c .word → P (a .word) (a .num) (c .num) → b .word ≡ d .word → Q (b .word) (b .num) (d .num)
       → (f a b .word ≡ g c d .word) × R (f a b .word) (f a b .num) (g c d .num)) where
     like-row : (a : Onto N S) (c : Onto M S) → a .word ≡ c .word → P (a .word) (a .num) (c .num) → (B : List (Onto N S)) (D : List (Onto M S)) → Like N M S Q B D → Like N M S R (map (f a) B) (map (g c) D)
-    like-row a c e p [] [] h = tt
-    like-row a c e p [] (d ∷ D) h = absurd h
-    like-row a c e p (b ∷ B) [] h = absurd h
-    like-row a c e p (b ∷ B) (d ∷ D) h = let m = make a b c d e p (h .0) (h .1) in (m .0, m .1, like-row a c e p B D (h .2))
+    like-row a c e p B D h = like-map Q R (f a) (g c) (λ b d e′ q. make a b c d e p e′ q) B D h
 
     pub like-pairs : (A B : List (Onto N S)) (C D : List (Onto M S)) → Like N M S P A C → Like N M S Q B D → Like N M S R (pairsOver N S f A B) (pairsOver M S g C D)
     unfolding pairsOver
@@ -81,10 +93,7 @@ module _ (N M : Numbers) (S : Words) where
       (more : (n : ℕ) → n < limit → (w v : S .Word) (x x′ : Cx N) (y y′ : Cx M) → R n w x y → Q v x′ y′ → R (suc n) w (addC N x x′) (addC M y y′))
       (longer : (m n : ℕ) → m ≤ n → (w : S .Word) (x : Cx N) (y : Cx M) → R m w x y → R n w x y) where
     like-longer : (m n : ℕ) → m ≤ n → (T : List (Onto N S)) (U : List (Onto M S)) → Like N M S (R m) T U → Like N M S (R n) T U
-    like-longer m n l [] [] h = tt
-    like-longer m n l [] (u ∷ U) h = absurd h
-    like-longer m n l (t ∷ T) [] h = absurd h
-    like-longer m n l (t ∷ T) (u ∷ U) h = (h .0, longer m n l (t .word) (t .num) (u .num) (h .1), like-longer m n l T U (h .2))
+    like-longer m n l T U h = like-weaken (R m) (R n) (longer m n l) T U h
 
     module _ (n : ℕ) (few : n < limit) (t : Onto N S) (u : Onto M S) (e : t .word ≡ u .word) (q : Q (t .word) (t .num) (u .num)) where
       fresh : R (suc n) (t .word) (addC N (zeroC N) (t .num)) (addC M (zeroC M) (u .num))

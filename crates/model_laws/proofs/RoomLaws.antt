@@ -40,7 +40,9 @@ use Rattle.kossakowski.specs.Matrix.{hermitian, pairPlaces}
 use Rattle.kossakowski.specs.Pairs.{pairsOf}
 use Rattle.kossakowski.specs.Added.{operators, matrix, maxOperators, entriesNeeded, workNeeded, readOperators, allTerms, matrixTests, compiledMatrix}
 use Rattle.kossakowski.specs.Added as Adding
+use Rattle.kossakowski.specs.Work.{matrixAnswer}
 use Rattle.kossakowski.proofs.AddLaws.{operators-are}
+use Rattle.kossakowski.proofs.MatrixAccepted.{matrix-accepted}
 use Rattle.model_laws.specs.Every.{Every}
 use Rattle.model_laws.specs.BuiltFrom.{answered, answeredRead, builtFrom, ModelCounts, ModelRoom}
 use Rattle.model_laws.specs.BuiltFrom as BuiltFrom
@@ -245,3 +247,12 @@ module _ (k c : ℕ) (m : Model) (i : Adding.Input) (few : MatrixCounts k c i) (
       (λ _.
       room-answer t workWords workNumbers (termPlaces t) (larger As .terms) (larger As) (Adding.stored m i t workWords workNumbers As (pairsOf (m .terms) (i .counts) (matrix i) As)) (pairs-room (tests-few first) As read))))
       ∙ ap (λ (a : Answer). answered a after) tests-same
+
+  -- what passes every test but 13 is added
+  pub added-model : matrixAnswer m i t workWords workNumbers ≡ Accepted → (m′ : Model) × (Adding.add m i t workWords workNumbers .answer ≡ Answers.Model m′)
+  added-model e =
+      let a = matrix-accepted m i t workWords workNumbers e in (
+        larger (a .As),
+        ap (λ (b : Building). b .answer) (a .add-is)
+            ∙ room-answer t workWords workNumbers (termPlaces t) (larger (a .As) .terms) (larger (a .As)) (Adding.stored m i t workWords workNumbers (a .As) (pairsOf (m .terms) (i .counts) (matrix i) (a .As))) (pairs-room (a .few) (a .As) (a .read)),
+      )

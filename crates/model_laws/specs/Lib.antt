@@ -10,3 +10,4 @@ pub mod Exactly
 pub mod Ranged
 pub mod BuiltFrom
 pub mod AddedFrom
+pub mod StoredOver
