@@ -23,8 +23,9 @@ use Rattle.model.specs.Checked.{givenAnswer, realLengths}
 use Rattle.model.specs.declared.tables.Model.{Model}
 use Rattle.model.specs.declared.spec.Built.the-variants as Answers
 use Rattle.model.proofs.BuildLaws.{jumps-own, build-accepted}
+use Rattle.model.proofs.SizeLaws.{opLengths}
 use Rattle.pebblelinen.specs.Models.{modelSizes}
-use Rattle.pebblelinen.proofs.SizeLaws.{opLengths, AtLeast, built}
+use Rattle.pebblelinen.proofs.SizeLaws.{AtLeast, built}
 
 lengths-taken : (n : ℕ) (gs : List GivenJump) → opLengths (map (jumpTaken n) gs) ≡ map (λ g. length (g .terms)) gs
 lengths-taken n [] = refl

@@ -4,82 +4,28 @@
 -- The lengths that `modelSizes` names are enough: in tables at least so long no lent table is too short, and 13 does not come.
 -- Assumes nothing.
 use mathlib.Core.Path.{_≡_, ap}
-use mathlib.Core.Bool.{Bool, true, false, cond}
-use mathlib.Core.List.{List, [], _∷_, map}
-use Prim.Native.Nat.{ℕ, suc, _+_, _*_, _/_, _≤_, min}
-use native.Mathlib.Nat.{le-trans, le-refl, le-of-eq, suc-mul, mul-le-mul, add-le-add}
+use mathlib.Core.List.{List, map}
+use Prim.Native.Nat.{ℕ, _+_, _*_, _/_, _≤_, min}
+use native.Mathlib.Nat.{le-trans, le-refl, le-of-eq, mul-le-mul}
 use native.Mathlib.Omega.{arith}
 use borrow.Author.Tests.{le-ltb}
 use lib.Ieee.{Float}
-use lib.ListN.{length, getD, length-append, length-map}
+use lib.ListN.{length, getD, length-map}
 use Rattle.number.specs.Floats.{floats}
 use Rattle.gksl.specs.Model.{RealTerm, JumpOver}
-use Rattle.gksl.specs.Rules.{formedOver, pairsOver}
-use Rattle.gksl.specs.Table.{putAllOver}
 use Rattle.gksl.specs.Words.{pauli}
-use Rattle.table.proofs.SumLaws.{length-put-all-high}
-use Rattle.model.specs.Compiled.{compileJump, generalJump, pauliJump}
-use Rattle.model.specs.Given.{Term, maxTerms}
+use Rattle.model.specs.Compiled.{compileJump}
+use Rattle.model.specs.Given.{maxTerms}
 use Rattle.model.specs.Stored.{Tables}
 use Rattle.model.specs.Tested.{maxHamiltonian, maxJumps}
 use Rattle.model.specs.Built.{Input, termsOf, termPlaces, workPlaces, compiledModel}
 use Rattle.model.specs.declared.spec.Built.the-variants as Answers
-use Rattle.model.proofs.OperatorLaws.{without-fewer}
+use Rattle.model.proofs.SizeLaws.{opLengths, terms-few, places-most}
 use Rattle.pebblelinen.specs.Models.{modelSizes}
 use Rattle.pebblelinen.specs.declared.models.Sizes.{Sizes}
 
 abbrev Jump : Type 0
 Jump = JumpOver floats pauli
-
--- ---- a product has no more terms than there are pairs
-pairs-few : (f : Term → Term → Term) (A B : List Term) (c : ℕ) → length B ≤ c → length (pairsOver floats pauli f A B) ≤ length A * c
-unfolding pairsOver
-pairs-few f [] B c h = omega arith
-pairs-few f (a ∷ A) B c h = omega (arith, h, length-append (map (f a) B) (pairsOver floats pauli f A B), length-map B (f a), pairs-few f A B c h, suc-mul (length A) c)
-
-put-few : (A : List Term) → length (putAllOver floats pauli A []) ≤ length A
-put-few A = omega (arith, length-put-all-high A [])
-
-pub formed-few : (A B : List Term) → length (formedOver floats pauli A B) ≤ length A * length B
-unfolding formedOver
-formed-few A B = le-trans (without-fewer _ _) (le-trans (put-few _) (pairs-few _ A B (length B) (le-refl (length B))))
-
--- ---- a jump stores its terms and its product
-abbrev pub placesOf : ℕ → ℕ
-placesOf k = k + k * k
-
-general-few : (g : Float) (op : List Term) → length (generalJump g op .terms) ≤ placesOf (length op)
-general-few g op = omega (arith, length-append op (formedOver floats pauli op op), formed-few op op)
-
-pub compiled-few : (g : Float) (op : List Term) → length (compileJump (record { rate = g; op = op }) .terms) ≤ placesOf (length op)
-unfolding compileJump
-compiled-few g [] = general-few g []
-compiled-few g (t ∷ []) = go (floats .isZero (t .num .im))
-  where
-    go : (b : Bool) → length ((cond b (pauliJump g t) (generalJump g (t ∷ []))) .terms) ≤ 2
-    go true = omega arith
-    go false = general-few g (t ∷ [])
-compiled-few g (t ∷ u ∷ op) = general-few g (t ∷ u ∷ op)
-
--- ---- all jumps
-unfoldable pub placesFor : List ℕ → ℕ
-placesFor [] = 0
-placesFor (k ∷ ks) = placesOf k + placesFor ks
-
-abbrev pub opLengths : List Jump → List ℕ
-opLengths js = map (λ j. length (j .op)) js
-
-pub terms-few : (js : List Jump) → length (termsOf (map compileJump js)) ≤ placesFor (opLengths js)
-unfolding termsOf placesFor
-terms-few [] = omega arith
-terms-few (j ∷ js) =
-    omega (arith, length-append (compileJump j .terms) (termsOf (map compileJump js)), compiled-few (j .rate) (j .op), terms-few js)
-
-pub places-most : (ks : List ℕ) (c : ℕ) → ((i : ℕ) → getD ks i 0 ≤ c) → placesFor ks ≤ length ks * (c + c * c)
-unfolding placesFor
-places-most [] c h = omega arith
-places-most (k ∷ ks) c h =
-    omega (arith, add-le-add (h 0) (mul-le-mul (h 0) (h 0)), places-most ks c (λ i. h (suc i)), suc-mul (length ks) (c + c * c))
 
 -- ---- tables at least as long as these sizes
 pub record AtLeast (s : Sizes) (t : Tables) (workWords : List ℕ) (workNumbers : List Float) : Type 0 where
