@@ -3,11 +3,12 @@
 
 -- What is built from accepted items: 13 where the terms find no room, else the model and its tables. Assumes nothing.
 use mathlib.Core.Path.{_≡_, refl, sym, ap, ap₂, _∙_}
-use mathlib.Core.Bool.{Bool, cond}
+use mathlib.Core.Bool.{Bool, true, false, not, cond}
 use mathlib.Core.List.{List, [], _∷_, map}
 use Prim.Native.Nat.{ℕ, suc, _/_, _≤_, _<_, min}
 use native.Mathlib.Omega.{arith}
-use borrow.Author.Tests.{lt-ltb, le-ltb}
+use borrow.Author.Tests.{lt-ltb, le-ltb, leb-true, leb-false, not-true, not-false}
+use lib.Dec.{leb}
 use lib.Ieee.{Float}
 use lib.ListN.{length, replicate, length-map}
 use Rattle.refusal.specs.declared.Refusal.the-variants.{TableFull}
@@ -21,7 +22,7 @@ use Rattle.model.specs.Compiled.{Compiled}
 use Rattle.model.specs.Built.{Input, parts, realItems, jumpItems, termsOf, termPlaces, finished, stored, build}
 use Rattle.model.specs.Items.{total}
 use Rattle.model.specs.Taken.{realTaken, RealsRoom, LaysReals}
-use Rattle.model.specs.Work.{termsGiven, JumpsFit, jumpsCompiled, CountsJumps, JumpsRoom, StoresJumps}
+use Rattle.model.specs.Work.{termsGiven, JumpsFit, jumpsCompiled, FitsJumps, JumpsRoom, StoresJumps}
 use Rattle.model.specs.Checked.{realLengths, termLengths, termTexts}
 use Rattle.model.proofs.Parts.{length-parts}
 use Rattle.model.proofs.BuildLaws.{Accepts, reals-count, length-jumps}
@@ -65,50 +66,57 @@ module _ (n : ℕ) (i : Input) (t : Tables) (workWords : List ℕ) (workNumbers 
     taken-are : taken ≡ jumps
     taken-are = ap₂ (λ (ns l : List ℕ). jumpsCompiled n (i .rates) (i .counts) ns l (i .numbers)) (rest-lengths i) (rest-texts i sum e)
 
-    module _ (kept : ℕ) (counts : CountsJumps n (i .counts) (restLengths i) (textsFrom i sum) (i .numbers) kept)
-        (places : ℕ) (p : places ≡ min (length (t .tWords) / 4) (length (t .tNumbers) / 2)) where
-      kept-is : kept ≡ length (termsOf jumps)
-      kept-is = counts .counts (i .rates) (sym (a .lengths .counts-each)) ∙ ap (λ (cs : List Compiled). length (termsOf cs)) taken-are
+    terms-are : length (termsOf taken) ≡ length (termsOf jumps)
+    terms-are = ap (λ (cs : List Compiled). length (termsOf cs)) taken-are
+
+    module _ (places : ℕ) (p : places ≡ min (length (t .tWords) / 4) (length (t .tNumbers) / 2))
+        (fit : Bool) (fits : FitsJumps n (i .counts) (restLengths i) (textsFrom i sum) (i .numbers) places fit) where
+      fit-is : fit ≡ leb (length (termsOf taken)) places
+      fit-is = fits .fits (i .rates) (sym (a .lengths .counts-each))
+
+      hold : not fit ≡ false → length (termsOf taken) ≤ places
+      hold h = leb-true (length (termsOf taken)) places (sym fit-is ∙ not-false fit h)
 
       module _ (words′ : List ℕ) (numbers′ : List Float) (cw : words′ ≡ replicate (length workWords) 0) (cn : numbers′ ≡ replicate (length workNumbers) float0) where
         -- a table that is full stays as it was
-        pub built-full : places < kept
+        pub built-full : not fit ≡ true
             → record { answer = Answers.Refused (TableFull 4 places); tables = t; workWords = words′; workNumbers = numbers′ } ≡ build n i t workWords workNumbers
         built-full h =
-            let full : termPlaces t < length (termsOf jumps) = rw (← p, ← kept-is) h in
+            let full : termPlaces t < length (termsOf jumps) = rw (← p, ← terms-are) (leb-false (length (termsOf taken)) places (sym fit-is ∙ not-true fit h)) in
             rw (cw, cn, p, a .build-is, lt-ltb (termPlaces t) (length (termsOf jumps)) full)
 
-        module _ (h : kept ≤ places) (hWords′ : List ℕ) (hCoeffs′ : List Float) (jumps′ : List ℕ) (rates′ : List Float) (tWords′ : List ℕ) (tNumbers′ : List Float)
+        module _ (h : not fit ≡ false) (hWords′ : List ℕ) (hCoeffs′ : List Float) (jumps′ : List ℕ) (rates′ : List Float) (tWords′ : List ℕ) (tNumbers′ : List Float) (terms : ℕ)
             (lays : LaysReals (map (realTaken n) (realItems (parts (ownLengths i) (i .texts)) (i .hNumbers))) (t .hWords) (t .hCoeffs) hWords′ hCoeffs′)
-            (stores : StoresJumps taken 0 0 (t .jumps) (t .rates) (t .tWords) (t .tNumbers) jumps′ rates′ tWords′ tNumbers′) where
+            (stores : StoresJumps taken 0 0 (t .jumps) (t .rates) (t .tWords) (t .tNumbers) jumps′ rates′ tWords′ tNumbers′ × (terms ≡ length (termsOf taken))) where
           tables-are : record { hWords = hWords′; hCoeffs = hCoeffs′; jumps = jumps′; rates = rates′; tWords = tWords′; tNumbers = tNumbers′ } ≡ stored reals jumps t
           unfolding stored
           tables-are =
-              rw (lays .lanes-are, lays .coeffs-are, stores .entries-are, stores .rates-are, stores .lays .lanes-are, stores .lays .numbers-are, own-is i, taken-are) refl
+              let s = stores .0 in
+              rw (lays .lanes-are, lays .coeffs-are, s .entries-are, s .rates-are, s .lays .lanes-are, s .lays .numbers-are, own-is i, taken-are) refl
 
           pub built-model : record {
-            answer = Answers.Model (record { qubits = n; hamiltonian = length (i .hNumbers); jumps = length (i .rates); terms = kept });
+            answer = Answers.Model (record { qubits = n; hamiltonian = length (i .hNumbers); jumps = length (i .rates); terms = terms });
             tables = record { hWords = hWords′; hCoeffs = hCoeffs′; jumps = jumps′; rates = rates′; tWords = tWords′; tNumbers = tNumbers′ };
             workWords = words′;
             workNumbers = numbers′;
           } ≡ build n i t workWords workNumbers
           built-model =
-              let fits : length (termsOf jumps) ≤ termPlaces t = rw (← p, ← kept-is) h in
+              let all : terms ≡ length (termsOf jumps) = stores .1 ∙ terms-are in
+              let room : length (termsOf jumps) ≤ termPlaces t = rw (← p, ← terms-are) (hold h) in
               (λ k. record {
-                answer = Answers.Model (record { qubits = n; hamiltonian = (sym reals-are) k; jumps = (sym jumps-number) k; terms = kept-is k });
+                answer = Answers.Model (record { qubits = n; hamiltonian = (sym reals-are) k; jumps = (sym jumps-number) k; terms = all k });
                 tables = tables-are k;
                 workWords = cw k;
                 workNumbers = cn k;
               })
-              ∙ sym (a .build-is ∙ ap (λ (b : Bool). cond b (finished t workWords workNumbers (Answers.Refused (TableFull 4 (termPlaces t))) t) (finished t workWords workNumbers (Answers.Model (record { qubits = n; hamiltonian = length reals; jumps = length jumps; terms = length (termsOf jumps) })) (stored reals jumps t))) (le-ltb (termPlaces t) (length (termsOf jumps)) fits))
+              ∙ sym (a .build-is ∙ ap (λ (b : Bool). cond b (finished t workWords workNumbers (Answers.Refused (TableFull 4 (termPlaces t))) t) (finished t workWords workNumbers (Answers.Model (record { qubits = n; hamiltonian = length reals; jumps = length jumps; terms = length (termsOf jumps) })) (stored reals jumps t))) (le-ltb (termPlaces t) (length (termsOf jumps)) room))
 
-      pub jumps-room : kept ≤ places → JumpsRoom taken 0 0 (t .jumps) (t .rates) (t .tWords) (t .tNumbers)
+      pub jumps-room : not fit ≡ false → JumpsRoom taken 0 0 (t .jumps) (t .rates) (t .tWords) (t .tNumbers)
       jumps-room h =
-          let k : length (termsOf taken) ≡ kept = sym (counts .counts (i .rates) (sym (a .lengths .counts-each))) in
           let c : length taken ≡ length (i .rates) = ap length taken-are ∙ jumps-number in
           record {
             entries-room = omega (arith, c, a .entries-room);
             rates-room = omega (arith, c, a .rates-room);
-            lanes-room = omega (arith, k, h, p);
-            numbers-room = omega (arith, k, h, p);
+            lanes-room = omega (arith, hold h, p);
+            numbers-room = omega (arith, hold h, p);
           }

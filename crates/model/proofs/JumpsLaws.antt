@@ -2,7 +2,7 @@
 -- SPDX-License-Identifier: Apache-2.0
 
 -- Jumps counted and stored in turn: what is left after each makes up what is wanted. Assumes nothing.
-use mathlib.Core.Path.{_≡_, refl, sym, ap, ap₂, _∙_, subst⁻¹}
+use mathlib.Core.Path.{_≡_, refl, sym, ap, ap₂, _∙_}
 use mathlib.Core.Bool.{Bool, true, false, cond}
 use mathlib.Core.List.{List, [], _∷_, _++_, map, map-append}
 use Prim.Native.Nat.{ℕ, suc, _+_, _-_, _*_, _≤_, _<_}
@@ -348,5 +348,9 @@ module _ (n : ℕ) (cs ns l : List ℕ) (xs gs : List Float) (lanes₀ : List �
       }
 
     pub store-jumps-done : length cs ≤ j → StoresJumps (jumpsCompiled n gs cs ns l xs) 0 0 jumps₀ rates₀ tLanes₀ tNumbers₀ jumps rates tLanes tNumbers
+        × (place ≡ length (termsOf (jumpsCompiled n gs cs ns l xs)))
     store-jumps-done h =
-        storing-done (jumpsCompiled n gs cs ns l xs) jumps₀ rates₀ tLanes₀ tNumbers₀ 0 0 (compiledLeft n cs ns l xs gs j t p) jumps rates tLanes tNumbers place j (s .storing) (left-end n cs ns l xs gs j t p h)
+        let none : compiledLeft n cs ns l xs gs j t p ≡ [] = left-end n cs ns l xs gs j t p h in (
+          storing-done (jumpsCompiled n gs cs ns l xs) jumps₀ rates₀ tLanes₀ tNumbers₀ 0 0 (compiledLeft n cs ns l xs gs j t p) jumps rates tLanes tNumbers place j (s .storing) none,
+          omega (arith, s .storing .placed, ap (λ (x : List Compiled). length (termsOf x)) none ∙ terms-end),
+        )

@@ -20,6 +20,7 @@ pub mod GivenTerms
 pub mod ModelTests
 pub mod TestOrder
 pub mod JumpsLaws
+pub mod SizeLaws
 pub mod BuildLaws
 pub mod CheckLaws
 pub mod FinishLaws

@@ -6,6 +6,7 @@ use mathlib.Core.Path.{_≡_, refl, sym, ap, ap₂, _∙_, subst, subst⁻¹}
 use mathlib.Core.Bool.{Bool, true, false, cond}
 use mathlib.Core.List.{List, [], _∷_, _++_, map}
 use Prim.Native.Nat.{ℕ, suc, _+_, _-_, _*_, _≤_}
+use native.Mathlib.Nat.{suc-mul}
 use native.Mathlib.Omega.{arith}
 use lib.Ieee.{Float}
 use lib.ListN.{length, set, length-append, length-map, length-take}
@@ -52,10 +53,10 @@ compile-general g (t ∷ []) h = rw h
 compile-general g (t ∷ u ∷ op) h = refl
 
 -- ---- how many sums and terms there can be
-pairs-few : (f : Term → Term → Term) (A B : List Term) → length B ≤ 16 → length (pairsOver floats pauli f A B) ≤ 16 * length A
+pub pairs-few : (f : Term → Term → Term) (A B : List Term) (c : ℕ) → length B ≤ c → length (pairsOver floats pauli f A B) ≤ length A * c
 unfolding pairsOver
-pairs-few f [] B h = omega arith
-pairs-few f (a ∷ A) B h = omega (arith, length-append (map (f a) B) (pairsOver floats pauli f A B), length-map B (f a), pairs-few f A B h)
+pairs-few f [] B c h = omega arith
+pairs-few f (a ∷ A) B c h = omega (arith, h, length-append (map (f a) B) (pairsOver floats pauli f A B), length-map B (f a), pairs-few f A B c h, suc-mul (length A) c)
 
 pub without-fewer : (p : Term → Bool) (T : List Term) → length (withoutOver floats pauli p T) ≤ length T
 unfolding withoutOver
@@ -105,7 +106,7 @@ module _ (k : ℕ) (lanes : List ℕ) (numbers : List Float) (room : WorkRoom k 
     pub sums-few : r ≤ 256
     sums-few =
         let op : List Term = operatorIn k lanes numbers in
-        omega (arith, forms .count, length-put-all-high (pairsOver floats pauli formedTerm op op) (table 0 lanes numbers), pairs-few formedTerm op op (omega (arith, operator-length, room .few)), operator-length, room .few)
+        omega (arith, forms .count, length-put-all-high (pairsOver floats pauli formedTerm op op) (table 0 lanes numbers), pairs-few formedTerm op op 16 (omega (arith, operator-length, room .few)), operator-length, room .few)
 
     pub stored-few : k + length (thinned (table r lanes′ numbers′)) ≤ 272
     stored-few = omega (arith, room .few, sums-few, without-fewer (λ c. floats .small (square floats (c .num))) (table r lanes′ numbers′), length-take r (rows (words lanes′) (complexes numbers′)))

@@ -6,6 +6,7 @@ use Prim.Native.Nat.{ℕ, _+_, _*_, _≤_, _<_}
 use mathlib.Core.Path.{_≡_}
 use mathlib.Core.Bool.{Bool, false}
 use mathlib.Core.List.{List, [], _∷_, map}
+use lib.Dec.{leb}
 use lib.Ieee.{Float}
 use lib.ListN.{length, getD, set}
 use Rattle.number.specs.Floats.{floats}
@@ -78,6 +79,15 @@ jumpsCompiled n gs cs ns l xs = map (λ j. compileJump (jumpTaken n j)) (jumpIte
 -- how many terms are stored for the jumps, whatever their rates
 pub record CountsJumps (n : ℕ) (cs ns l : List ℕ) (xs : List Float) (r : ℕ) : Type 0 where
   pub counts : (gs : List Float) → length gs ≡ length cs → r ≡ length (termsOf (jumpsCompiled n gs cs ns l xs))
+
+-- no more than these places: k terms and their k × k products for each jump
+unfoldable pub placesFor : List ℕ → ℕ
+placesFor [] = 0
+placesFor (k ∷ ks) = k + k * k + placesFor ks
+
+-- whether so many places hold the terms of the jumps, whatever their rates
+pub record FitsJumps (n : ℕ) (cs ns l : List ℕ) (xs : List Float) (places : ℕ) (r : Bool) : Type 0 where
+  pub fits : (gs : List Float) → length gs ≡ length cs → r ≡ leb (length (termsOf (jumpsCompiled n gs cs ns l xs))) places
 
 -- room for the entries from j on and the terms from a place on
 pub record JumpsRoom (cs : List Compiled) (j at : ℕ) (jumps : List ℕ) (rates : List Float) (tLanes : List ℕ) (tNumbers : List Float) : Type 0 where

@@ -4,13 +4,14 @@
 // Building a model from texts and numbers.
 //
 // Nothing that is lent may change where an item is refused or the terms find no room. So the items
-// are read three times: to test them, to count the compiled terms, and to store them.
+// are read to test them and again to store them, and in between to count the compiled terms where
+// the terms table may be too short.
 ghost use mathlib.Core.Path.{_≡_};
 ghost use Rattle.refusal.specs.declared.Answer.the-variants.{Accepted};
 ghost use Rattle.model.specs.Built.{build};
 ghost use Rattle.model.specs.Checked.{givenAnswer};
 use crate::check::check_given;
-use crate::compile::count_jumps;
+use crate::compile::jumps_fit;
 use crate::compile::store_jumps;
 use crate::items::sum_of;
 use crate::tables::Model;
@@ -57,17 +58,17 @@ fn compile_given(
     let rest = &lengths[h..];
     let at = sum_of(own);
     let after = &texts[at..];
-    let kept = count_jumps(
+    let places = smaller(t_words.len() / WORD_LANES, t_numbers.len() / 2);
+    if !jumps_fit(
         after,
         rest,
         counts,
         numbers,
         n_qubits,
+        places,
         work_words,
         work_numbers,
-    );
-    let places = smaller(t_words.len() / WORD_LANES, t_numbers.len() / 2);
-    if places < kept {
+    ) {
         clear_lanes(work_words);
         clear_numbers(work_numbers);
         return Built::Refused(Refusal::TableFull {
@@ -76,7 +77,7 @@ fn compile_given(
         });
     }
     store_hamiltonian(texts, own, h_numbers, n_qubits, h_words, h_coeffs);
-    store_jumps(
+    let terms = store_jumps(
         after,
         rest,
         given,
@@ -96,7 +97,7 @@ fn compile_given(
         qubits: n_qubits,
         hamiltonian: h,
         jumps: given.len(),
-        terms: kept,
+        terms,
     })
 }
 

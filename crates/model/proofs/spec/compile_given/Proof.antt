@@ -32,13 +32,19 @@ accepts : (s : tie.Start) → Accepts (s .args .n-qubits) (input s) (tables s) (
 accepts s = build-accepted (s .args .n-qubits) (input s) (tables s) (s .args .work-words .now) (s .args .work-numbers .now) (s .pre)
 
 part-own-end : tie.Need-part-own-end
-part-own-end c = let s = c .before .before .before .before .before .before .before .before .before .before .before .before .before .before in omega (arith, accepts s .lengths .texts-each)
+part-own-end c =
+    let s = c .before .before .before .before .before .before .before .before .before .before .before .before .before .before in
+    omega (arith, accepts s .lengths .texts-each)
 
 sub-rest : tie.Need-sub-rest
-sub-rest c = let s = c .before .before .before .before .before .before .before .before .before .before .before .before .before .before .before in omega (arith, accepts s .lengths .texts-each)
+sub-rest c =
+    let s = c .before .before .before .before .before .before .before .before .before .before .before .before .before .before .before in
+    omega (arith, accepts s .lengths .texts-each)
 
 part-rest-start : tie.Need-part-rest-start
-part-rest-start c = let s = c .before .before .before .before .before .before .before .before .before .before .before .before .before .before .before in omega (arith, accepts s .lengths .texts-each)
+part-rest-start c =
+    let s = c .before .before .before .before .before .before .before .before .before .before .before .before .before .before .before in
+    omega (arith, accepts s .lengths .texts-each)
 
 sum-of-requires : tie.Need-sum-of-requires
 sum-of-requires c κs =
@@ -47,49 +53,69 @@ sum-of-requires c κs =
     omega (arith, f, own-hold (input s) (tables s) (s .args .work-words .now) (s .args .work-numbers .now) (accepts s .lengths))
 
 sub-after : tie.Need-sub-after
-sub-after c = let s = c .before .before .before .before .before .before .before .before .before .before .before .before .before .before .before .before .before in omega (arith, c .sum-of .ensures, own-hold (input s) (tables s) (s .args .work-words .now) (s .args .work-numbers .now) (accepts s .lengths))
+sub-after c =
+    let s = c .before .before .before .before .before .before .before .before .before .before .before .before .before .before .before .before .before in
+    omega (arith, c .sum-of .ensures, own-hold (input s) (tables s) (s .args .work-words .now) (s .args .work-numbers .now) (accepts s .lengths))
 
 part-after-start : tie.Need-part-after-start
-part-after-start c = let s = c .before .before .before .before .before .before .before .before .before .before .before .before .before .before .before .before .before in omega (arith, c .sum-of .ensures, own-hold (input s) (tables s) (s .args .work-words .now) (s .args .work-numbers .now) (accepts s .lengths))
+part-after-start c =
+    let s = c .before .before .before .before .before .before .before .before .before .before .before .before .before .before .before .before .before in
+    omega (arith, c .sum-of .ensures, own-hold (input s) (tables s) (s .args .work-words .now) (s .args .work-numbers .now) (accepts s .lengths))
 
-count-jumps-requires : tie.Need-count-jumps-requires
-count-jumps-requires c κs = let s = c .before .before .before .before .before .before .before .before .before .before .before .before .before .before .before .before .before .before .before .before in (own-jumps (s .args .n-qubits) (input s) (tables s) (s .args .work-words .now) (s .args .work-numbers .now) (accepts s) (c .before .before .before .sum-of .result) (c .before .before .before .sum-of .ensures), accepts s .work)
+jumps-fit-requires : tie.Need-jumps-fit-requires
+jumps-fit-requires c κs =
+    let s = c .before .before .before .before .before .before .before .before .before .before .before .before .before .before .before .before .before .before .before .before .before in
+    let sum = c .before .before .before .before .sum-of in
+    (own-jumps (s .args .n-qubits) (input s) (tables s) (s .args .work-words .now) (s .args .work-numbers .now) (accepts s) (sum .result) (sum .ensures), accepts s .work)
 
 returns : tie.Need-returns
 returns c =
     let s = c .before .before .before .before .before .before .before .before .before .before .before .before .before .before .before .before .before .before .before .before .before .before .before .before .before .before .before .before .before .before .before .before .before .before .before in
-    let k = c .before .before .before .before .before .before .before .before .before .before .before .before .before .before .count-jumps .kept in
-    built-full (s .args .n-qubits) (input s) (tables s) (s .args .work-words .now) (s .args .work-numbers .now) (accepts s) (c .before .before .before .before .before .before .before .before .before .before .before .before .before .before .before .before .before .before .sum-of .result) (c .before .before .before .before .before .before .before .before .before .before .before .before .before .before .before .before .before .before .sum-of .ensures) (c .before .before .before .before .before .before .before .before .before .before .before .before .before .before .count-jumps .result) (c .before .before .before .before .before .before .before .before .before .before .before .before .before .before .count-jumps .ensures) (c .before .before .before .before .before .before .before .before .before .smaller .result) (c .before .before .before .before .before .before .before .before .before .smaller .ensures) _ _
-    (c .before .before .before .before .before .before .clear-lanes .ensures ∙ ap (λ (m : ℕ). replicate m 0) (k .1 .1 .1 .1 .1 .0)) (c .before .before .clear-numbers .ensures ∙ ap (λ (m : ℕ). replicate m float0) (k .1 .1 .1 .1 .1 .1 .0)) (c .before .before .before .before .before .before .before .before .if1 .taken)
+    let sum = c .before .before .before .before .before .before .before .before .before .before .before .before .before .before .before .before .before .before .sum-of in
+    let places = c .before .before .before .before .before .before .before .before .before .before .before .before .before .before .before .before .smaller in
+    let fit = c .before .before .before .before .before .before .before .before .before .before .before .before .before .jumps-fit in
+    let k = fit .kept in
+    built-full (s .args .n-qubits) (input s) (tables s) (s .args .work-words .now) (s .args .work-numbers .now) (accepts s) (sum .result) (sum .ensures) (places .result) (places .ensures) (fit .result) (fit .ensures) _ _ (c .before .before .before .before .before .before .clear-lanes .ensures ∙ ap (λ (m : ℕ). replicate m 0) (k .1 .1 .1 .1 .1 .1 .0)) (c .before .before .clear-numbers .ensures ∙ ap (λ (m : ℕ). replicate m float0) (k .1 .1 .1 .1 .1 .1 .1 .0))
+    (c .before .before .before .before .before .before .before .before .if1 .taken)
 
 store-hamiltonian-requires : tie.Need-store-hamiltonian-requires
-store-hamiltonian-requires c κs = let s = c .before .before .before .before .before .before .before .before .before .before .before .before .before .before .before .before .before .before .before .before .before .before .before .before .before .before .before .before .before in own-reals (s .args .n-qubits) (input s) (tables s) (s .args .work-words .now) (s .args .work-numbers .now) (accepts s)
+store-hamiltonian-requires c κs =
+    let s = c .before .before .before .before .before .before .before .before .before .before .before .before .before .before .before .before .before .before .before .before .before .before .before .before .before .before .before .before .before in
+    own-reals (s .args .n-qubits) (input s) (tables s) (s .args .work-words .now) (s .args .work-numbers .now) (accepts s)
 
 store-jumps-requires : tie.Need-store-jumps-requires
 store-jumps-requires c κs =
     let s = c .before .before .before .before .before .before .before .before .before .before .before .before .before .before .before .before .before .before .before .before .before .before .before .before .before .before .before .before .before .before .before .before .before .before .before .before .before .before .before .before in
-    let k = c .before .before .before .before .before .before .before .before .before .before .before .before .before .before .before .before .before .before .before .count-jumps .kept in
+    let sum = c .before .before .before .before .before .before .before .before .before .before .before .before .before .before .before .before .before .before .before .before .before .before .before .sum-of in
+    let places = c .before .before .before .before .before .before .before .before .before .before .before .before .before .before .before .before .before .before .before .before .before .smaller in
+    let fit = c .before .before .before .before .before .before .before .before .before .before .before .before .before .before .before .before .before .before .jumps-fit in
+    let k = fit .kept in
     let w = accepts s .work in (
-      own-jumps (s .args .n-qubits) (input s) (tables s) (s .args .work-words .now) (s .args .work-numbers .now) (accepts s) (c .before .before .before .before .before .before .before .before .before .before .before .before .before .before .before .before .before .before .before .before .before .before .before .sum-of .result) (c .before .before .before .before .before .before .before .before .before .before .before .before .before .before .before .before .before .before .before .before .before .before .before .sum-of .ensures),
+      own-jumps (s .args .n-qubits) (input s) (tables s) (s .args .work-words .now) (s .args .work-numbers .now) (accepts s) (sum .result) (sum .ensures),
       sym (accepts s .lengths .counts-each),
-      record { lanes-long = omega (arith, w .lanes-long, k .1 .1 .1 .1 .1 .0); numbers-long = omega (arith, w .numbers-long, k .1 .1 .1 .1 .1 .1 .0); few = w .few },
-      jumps-room (s .args .n-qubits) (input s) (tables s) (s .args .work-words .now) (s .args .work-numbers .now) (accepts s) (c .before .before .before .before .before .before .before .before .before .before .before .before .before .before .before .before .before .before .before .before .before .before .before .sum-of .result) (c .before .before .before .before .before .before .before .before .before .before .before .before .before .before .before .before .before .before .before .before .before .before .before .sum-of .ensures) (c .before .before .before .before .before .before .before .before .before .before .before .before .before .before .before .before .before .before .before .count-jumps .result) (c .before .before .before .before .before .before .before .before .before .before .before .before .before .before .before .before .before .before .before .count-jumps .ensures) (c .before .before .before .before .before .before .before .before .before .before .before .before .before .before .smaller .result) (c .before .before .before .before .before .before .before .before .before .before .before .before .before .before .smaller .ensures) (c .before .before .before .before .before .before .before .before .before .before .before .before .before .if1 .left),
+      record { lanes-long = omega (arith, w .lanes-long, k .1 .1 .1 .1 .1 .1 .0); numbers-long = omega (arith, w .numbers-long, k .1 .1 .1 .1 .1 .1 .1 .0); few = w .few },
+      jumps-room (s .args .n-qubits) (input s) (tables s) (s .args .work-words .now) (s .args .work-numbers .now) (accepts s) (sum .result) (sum .ensures) (places .result) (places .ensures) (fit .result) (fit .ensures) (c .before .before .before .before .before .before .before .before .before .before .before .before .before .if1 .left),
     )
 
 same-length-9 : tie.Need-same-length-9
-same-length-9 c = c .before .before .before .before .before .before .clear-lanes2 .kept .0 ∙ c .before .before .before .before .before .before .before .before .before .before .before .before .before .before .before .before .before .before .before .before .store-jumps .kept .1 .1 .1 .1 .1 .1 .0 ∙ c .before .before .before .before .before .before .before .before .before .before .before .before .before .before .before .before .before .before .before .before .before .before .before .before .before .before .before .before .before .before .before .before .before .before .before .before .before .before .before .before .count-jumps .kept .1 .1 .1 .1 .1 .0
+same-length-9 c =
+    c .before .before .before .before .before .before .clear-lanes2 .kept .0 ∙ c .before .before .before .before .before .before .before .before .before .before .before .before .before .before .before .before .before .before .before .before .store-jumps .kept .1 .1 .1 .1 .1 .1 .0 ∙ c .before .before .before .before .before .before .before .before .before .before .before .before .before .before .before .before .before .before .before .before .before .before .before .before .before .before .before .before .before .before .before .before .before .before .before .before .before .before .before .jumps-fit .kept .1 .1 .1 .1 .1 .1 .0
 
 same-length-10 : tie.Need-same-length-10
-same-length-10 c = c .before .before .clear-numbers2 .kept .0 ∙ c .before .before .before .before .before .before .before .before .before .before .before .before .before .before .before .before .before .before .before .before .store-jumps .kept .1 .1 .1 .1 .1 .1 .1 .0 ∙ c .before .before .before .before .before .before .before .before .before .before .before .before .before .before .before .before .before .before .before .before .before .before .before .before .before .before .before .before .before .before .before .before .before .before .before .before .before .before .before .before .count-jumps .kept .1 .1 .1 .1 .1 .1 .0
+same-length-10 c =
+    c .before .before .clear-numbers2 .kept .0 ∙ c .before .before .before .before .before .before .before .before .before .before .before .before .before .before .before .before .before .before .before .before .store-jumps .kept .1 .1 .1 .1 .1 .1 .1 .0 ∙ c .before .before .before .before .before .before .before .before .before .before .before .before .before .before .before .before .before .before .before .before .before .before .before .before .before .before .before .before .before .before .before .before .before .before .before .before .before .before .before .jumps-fit .kept .1 .1 .1 .1 .1 .1 .1 .0
 
 returns-2 : tie.Need-returns-2
 returns-2 c =
     let s = c .before .before .before .before .before .before .before .before .before .before .before .before .before .before .before .before .before .before .before .before .before .before .before .before .before .before .before .before .before .before .before .before .before .before .before .before .before .before .before .before .before .before .before .before .before .before .before .before .before .before .before .before .before .before .before .before .before .before .before .before .before in
-    let k = c .before .before .before .before .before .before .before .before .before .before .before .before .before .before .before .before .before .before .before .before .before .before .before .before .before .before .before .before .before .before .before .before .before .before .before .before .before .before .before .before .count-jumps .kept in
-    let j = c .before .before .before .before .before .before .before .before .before .before .before .before .before .before .before .before .before .before .before .before .store-jumps .kept in
-    built-model (s .args .n-qubits) (input s) (tables s) (s .args .work-words .now) (s .args .work-numbers .now) (accepts s) (c .before .before .before .before .before .before .before .before .before .before .before .before .before .before .before .before .before .before .before .before .before .before .before .before .before .before .before .before .before .before .before .before .before .before .before .before .before .before .before .before .before .before .before .before .sum-of .result) (c .before .before .before .before .before .before .before .before .before .before .before .before .before .before .before .before .before .before .before .before .before .before .before .before .before .before .before .before .before .before .before .before .before .before .before .before .before .before .before .before .before .before .before .before .sum-of .ensures) (c .before .before .before .before .before .before .before .before .before .before .before .before .before .before .before .before .before .before .before .before .before .before .before .before .before .before .before .before .before .before .before .before .before .before .before .before .before .before .before .before .count-jumps .result) (c .before .before .before .before .before .before .before .before .before .before .before .before .before .before .before .before .before .before .before .before .before .before .before .before .before .before .before .before .before .before .before .before .before .before .before .before .before .before .before .before .count-jumps .ensures) (c .before .before .before .before .before .before .before .before .before .before .before .before .before .before .before .before .before .before .before .before .before .before .before .before .before .before .before .before .before .before .before .before .before .before .before .smaller .result) (c .before .before .before .before .before .before .before .before .before .before .before .before .before .before .before .before .before .before .before .before .before .before .before .before .before .before .before .before .before .before .before .before .before .before .before .smaller .ensures) _ _
-    (c .before .before .before .before .before .before .clear-lanes2 .ensures ∙ ap (λ (m : ℕ). replicate m 0) (j .1 .1 .1 .1 .1 .1 .0 ∙ k .1 .1 .1 .1 .1 .0)) (c .before .before .clear-numbers2 .ensures ∙ ap (λ (m : ℕ). replicate m float0) (j .1 .1 .1 .1 .1 .1 .1 .0 ∙ k .1 .1 .1 .1 .1 .1 .0))
-    (c .before .before .before .before .before .before .before .before .before .before .before .before .before .before .before .before .before .before .before .before .before .before .before .before .before .before .before .before .before .before .before .before .before .before .if1 .left) _ _ _ _ _ _ (c .before .before .before .before .before .before .before .before .before .before .before .before .before .before .before .before .before .before .before .before .before .before .before .before .before .before .before .before .before .before .before .store-hamiltonian .ensures) (c .before .before .before .before .before .before .before .before .before .before .before .before .before .before .before .before .before .before .before .before .store-jumps .ensures)
+    let sum = c .before .before .before .before .before .before .before .before .before .before .before .before .before .before .before .before .before .before .before .before .before .before .before .before .before .before .before .before .before .before .before .before .before .before .before .before .before .before .before .before .before .before .before .before .sum-of in
+    let places = c .before .before .before .before .before .before .before .before .before .before .before .before .before .before .before .before .before .before .before .before .before .before .before .before .before .before .before .before .before .before .before .before .before .before .before .before .before .before .before .before .before .before .smaller in
+    let fit = c .before .before .before .before .before .before .before .before .before .before .before .before .before .before .before .before .before .before .before .before .before .before .before .before .before .before .before .before .before .before .before .before .before .before .before .before .before .before .before .jumps-fit in
+    let k = fit .kept in
+    let stores = c .before .before .before .before .before .before .before .before .before .before .before .before .before .before .before .before .before .before .before .before .store-jumps in
+    let j = stores .kept in
+    built-model (s .args .n-qubits) (input s) (tables s) (s .args .work-words .now) (s .args .work-numbers .now) (accepts s) (sum .result) (sum .ensures) (places .result) (places .ensures) (fit .result) (fit .ensures) _ _ (c .before .before .before .before .before .before .clear-lanes2 .ensures ∙ ap (λ (m : ℕ). replicate m 0) (j .1 .1 .1 .1 .1 .1 .0 ∙ k .1 .1 .1 .1 .1 .1 .0)) (c .before .before .clear-numbers2 .ensures ∙ ap (λ (m : ℕ). replicate m float0) (j .1 .1 .1 .1 .1 .1 .1 .0 ∙ k .1 .1 .1 .1 .1 .1 .1 .0))
+    (c .before .before .before .before .before .before .before .before .before .before .before .before .before .before .before .before .before .before .before .before .before .before .before .before .before .before .before .before .before .before .before .before .before .before .if1 .left) _ _ _ _ _ _ (stores .result) (c .before .before .before .before .before .before .before .before .before .before .before .before .before .before .before .before .before .before .before .before .before .before .before .before .before .before .before .before .before .before .before .store-hamiltonian .ensures) (stores .ensures)
 
 pub compile-given-spec : {M : Type 1} → statement M
 compile-given-spec =
@@ -106,8 +132,8 @@ compile-given-spec =
     sub-after
     part-after-start
     (λ c. search needs)
-    count-jumps-requires
     (λ c κs. search needs)
+    jumps-fit-requires
     (λ c κs. search needs)
     (λ c κs. search needs)
     (λ c. search needs)
