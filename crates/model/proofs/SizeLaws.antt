@@ -5,8 +5,8 @@
 use mathlib.Core.Path.{_≡_, sym, ap}
 use mathlib.Core.Bool.{Bool, true, false, cond}
 use mathlib.Core.List.{List, [], _∷_, map}
-use Prim.Native.Nat.{ℕ, suc, _+_, _*_, _≤_, _<_}
-use native.Mathlib.Nat.{le-trans, le-refl, suc-mul, mul-le-mul, add-le-add}
+use Prim.Native.Nat.{ℕ, _+_, _*_, _≤_, _<_}
+use native.Mathlib.Nat.{le-trans, le-refl, mul-le-mul, add-le-add}
 use native.Mathlib.Numerals.{add-one}
 use native.Mathlib.Omega.{arith}
 use borrow.Author.Tests.{le-leb}
@@ -15,7 +15,6 @@ use lib.Ieee.{Float}
 use lib.ListN.{length, getD, take, drop, length-append, length-map, length-take, drop-of-length-le}
 use lib.Seq.{drop-cons}
 use Rattle.number.specs.Floats.{floats}
-use Rattle.gksl.specs.Model.{JumpOver}
 use Rattle.gksl.specs.Rules.{formedOver}
 use Rattle.gksl.specs.Table.{putAllOver}
 use Rattle.gksl.specs.Words.{pauli}
@@ -27,14 +26,11 @@ use Rattle.model.specs.Taken.{termTaken, jumpTaken}
 use Rattle.model.specs.Work.{CountsJumps, placesFor, FitsJumps, termsGiven}
 use Rattle.model.proofs.OperatorLaws.{pairs-few, without-fewer}
 
-abbrev Jump : Type 0
-Jump = JumpOver floats pauli
-
 -- ---- a product has no more terms than there are pairs
 put-few : (A : List Term) → length (putAllOver floats pauli A []) ≤ length A
 put-few A = omega (arith, length-put-all-high A [])
 
-formed-few : (A B : List Term) → length (formedOver floats pauli A B) ≤ length A * length B
+pub formed-few : (A B : List Term) → length (formedOver floats pauli A B) ≤ length A * length B
 unfolding formedOver
 formed-few A B = le-trans (without-fewer _ _) (le-trans (put-few _) (pairs-few _ A B (length B) (le-refl (length B))))
 
@@ -42,7 +38,7 @@ formed-few A B = le-trans (without-fewer _ _) (le-trans (put-few _) (pairs-few _
 general-few : (g : Float) (op : List Term) → length (generalJump g op .terms) ≤ length op + length op * length op
 general-few g op = omega (arith, length-append op (formedOver floats pauli op op), formed-few op op)
 
-compiled-few : (g : Float) (op : List Term) → length (compileJump (record { rate = g; op = op }) .terms) ≤ length op + length op * length op
+pub compiled-few : (g : Float) (op : List Term) → length (compileJump (record { rate = g; op = op }) .terms) ≤ length op + length op * length op
 unfolding compileJump
 compiled-few g [] = general-few g []
 compiled-few g (t ∷ []) = go (floats .isZero (t .num .im))
@@ -52,17 +48,7 @@ compiled-few g (t ∷ []) = go (floats .isZero (t .num .im))
     go false = general-few g (t ∷ [])
 compiled-few g (t ∷ u ∷ op) = general-few g (t ∷ u ∷ op)
 
--- ---- all jumps
-abbrev pub opLengths : List Jump → List ℕ
-opLengths js = map (λ j. length (j .op)) js
-
-pub terms-few : (js : List Jump) → length (termsOf (map compileJump js)) ≤ placesFor (opLengths js)
-unfolding termsOf placesFor
-terms-few [] = omega arith
-terms-few (j ∷ js) =
-    omega (arith, length-append (compileJump j .terms) (termsOf (map compileJump js)), compiled-few (j .rate) (j .op), terms-few js)
-
--- jumps of at most so many terms each
+-- ---- all jumps, of at most so many terms each
 given-few : (n : ℕ) (gs : List Float) (cs : List ℕ) (ts : List GivenTerm) → length (termsOf (map (λ j. compileJump (jumpTaken n j)) (jumpItems gs (parts cs ts)))) ≤ placesFor cs
 unfolding termsOf placesFor jumpItems parts
 given-few n [] cs ts = omega arith
@@ -72,13 +58,6 @@ given-few n (g ∷ gs) (c ∷ cs) ts =
     let k : length op ≤ c = omega (arith, length-map (take c ts) (termTaken n), length-take c ts) in
     omega (arith, length-append (compileJump (record { rate = g; op = op }) .terms) (termsOf (map (λ j. compileJump (jumpTaken n j)) (jumpItems gs (parts cs (drop c ts))))), compiled-few g op, add-le-add k (mul-le-mul k k), given-few n gs cs (drop c ts))
 
-pub places-most : (ks : List ℕ) (c : ℕ) → ((i : ℕ) → getD ks i 0 ≤ c) → placesFor ks ≤ length ks * (c + c * c)
-unfolding placesFor
-places-most [] c h = omega arith
-places-most (k ∷ ks) c h =
-    omega (arith, add-le-add (h 0) (mul-le-mul (h 0) (h 0)), places-most ks c (λ i. h (suc i)), suc-mul (length ks) (c + c * c))
-
--- ---- counted: of what is left at jump j
 pub places-turn : (cs : List ℕ) (j : ℕ) → j < length cs → placesFor (drop j cs) ≡ getD cs j 0 + getD cs j 0 * getD cs j 0 + placesFor (drop (j + 1) cs)
 unfolding placesFor
 places-turn cs j h = rw (add-one j) (ap placesFor (drop-cons cs j 0 h))

@@ -5,12 +5,11 @@
 use mathlib.Core.Path.{_≡_, sym, ap, _∙_, subst, subst⁻¹}
 use mathlib.Core.Bool.{not}
 use mathlib.Core.List.{List, [], _∷_, _++_}
-use Prim.Native.Nat.{ℕ, suc, _+_, _*_, _/_, _%_, _≤_, _<_}
+use Prim.Native.Nat.{ℕ, _+_, _*_, _/_, _%_, _≤_, _<_}
 use native.Mathlib.Omega.{arith}
 use borrow.Author.Tests.{not-false}
 use lib.Ieee.{Float, nan}
-use lib.ListN.{length, getD, take, drop, length-map, length-append, length-drop}
-use lib.Seq.{drop-cons, length-take-le}
+use lib.ListN.{length, getD, length-map, length-append}
 use Rattle.refusal.specs.declared.Answer.the-variants as Tests
 use Rattle.word.proofs.Sums.{or-left, or-right}
 use Rattle.number.specs.Numbers.{Cx}
@@ -24,21 +23,21 @@ use Rattle.model.specs.Fails.{numberFails}
 use Rattle.model.specs.Given.{got, Term, readOperator}
 use Rattle.model.specs.Compiled.{Compiled}
 use Rattle.model.specs.Laid.{laid}
-use Rattle.model.specs.Built.{parts, entriesFrom, termsOf, ratesOf, termPlaces}
+use Rattle.model.specs.Built.{entriesFrom, termsOf, ratesOf, termPlaces}
 use Rattle.model.specs.Items.{total}
 use Rattle.model.specs.Work.{operatorTaken}
 use Rattle.model.specs.declared.tables.Model.{Model}
 use Rattle.model.specs.declared.spec.Built.the-variants as Answers
 use Rattle.model.proofs.BuildLaws.{both, counted-passed}
 use Rattle.model.proofs.Firsts.{NoneBefore}
-use Rattle.model.proofs.Parts.{length-parts, drop-parts, parts-turn, length-complexes}
+use Rattle.model.proofs.Parts.{length-parts, length-complexes}
 use Rattle.kossakowski.specs.Matrix.{isPair, pairPlaces}
 use Rattle.kossakowski.specs.Pairs.{rangeOf, pairAt, pairsOf}
 use Rattle.kossakowski.specs.Added.{Input, operators, operatorsGiven, matrix, maxOperators, lengthsAnswer, readOperators, allTerms, matrixTests, pairsTest, stored, compiledMatrix, add}
 use Rattle.kossakowski.proofs.MatrixLaws.{row-below, column-below, entry-place, pairs-few}
 use Rattle.kossakowski.proofs.MatrixLengths.{LengthsFit, lengths-fit}
 use Rattle.kossakowski.proofs.PairsLaws.{range-fits}
-use Rattle.kossakowski.proofs.AddLaws.{operators-are, all-are, all-length}
+use Rattle.kossakowski.proofs.AddLaws.{part-count, operators-are, all-are, all-length}
 use Rattle.model_laws.specs.Every.{Every}
 use Rattle.model_laws.specs.Stands.{InRange}
 use Rattle.model_laws.specs.Extended.{Additions, larger, extended, Extends}
@@ -56,14 +55,6 @@ pub all-every : (P : Term → Type 0) (As : List (List Term)) → Every (Every P
 unfolding allTerms
 all-every P [] h = tt
 all-every P (A ∷ As) h = every-append P A (allTerms As) (h .0) (all-every P As (h .1))
-
--- a part has its length, where it ends before the end
-part-length : {A : Type 0} (ns : List ℕ) (l : List A) (j : ℕ) → j < length ns → total (take j ns) + getD ns j 0 ≤ length l → length (getD (parts ns l) j []) ≡ getD ns j 0
-part-length {A} ns l j h room =
-    let p : ℕ = total (take j ns) in
-    let turn : drop j (parts ns l) ≡ take (getD ns j 0) (drop p l) ∷ parts (drop (j + 1) ns) (drop (p + getD ns j 0) l) = drop-parts j ns l ∙ parts-turn ns l j p h in
-    let first : drop j (parts ns l) ≡ getD (parts ns l) j [] ∷ drop (suc j) (parts ns l) = drop-cons (parts ns l) j [] (omega (arith, length-parts ns l)) in
-    ap (λ (ps : List (List A)). length (getD ps 0 [])) (sym first ∙ turn) ∙ length-take-le (getD ns j 0) (drop p l) (omega (arith, room, length-drop p l))
 
 module _ (m : Model) (i : Input) (t : Tables) (workWords : List ℕ) (workNumbers : List Float) where
   module _ (modelled : testModel m t ≡ Tests.Accepted) (fit : LengthsFit m i t workWords workNumbers) (numbers : NoneBefore (numberFails (i .k)) (operators i * operators i))
@@ -98,7 +89,7 @@ module _ (m : Model) (i : Input) (t : Tables) (workWords : List ℕ) (workNumber
       operator-length =
           let L : List Term = operatorTaken n (i .lengths) (i .texts) (i .numbers) in
           let e : length own ≡ length L = ap length (all-are n i As read (fit .terms-counted) (fit .numbers-two)) in
-          ap (λ (Bs : List (List Term)). length (getD Bs j [])) (operators-are n i As read) ∙ part-length (i .counts) L j l (omega (arith, e, own-number, range-fits (i .counts) j l))
+          ap (λ (Bs : List (List Term)). length (getD Bs j [])) (operators-are n i As read) ∙ part-count (i .counts) L (omega (arith, e, own-number, fit .terms-counted)) j l
 
       operator-among : Among (m .terms) (length own) (length (getD As j [])) (rangeOf (m .terms) (i .counts) j)
       operator-among = record { low = omega arith; count = omega (arith, operator-length); high = omega (arith, own-number, range-fits (i .counts) j l) }

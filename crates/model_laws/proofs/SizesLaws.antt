@@ -3,26 +3,22 @@
 
 -- How many terms are stored at most, by the numbers of jumps, operators and their terms alone. Assumes nothing.
 use mathlib.Core.Path.{subst}
-use mathlib.Core.Bool.{Bool, true, false, cond}
 use mathlib.Core.List.{List, [], _∷_, _++_, map}
 use Prim.Native.Nat.{ℕ, zero, suc, _+_, _*_, _/_, _≤_}
 use native.Mathlib.Nat.{le-trans, suc-mul, mul-le-mul, mul-le-mul-right}
 use native.Mathlib.Omega.{arith}
-use lib.Ieee.{Float}
 use lib.ListN.{length, getD, take, drop, length-append, length-map, length-take}
 use Rattle.number.specs.Numbers.{Cx}
 use Rattle.number.specs.Floats.{floats}
 use Rattle.gksl.specs.Model.{JumpOver}
-use Rattle.gksl.specs.Rules.{pairsOver, formedOver}
-use Rattle.gksl.specs.Table.{putAllOver}
+use Rattle.gksl.specs.Rules.{formedOver}
 use Rattle.gksl.specs.Words.{pauli}
-use Rattle.table.proofs.SumLaws.{length-put-all-high}
 use Rattle.model.specs.Given.{Term}
-use Rattle.model.specs.Compiled.{Compiled, pauliJump, generalJump, compileJump}
+use Rattle.model.specs.Compiled.{Compiled, compileJump}
 use Rattle.model.specs.Built.{parts, termsOf}
 use Rattle.model.specs.Items.{total}
 use Rattle.model.specs.declared.tables.Range.{Range}
-use Rattle.model.proofs.OperatorLaws.{without-fewer}
+use Rattle.model.proofs.SizeLaws.{formed-few, compiled-few}
 use Rattle.kossakowski.specs.Matrix.{pairPlaces}
 use Rattle.kossakowski.specs.Pairs.{factorOf, factorsOf, scaled, productAfter, compilePair, pairAt, pairsOf}
 use Rattle.kossakowski.specs.Added.{allTerms}
@@ -31,14 +27,6 @@ use Rattle.model_laws.specs.Every.{Every}
 use Rattle.model_laws.specs.AddedFrom.{pairsUpTo, matrixPlaces}
 use Rattle.model_laws.proofs.Lists.{every-all, every-weaken, every-map}
 use Rattle.model_laws.proofs.RelatedLaws.{pairs-length}
-
--- ---- a product has no more terms than there are pairs of terms
-put-few : (f : Term → Term → Term) (A B : List Term) → length (putAllOver floats pauli (pairsOver floats pauli f A B) []) ≤ length A * length B
-put-few f A B = omega (arith, length-put-all-high (pairsOver floats pauli f A B) [], pairs-length floats pauli f A B)
-
-formed-few : (A B : List Term) → length (formedOver floats pauli A B) ≤ length A * length B
-unfolding formedOver
-formed-few A B = le-trans (without-fewer _ _) (put-few _ A B)
 
 -- ---- terms one after another
 terms-most : (n : ℕ) (cs : List Compiled) → Every (λ c. length (c .terms) ≤ n) cs → length (termsOf cs) ≤ length cs * n
@@ -63,21 +51,8 @@ parts-every P down [] l h = tt
 parts-every P down (k ∷ ns) l h = (down (length (take k l)) k (omega (arith, length-take k l)) (h 0), parts-every P down ns (drop k l) (λ j. h (suc j)))
 
 -- ---- jumps: the operator's terms and its product
-general-few : (g : Float) (op : List Term) → length (generalJump g op .terms) ≤ length op + length op * length op
-general-few g op = omega (arith, length-append op (formedOver floats pauli op op), formed-few op op)
-
-jump-few : (g : Float) (op : List Term) → length (compileJump (record { rate = g; op = op }) .terms) ≤ length op + length op * length op
-unfolding compileJump
-jump-few g [] = general-few g []
-jump-few g (t ∷ []) = go (floats .isZero (t .num .im))
-  where
-    go : (b : Bool) → length (cond b (pauliJump g t) (generalJump g (t ∷ [])) .terms) ≤ 2
-    go true = omega arith
-    go false = general-few g (t ∷ [])
-jump-few g (t ∷ u ∷ op) = general-few g (t ∷ u ∷ op)
-
 jump-most : (c : ℕ) (j : JumpOver floats pauli) → length (j .op) ≤ c → length (compileJump j .terms) ≤ c + c * c
-jump-most c j h = omega (arith, h, jump-few (j .rate) (j .op), mul-le-mul h h)
+jump-most c j h = omega (arith, h, compiled-few (j .rate) (j .op), mul-le-mul h h)
 
 pub jumps-fit : (c : ℕ) (js : List (JumpOver floats pauli)) → Every (λ j. length (j .op) ≤ c) js → length (termsOf (map compileJump js)) ≤ length js * (c + c * c)
 jumps-fit c js h =
