@@ -413,22 +413,22 @@ fn large(rng: &mut Rng, tallies: &mut Tallies) {
     let standing = Standing::built(rng, jumps(1));
     for operators in [0, 1, MAX_OPERATORS, MAX_OPERATORS + 1] {
         for terms in [1, 2] {
-            let matrix = inputs::full(rng, 2, operators, terms);
+            let matrix = inputs::full(rng, 2, false, operators, terms);
             add_sized(rng, tallies, &standing, &matrix);
         }
     }
     for terms in [MAX_TERMS, MAX_TERMS + 1] {
-        let matrix = inputs::full(rng, 2, 3, terms);
+        let matrix = inputs::full(rng, 2, false, 3, terms);
         add_sized(rng, tallies, &standing, &matrix);
     }
-    let most = inputs::full(rng, 2, MAX_OPERATORS, MAX_TERMS);
+    let most = inputs::full(rng, 2, false, MAX_OPERATORS, MAX_TERMS);
     add_sized(rng, tallies, &standing, &most);
 
     // Three pairs, or two where an entry is skipped, beside as many jumps as there may be.
     for before in MAX_JUMPS - 4..=MAX_JUMPS {
         let standing = Standing::built(rng, jumps(before));
         for skipped in [false, true] {
-            let mut matrix = inputs::full(rng, 2, 2, 1);
+            let mut matrix = inputs::full(rng, 2, false, 2, 1);
             if skipped {
                 matrix.k[1][1] = (0.0, 0.0);
             }

@@ -4,7 +4,7 @@
 //! Matrices over operators, with nothing or something wrong, and entries at the edge of each test.
 
 use super::Rng;
-use super::models::{alter, change, number, operator, spoil_text, text, wrong_number};
+use super::models::{alter, change, number, operator, plain_text, spoil_text, wrong_number};
 use crate::port::matrices::Given;
 use crate::port::models::{Lent, Model, Sizes};
 use crate::rules::models::{Complex, MAX_OPERATORS, MAX_TERMS};
@@ -102,12 +102,19 @@ pub fn sound(rng: &mut Rng, n_qubits: usize) -> Matrix {
     matrix
 }
 
-/// A matrix of one-term operators, each on a text of its own choosing, with no entry of K 0.
-pub fn full(rng: &mut Rng, n_qubits: usize, count: usize, terms: usize) -> Matrix {
+/// A matrix of so many operators of so many terms each, with no entry of K 0.
+pub fn full(
+    rng: &mut Rng,
+    n_qubits: usize,
+    neighbours: bool,
+    count: usize,
+    terms: usize,
+) -> Matrix {
     let part = |rng: &mut Rng| 1.0 + rng.below(1000) as f64 / 1024.0;
     let operators = (0..count)
         .map(|_| {
-            let term = |_| (text(rng, n_qubits), (part(rng), part(rng)));
+            let text = |rng: &mut Rng| plain_text(rng, n_qubits, neighbours);
+            let term = |_| (text(rng), (part(rng), part(rng)));
             (0..terms).map(term).collect()
         })
         .collect();

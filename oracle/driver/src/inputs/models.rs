@@ -76,7 +76,7 @@ pub(super) fn wrong_number(rng: &mut Rng) -> f64 {
     if rng.one_in(2) { size } else { -size }
 }
 
-pub(super) fn text(rng: &mut Rng, n_qubits: usize) -> Vec<u8> {
+fn text(rng: &mut Rng, n_qubits: usize) -> Vec<u8> {
     let mut text = letters(rng, n_qubits);
     if rng.one_in(8) {
         text.insert(rng.below(text.len() + 1), b'_');
@@ -124,20 +124,23 @@ pub fn sound(rng: &mut Rng) -> Items {
     }
 }
 
-/// The largest model of Hamiltonian items and general jumps of two terms. Words have letters on two
-/// neighbours, or every weight as likely as every other.
+/// A text with letters on two neighbours of at least two qubits, or with every weight as likely as
+/// every other.
+pub(super) fn plain_text(rng: &mut Rng, n_qubits: usize, neighbours: bool) -> Vec<u8> {
+    if !neighbours {
+        return letters(rng, n_qubits);
+    }
+    let mut text = vec![b'I'; n_qubits];
+    let qubit = rng.below(n_qubits - 1);
+    text[qubit] = rng.pick(b"XYZ");
+    text[qubit + 1] = rng.pick(b"IXYZ");
+    text
+}
+
+/// The largest model of Hamiltonian items and general jumps of two terms.
 pub fn largest(rng: &mut Rng, neighbours: bool) -> Items {
     let n_qubits = MAX_QUBITS;
-    let text = |rng: &mut Rng| {
-        if !neighbours {
-            return letters(rng, n_qubits);
-        }
-        let mut text = vec![b'I'; n_qubits];
-        let qubit = rng.below(n_qubits - 1);
-        text[qubit] = rng.pick(b"XYZ");
-        text[qubit + 1] = rng.pick(b"IXYZ");
-        text
-    };
+    let text = |rng: &mut Rng| plain_text(rng, n_qubits, neighbours);
     let number = |rng: &mut Rng| 1.0 + rng.below(1000) as f64 / 1024.0;
     Items {
         n_qubits,
