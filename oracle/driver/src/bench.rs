@@ -5,6 +5,7 @@
 //!
 //! The sides take turns, so that a busy machine slows them alike, and the best round counts.
 
+mod matrices;
 mod models;
 mod words;
 
@@ -67,7 +68,11 @@ impl Side {
 
 /// Times everything. Fails where the sides do not answer alike.
 pub fn run(seed: u64) -> ExitCode {
-    let alike = [words::bench(seed), models::bench(seed)];
+    let alike = [
+        words::bench(seed),
+        models::bench(seed),
+        matrices::bench(seed),
+    ];
     if alike.iter().all(|&alike| alike) {
         ExitCode::SUCCESS
     } else {

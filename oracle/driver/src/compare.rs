@@ -6,6 +6,7 @@
 //! The port must give document 01's answer to every case. The Rust must give it too, but where the
 //! document lists a difference.
 
+mod matrices;
 mod models;
 mod words;
 
@@ -120,6 +121,7 @@ impl Tally {
 pub fn run(seed: u64, cases: usize) -> ExitCode {
     let mut tallies = words::compare(seed, cases);
     tallies.extend(models::compare(seed, cases));
+    tallies.extend(matrices::compare(seed, cases));
 
     println!("operation            cases disagreements  expected port alone");
     tallies.iter().for_each(Tally::print);

@@ -3,6 +3,7 @@
 
 //! The published Rust, asked and answering in the port's structs.
 
+pub mod matrices;
 pub mod models;
 
 use crate::port::{Commutator, Parsed, Phased, Status, Word};
@@ -33,7 +34,8 @@ fn status(error: &Error) -> Status {
         Error::InvalidPauliCode { code } => (4, code as u64, 0),
         Error::NegativeRate { index, .. } => (5, index as u64, 0),
         Error::EmptyLincomb { index } => (6, index as u64, 0),
-        _ => unreachable!("no error of words and models: {error:?}"),
+        Error::KMatrixNotHermitian { n, m } => (10, n as u64, m as u64),
+        _ => unreachable!("no error of words, models and matrices: {error:?}"),
     };
     Status {
         refusal,

@@ -7,6 +7,7 @@
 //! the Rust cannot be asked. A word is taken apart into its letters first; only `order` looks at
 //! lanes.
 
+pub mod matrices;
 pub mod models;
 
 use crate::port::{Commutator, Parsed, Phased, Status, Word};
@@ -17,7 +18,7 @@ pub const MAX_QUBITS: usize = 128;
 /// The letter of each code.
 const LETTERS: [u8; 4] = *b"IXZY";
 
-fn refusal(number: u64, first: usize, second: usize) -> Status {
+pub fn refusal(number: u64, first: usize, second: usize) -> Status {
     Status {
         refusal: number,
         first: first as u64,

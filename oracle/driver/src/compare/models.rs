@@ -16,6 +16,7 @@ use crate::port::models::{self as port, Built, Given, Lent, Model, Sizes};
 use crate::published::models::RustItems;
 use crate::rules::MAX_QUBITS;
 use crate::rules::models as rules;
+use crate::rules::refusal;
 
 /// How often each large model is built.
 const LARGE_CASES: usize = 4;
@@ -59,13 +60,15 @@ struct Tallies {
     tested: Vec<Tally>,
 }
 
+/// A tally for each answer.
+pub(super) fn by_answer(accepted: &'static str) -> Vec<Tally> {
+    let mut tallies: Vec<Tally> = OPERATIONS.map(Tally::new).into();
+    tallies[0] = Tally::new(accepted);
+    tallies
+}
+
 impl Tallies {
     fn new() -> Self {
-        let by_answer = |accepted: &'static str| {
-            let mut tallies: Vec<Tally> = OPERATIONS.map(Tally::new).into();
-            tallies[0] = Tally::new(accepted);
-            tallies
-        };
         Self {
             built: by_answer("model built"),
             tested: by_answer("model tested"),
@@ -75,28 +78,26 @@ impl Tallies {
 
 /// What building answers and what it leaves in the lent tables.
 #[derive(Debug, PartialEq)]
-struct Outcome {
-    built: Built,
-    lent: Lent,
+pub(super) struct Outcome {
+    pub built: Built,
+    pub lent: Lent,
+}
+
+/// How the Rust refuses a text, which it reads by characters.
+pub(super) fn refused_text(bytes: &[u8], n_qubits: usize) -> Option<Status> {
+    let text = std::str::from_utf8(bytes).expect("the Rust was asked");
+    let kept: Vec<char> = text.chars().filter(|&c| c != '_').collect();
+    if kept.len() != n_qubits {
+        return Some(refusal(2, n_qubits, kept.len()));
+    }
+    let place = kept.iter().position(|c| !"IXYZ".contains(*c))?;
+    Some(refusal(3, kept[place] as usize, place))
 }
 
 /// What the Rust is known to answer: the rules without ranges, limits and tables, with characters
 /// for bytes.
 fn unlimited(items: &Items) -> Status {
-    let refusal = |refusal, first: usize, second: usize| Status {
-        refusal,
-        first: first as u64,
-        second: second as u64,
-    };
-    let text = |bytes: &[u8]| {
-        let text = std::str::from_utf8(bytes).expect("the Rust was asked");
-        let kept: Vec<char> = text.chars().filter(|&c| c != '_').collect();
-        if kept.len() != items.n_qubits {
-            return Some(refusal(2, items.n_qubits, kept.len()));
-        }
-        let place = kept.iter().position(|c| !"IXYZ".contains(*c))?;
-        Some(refusal(3, kept[place] as usize, place))
-    };
+    let text = |bytes: &[u8]| refused_text(bytes, items.n_qubits);
     if items.n_qubits > MAX_QUBITS {
         return refusal(1, items.n_qubits, MAX_QUBITS);
     }
@@ -162,7 +163,7 @@ fn build(tallies: &mut Tallies, items: &Items, given: &Given, sound: bool, lent:
     let built = rules.built;
     if built.status.refusal == 0 {
         // What was built passes the test.
-        test(tallies, built.model, &port.lent, items.size());
+        test(&mut tallies.tested, built.model, &port.lent, items.size());
     }
     let answers = Answers {
         listed: listed(items, &rules, rust.as_ref()),
@@ -182,7 +183,7 @@ fn build(tallies: &mut Tallies, items: &Items, given: &Given, sound: bool, lent:
     built
 }
 
-fn test(tallies: &mut Tallies, model: Model, lent: &Lent, size: usize) {
+pub(super) fn test(tested: &mut [Tally], model: Model, lent: &Lent, size: usize) {
     let answers = Answers {
         rust: None,
         port: port::test_model(model, lent),
@@ -190,7 +191,7 @@ fn test(tallies: &mut Tallies, model: Model, lent: &Lent, size: usize) {
         listed: false,
     };
     let input = || format!("{model:?} in {lent:?}");
-    tallies.tested[answers.rules.refusal as usize].count(size, input, answers);
+    tested[answers.rules.refusal as usize].count(size, input, answers);
 }
 
 /// A small model, sound or not, in tables that are long enough or not; then, where it was built, the
@@ -236,7 +237,7 @@ fn build_small(rng: &mut Rng, tallies: &mut Tallies) {
     for _ in 0..=rng.below(2) {
         inputs::spoil_model(rng, &mut model, &mut exact);
     }
-    test(tallies, model, &exact, items.size());
+    test(&mut tallies.tested, model, &exact, items.size());
 }
 
 /// Models at the limits of counts: one item more is refused.

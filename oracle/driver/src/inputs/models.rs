@@ -49,7 +49,7 @@ impl Items {
 
 /// A number within the range of model numbers: whole, at the range's ends, any, or such that the
 /// product of an operator with one of its terms 1 has numbers at the tolerance of thinning.
-fn number(rng: &mut Rng) -> f64 {
+pub(super) fn number(rng: &mut Rng) -> f64 {
     let size = match rng.below(8) {
         0 => 0.0,
         1..=3 => rng.below(5) as f64,
@@ -61,7 +61,7 @@ fn number(rng: &mut Rng) -> f64 {
 }
 
 /// A number out of the range, or at its ends.
-fn wrong_number(rng: &mut Rng) -> f64 {
+pub(super) fn wrong_number(rng: &mut Rng) -> f64 {
     let size = rng.pick(&[
         f64::NAN,
         f64::INFINITY,
@@ -85,7 +85,7 @@ fn text(rng: &mut Rng, n_qubits: usize) -> Vec<u8> {
 }
 
 /// Terms of an operator. Some words come again, so that numbers of the product add up and cancel.
-fn operator(rng: &mut Rng, n_qubits: usize, count: usize) -> Vec<(Vec<u8>, Complex)> {
+pub(super) fn operator(rng: &mut Rng, n_qubits: usize, count: usize) -> Vec<(Vec<u8>, Complex)> {
     let words: Vec<Vec<u8>> = (0..count).map(|_| text(rng, n_qubits)).collect();
     let number = |rng: &mut Rng| match rng.below(3) {
         0 => (number(rng), 0.0),
@@ -124,20 +124,23 @@ pub fn sound(rng: &mut Rng) -> Items {
     }
 }
 
-/// The largest model of Hamiltonian items and general jumps of two terms. Words have letters on two
-/// neighbours, or every weight as likely as every other.
+/// A text with letters on two neighbours of at least two qubits, or with every weight as likely as
+/// every other.
+pub(super) fn plain_text(rng: &mut Rng, n_qubits: usize, neighbours: bool) -> Vec<u8> {
+    if !neighbours {
+        return letters(rng, n_qubits);
+    }
+    let mut text = vec![b'I'; n_qubits];
+    let qubit = rng.below(n_qubits - 1);
+    text[qubit] = rng.pick(b"XYZ");
+    text[qubit + 1] = rng.pick(b"IXYZ");
+    text
+}
+
+/// The largest model of Hamiltonian items and general jumps of two terms.
 pub fn largest(rng: &mut Rng, neighbours: bool) -> Items {
     let n_qubits = MAX_QUBITS;
-    let text = |rng: &mut Rng| {
-        if !neighbours {
-            return letters(rng, n_qubits);
-        }
-        let mut text = vec![b'I'; n_qubits];
-        let qubit = rng.below(n_qubits - 1);
-        text[qubit] = rng.pick(b"XYZ");
-        text[qubit + 1] = rng.pick(b"IXYZ");
-        text
-    };
+    let text = |rng: &mut Rng| plain_text(rng, n_qubits, neighbours);
     let number = |rng: &mut Rng| 1.0 + rng.below(1000) as f64 / 1024.0;
     Items {
         n_qubits,
@@ -197,7 +200,7 @@ pub fn spoil(rng: &mut Rng, items: &mut Items) {
     }
 }
 
-fn spoil_text(rng: &mut Rng, text: &mut Vec<u8>) {
+pub(super) fn spoil_text(rng: &mut Rng, text: &mut Vec<u8>) {
     match rng.below(4) {
         0 => text.push(b'I'),
         1 => drop(text.pop()),
@@ -205,26 +208,30 @@ fn spoil_text(rng: &mut Rng, text: &mut Vec<u8>) {
     }
 }
 
+/// One more or one less.
+pub(super) fn change<T: Default>(rng: &mut Rng, slice: &mut Vec<T>) {
+    if rng.one_in(2) {
+        slice.push(T::default());
+    } else {
+        slice.pop();
+    }
+}
+
+/// Another length in the place of one.
+pub(super) fn alter(rng: &mut Rng, lengths: &mut [u64]) {
+    if !lengths.is_empty() {
+        let length = &mut lengths[rng.below(lengths.len())];
+        *length = match rng.below(4) {
+            0 => rng.next(),
+            1 => length.wrapping_add(1 << 63),
+            2 => length.wrapping_add(1),
+            _ => length.wrapping_sub(1),
+        };
+    }
+}
+
 /// Something wrong with the lengths of what is given.
 pub fn spoil_lengths(rng: &mut Rng, given: &mut Given) {
-    fn change<T: Copy + Default>(rng: &mut Rng, slice: &mut Vec<T>) {
-        if rng.one_in(2) {
-            slice.push(T::default());
-        } else {
-            slice.pop();
-        }
-    }
-    fn alter(rng: &mut Rng, lengths: &mut [u64]) {
-        if !lengths.is_empty() {
-            let length = &mut lengths[rng.below(lengths.len())];
-            *length = match rng.below(4) {
-                0 => rng.next(),
-                1 => length.wrapping_add(1 << 63),
-                2 => length.wrapping_add(1),
-                _ => length.wrapping_sub(1),
-            };
-        }
-    }
     match rng.below(8) {
         0 => change(rng, &mut given.texts),
         1 => change(rng, &mut given.lengths),

@@ -17,12 +17,12 @@ pub const MAX_OPERATORS: usize = 64;
 pub const WORK_PLACES: usize = 272;
 
 /// The table of compiled terms, as 13 names it.
-const TERMS_TABLE: usize = 4;
+pub(super) const TERMS_TABLE: usize = 4;
 
 /// Real part and imaginary part.
 pub type Complex = (f64, f64);
 
-type Answer<T> = Result<T, Status>;
+pub(super) type Answer<T> = Result<T, Status>;
 
 /// A model number: 0, or from 2^-200 to 2^200 in magnitude.
 pub fn in_range(x: f64) -> bool {
@@ -34,25 +34,25 @@ fn bounded(x: f64) -> bool {
     x.abs() <= 2f64.powi(620)
 }
 
-fn refuse<T>(number: u64, first: usize, second: usize) -> Answer<T> {
+pub(super) fn refuse<T>(number: u64, first: usize, second: usize) -> Answer<T> {
     Err(refusal(number, first, second))
 }
 
-fn at_most(limit: usize, count: usize) -> Answer<()> {
+pub(super) fn at_most(limit: usize, count: usize) -> Answer<()> {
     if count > limit {
         return refuse(8, count, 0);
     }
     Ok(())
 }
 
-fn equal(needed: usize, given: usize) -> Answer<()> {
+pub(super) fn equal(needed: usize, given: usize) -> Answer<()> {
     if given != needed {
         return refuse(9, needed, given);
     }
     Ok(())
 }
 
-fn lent_places(needed: usize, places: usize) -> Answer<()> {
+pub(super) fn lent_places(needed: usize, places: usize) -> Answer<()> {
     if places < needed {
         return refuse(9, needed, places);
     }
@@ -60,7 +60,7 @@ fn lent_places(needed: usize, places: usize) -> Answer<()> {
 }
 
 /// The starts of consecutive parts, which must make up the whole.
-fn parts(lengths: &[u64], whole: usize) -> Answer<Vec<usize>> {
+pub(super) fn parts(lengths: &[u64], whole: usize) -> Answer<Vec<usize>> {
     let mut starts = Vec::new();
     let mut at = 0;
     for &length in lengths {
@@ -79,9 +79,9 @@ fn parts(lengths: &[u64], whole: usize) -> Answer<Vec<usize>> {
 
 /// A word with a number.
 #[derive(Clone, Copy)]
-struct Term {
-    word: Word,
-    number: Complex,
+pub(super) struct Term {
+    pub word: Word,
+    pub number: Complex,
 }
 
 /// What a jump is compiled to.
@@ -93,7 +93,7 @@ struct Compiled {
     terms: Vec<Term>,
 }
 
-fn times(a: Complex, b: Complex) -> Complex {
+pub(super) fn times(a: Complex, b: Complex) -> Complex {
     (a.0 * b.0 - a.1 * b.1, a.0 * b.1 + a.1 * b.0)
 }
 
@@ -107,7 +107,7 @@ fn phase_factor(phase: u32) -> Complex {
 }
 
 /// The adjoint of an operator times another, in word order, thinned.
-fn product(left: &[Term], right: &[Term]) -> Vec<Term> {
+pub(super) fn product(left: &[Term], right: &[Term]) -> Vec<Term> {
     let mut sums: BTreeMap<[u64; 4], Complex> = BTreeMap::new();
     for a in left {
         for b in right {
@@ -162,6 +162,36 @@ fn word(text: &[u8], n_qubits: usize) -> Answer<Word> {
     Ok(parsed.word)
 }
 
+/// The texts of these lengths, which must make up all bytes.
+pub(super) fn texts<'a>(lengths: &[u64], bytes: &'a [u8]) -> Answer<Vec<&'a [u8]>> {
+    let starts = parts(lengths, bytes.len())?;
+    let text = |(&start, &length): (&usize, &u64)| &bytes[start..][..length as usize];
+    Ok(starts.iter().zip(lengths).map(text).collect())
+}
+
+/// The operator of a jump or a matrix with this index, tested from 6 on.
+pub(super) fn operator(
+    index: usize,
+    texts: &[&[u8]],
+    numbers: &[f64],
+    n_qubits: usize,
+) -> Answer<Vec<Term>> {
+    if texts.is_empty() {
+        return refuse(6, index, 0);
+    }
+    at_most(MAX_TERMS, texts.len())?;
+    let mut terms = Vec::new();
+    for (text, number) in texts.iter().zip(numbers.chunks_exact(2)) {
+        let word = word(text, n_qubits)?;
+        let number = (number[0], number[1]);
+        if !in_range(number.0) || !in_range(number.1) {
+            return refuse(7, index, 0);
+        }
+        terms.push(Term { word, number });
+    }
+    Ok(terms)
+}
+
 /// The items, tested and compiled.
 struct Items {
     hamiltonian: Vec<(Word, f64)>,
@@ -182,7 +212,7 @@ fn items(given: &Given, n_qubits: usize, lent: &Lent) -> Answer<Items> {
     equal(jumps, given.counts.len())?;
     equal(terms * 2, given.numbers.len())?;
     let first_terms = parts(&given.counts, terms)?;
-    let first_bytes = parts(&given.lengths, given.texts.len())?;
+    let texts = texts(&given.lengths, &given.texts)?;
     lent_places(h, lent.h_words.len() / 4)?;
     lent_places(h, lent.h_coeffs.len())?;
     lent_places(jumps, lent.jumps.len() / 8)?;
@@ -190,13 +220,12 @@ fn items(given: &Given, n_qubits: usize, lent: &Lent) -> Answer<Items> {
     lent_places(WORK_PLACES, lent.work_words.len() / 4)?;
     lent_places(WORK_PLACES, lent.work_numbers.len() / 2)?;
 
-    let text = |i: usize| &given.texts[first_bytes[i]..][..given.lengths[i] as usize];
     let mut items = Items {
         hamiltonian: Vec::new(),
         jumps: Vec::new(),
     };
     for (i, &number) in given.h_numbers.iter().enumerate() {
-        let word = word(text(i), n_qubits)?;
+        let word = word(texts[i], n_qubits)?;
         if !in_range(number) {
             return refuse(7, i, 0);
         }
@@ -209,20 +238,13 @@ fn items(given: &Given, n_qubits: usize, lent: &Lent) -> Answer<Items> {
         if !in_range(rate) {
             return refuse(7, k, 0);
         }
-        let count = given.counts[k] as usize;
-        if count == 0 {
-            return refuse(6, k, 0);
-        }
-        at_most(MAX_TERMS, count)?;
-        let mut operator = Vec::new();
-        for term in first_terms[k]..first_terms[k] + count {
-            let word = word(text(h + term), n_qubits)?;
-            let number = (given.numbers[2 * term], given.numbers[2 * term + 1]);
-            if !in_range(number.0) || !in_range(number.1) {
-                return refuse(7, k, 0);
-            }
-            operator.push(Term { word, number });
-        }
+        let (first, count) = (first_terms[k], given.counts[k] as usize);
+        let operator = operator(
+            k,
+            &texts[h + first..][..count],
+            &given.numbers[2 * first..],
+            n_qubits,
+        )?;
         items.jumps.push(compile(rate, &operator));
     }
     Ok(items)
@@ -233,11 +255,25 @@ fn lay_word(words: &mut [u64], place: usize, word: Word) {
     words[4 * place + 2..4 * place + 4].copy_from_slice(&word.z);
 }
 
+/// Puts terms in the terms table, from a place on.
+pub(super) fn lay_terms(lent: &mut Lent, at: usize, terms: &[Term]) {
+    for (i, term) in terms.iter().enumerate() {
+        lay_word(&mut lent.t_words, at + i, term.word);
+        lent.t_numbers[2 * (at + i)] = term.number.0;
+        lent.t_numbers[2 * (at + i) + 1] = term.number.1;
+    }
+}
+
 fn word_at(words: &[u64], place: usize) -> Word {
     Word {
         x: [words[4 * place], words[4 * place + 1]],
         z: [words[4 * place + 2], words[4 * place + 3]],
     }
+}
+
+/// The places of the terms table.
+pub(super) fn term_places(lent: &Lent) -> usize {
+    (lent.t_words.len() / 4).min(lent.t_numbers.len() / 2)
 }
 
 /// Builds a model in what is lent.
@@ -252,7 +288,7 @@ pub fn build_model(given: &Given, n_qubits: usize, lent: &mut Lent) -> Built {
     };
     lent.work_words.fill(0);
     lent.work_numbers.fill(0.0);
-    let places = (lent.t_words.len() / 4).min(lent.t_numbers.len() / 2);
+    let places = term_places(lent);
     let terms: usize = items.jumps.iter().map(|jump| jump.terms.len()).sum();
     if terms > places {
         return refused(refusal(13, TERMS_TABLE, places));
@@ -283,11 +319,7 @@ pub fn build_model(given: &Given, n_qubits: usize, lent: &mut Lent) -> Built {
             range[1] as u64,
         ];
         lent.jumps[8 * k..8 * k + 8].copy_from_slice(&entry);
-        for (i, term) in jump.terms.iter().enumerate() {
-            lay_word(&mut lent.t_words, at + i, term.word);
-            lent.t_numbers[2 * (at + i)] = term.number.0;
-            lent.t_numbers[2 * (at + i) + 1] = term.number.1;
-        }
+        lay_terms(lent, at, &jump.terms);
         at = end;
     }
     Built {
@@ -327,7 +359,7 @@ fn is_given(entry: &[u64], place: u64) -> bool {
     }
 }
 
-fn tested(model: Model, lent: &Lent) -> Answer<()> {
+pub(super) fn tested(model: Model, lent: &Lent) -> Answer<()> {
     if model.qubits > MAX_QUBITS {
         return refuse(1, model.qubits, MAX_QUBITS);
     }
