@@ -2,4 +2,6 @@
 -- SPDX-License-Identifier: Apache-2.0
 
 -- Laws of this crate.
+pub mod AddLaws
+pub mod GatherLaws
 pub mod PutsLaws

@@ -2,7 +2,7 @@
 -- SPDX-License-Identifier: Apache-2.0
 
 -- Terms put to the sums one after another: none, one, some and then more; where some find no room, more find none. Assumes nothing.
-use mathlib.Core.Path.{_≡_, refl, sym, ap, _∙_, subst}
+use mathlib.Core.Path.{_≡_, refl, sym, ap, _∙_, subst, subst⁻¹}
 use mathlib.Core.List.{List, [], _∷_, _++_}
 use Prim.Native.Nat.{ℕ, _*_, _≤_, _<_}
 use native.Mathlib.Omega.{arith}
@@ -33,6 +33,9 @@ module _ (room len : ℕ) (lanes : List ℕ) (sums : List Float) (s : SumsRoom r
       same : {n : ℕ} → Held len ≡ Held n → n ≡ len
       same e = cc
 
+  pub puts-nothing : (A : List Term) → A ≡ [] → PutsAll room len A lanes sums lanes sums (Held len)
+  puts-nothing A e = subst⁻¹ (λ (T : List Term). PutsAll room len T lanes sums lanes sums (Held len)) e puts-none
+
   module _ (lanes′ : List ℕ) (sums′ : List Float) where
     -- one
     pub puts-one : (t : Term) (r : Added) → Puts room len t lanes sums lanes′ sums′ r → PutsAll room len (t ∷ []) lanes sums lanes′ sums′ r
@@ -42,6 +45,9 @@ module _ (room len : ℕ) (lanes : List ℕ) (sums : List Float) (s : SumsRoom r
     -- the same terms
     pub puts-same : (A B : List Term) (r : Added) → A ≡ B → PutsAll room len A lanes sums lanes′ sums′ r → PutsAll room len B lanes sums lanes′ sums′ r
     puts-same A B r e g = subst (λ (T : List Term). PutsAll room len T lanes sums lanes′ sums′ r) e g
+
+    pub puts-single : (A : List Term) (t u : Term) (r : Added) → A ≡ u ∷ [] → t ≡ u → Puts room len t lanes sums lanes′ sums′ r → PutsAll room len A lanes sums lanes′ sums′ r
+    puts-single A t u r e f g = puts-same (t ∷ []) A r (ap (λ (v : Term). v ∷ []) f ∙ sym e) (puts-one t r g)
 
     -- where some are put, there is room as before
     pub puts-room : (A : List Term) (k : ℕ) (r : Added) → PutsAll room len A lanes sums lanes′ sums′ r → r ≡ Held k

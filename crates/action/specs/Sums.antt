@@ -14,6 +14,7 @@ use Rattle.table.specs.Sums.{table, answer, Rising}
 use Rattle.table.specs.declared.sums.Added.{Added}
 use Rattle.table.specs.declared.sums.Added.the-variants.{Held}
 use Rattle.model.specs.Given.{Term}
+use Rattle.model.specs.declared.tables.Range.{Range}
 
 -- so many places, so many of them in use, in word order
 pub record SumsRoom (room len : ℕ) (lanes : List ℕ) (sums : List Float) : Type 0 where
@@ -21,6 +22,12 @@ pub record SumsRoom (room len : ℕ) (lanes : List ℕ) (sums : List Float) : Ty
   pub sums-long : 2 * room ≤ length sums
   pub inside : len ≤ room
   pub rises : Rising (table len lanes sums)
+
+-- a range inside the terms table
+pub record TermsRoom (r : Range) (lanes : List ℕ) (numbers : List Float) : Type 0 where
+  pub order : r .start ≤ r .end
+  pub lanes-long : 4 * r .end ≤ length lanes
+  pub numbers-long : 2 * r .end ≤ length numbers
 
 pub record PutsAll (room len : ℕ) (terms : List Term) (lanes : List ℕ) (sums : List Float) (lanes′ : List ℕ) (sums′ : List Float) (r : Added) : Type 0 where
   pub answers : r ≡ answer room (putAllOver floats pauli terms (table len lanes sums))
