@@ -2,7 +2,7 @@
 -- SPDX-License-Identifier: Apache-2.0
 
 -- The terms of a range of the terms table, taken one after another, each with what is put to the sums for it. Assumes nothing.
-use mathlib.Core.Path.{_≡_, refl, sym, ap, _∙_, subst, subst⁻¹}
+use mathlib.Core.Path.{_≡_, refl, sym, ap, _∙_, subst}
 use mathlib.Core.List.{List, [], _∷_, _++_, map, append-nil, append-assoc}
 use Prim.Native.Nat.{ℕ, _+_, _-_, _*_, _≤_, _<_}
 use native.Mathlib.Omega.{arith}
@@ -45,6 +45,9 @@ pub pairs-gathered : (f : Term → Term → Term) (A B : List Term) → gatherOv
 unfolding gatherOver pairsOver
 pairs-gathered f [] B = refl
 pairs-gathered f (a ∷ A) B = ap (λ (l : List Term). map (f a) B ++ l) (pairs-gathered f A B)
+
+pub single-term : (f : Term → Term) (v b b′ : Term) → v ≡ f b → b ≡ b′ → v ∷ [] ≡ f b′ ∷ []
+single-term f v b b′ e d = ap (λ (t : Term). t ∷ []) (e ∙ ap f d)
 
 -- ---- the terms of a range, parted at a place
 pub terms-parted : (lanes : List ℕ) (numbers : List Float) (s j e : ℕ) → s ≤ j → j ≤ e → termsIn lanes numbers s e ≡ termsIn lanes numbers s j ++ termsIn lanes numbers j e
@@ -119,6 +122,5 @@ module _ (g : Term → List Term) (range : Range) (room len : ℕ) (lanes : List
             let parted : Before (j + 1) ++ B ≡ gatherOver floats pauli g (termsOf lanes numbers range) =
             sym (ap (gatherOver floats pauli g) (terms-parted lanes numbers (range .start) (j + 1) (range .end) (omega (arith, t .low)) (omega arith))
             ∙ gather-append g (termsIn lanes numbers (range .start) (j + 1)) (termsIn lanes numbers (j + 1) (range .end))) in
-            subst (λ (q : Added). PutsAll room len (gatherOver floats pauli g (termsOf lanes numbers range)) lanes₀ sums₀ lanes″ sums″ q) f
-            (puts-same room len lanes₀ sums₀ s lanes″ sums″ (Before (j + 1) ++ B) (gatherOver floats pauli g (termsOf lanes numbers range)) r parted
-            (puts-full room len lanes₀ sums₀ s lanes″ sums″ (Before (j + 1)) B r next-puts f))
+            puts-same room len lanes₀ sums₀ s lanes″ sums″ (Before (j + 1) ++ B) (gatherOver floats pauli g (termsOf lanes numbers range)) Full parted
+            (puts-full room len lanes₀ sums₀ s lanes″ sums″ (Before (j + 1)) B r next-puts f)

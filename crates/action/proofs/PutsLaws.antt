@@ -2,9 +2,9 @@
 -- SPDX-License-Identifier: Apache-2.0
 
 -- Terms put to the sums one after another: none, one, some and then more; where some find no room, more find none. Assumes nothing.
-use mathlib.Core.Path.{_≡_, refl, sym, ap, _∙_, subst, subst⁻¹}
+use mathlib.Core.Path.{_≡_, sym, ap, _∙_, subst, subst⁻¹}
 use mathlib.Core.List.{List, [], _∷_, _++_}
-use Prim.Native.Nat.{ℕ, _*_, _≤_, _<_}
+use Prim.Native.Nat.{ℕ}
 use native.Mathlib.Omega.{arith}
 use lib.Ieee.{Float}
 use lib.ListN.{length}
@@ -62,13 +62,13 @@ module _ (room len : ℕ) (lanes : List ℕ) (sums : List Float) (s : SumsRoom r
         }
 
     -- where some find no room, more find none
-    pub puts-full : (A B : List Term) (r : Added) → PutsAll room len A lanes sums lanes′ sums′ r → r ≡ Full → PutsAll room len (A ++ B) lanes sums lanes′ sums′ r
+    pub puts-full : (A B : List Term) (r : Added) → PutsAll room len A lanes sums lanes′ sums′ r → r ≡ Full → PutsAll room len (A ++ B) lanes sums lanes′ sums′ Full
     puts-full A B r g e =
         let T : List Term = table len lanes sums in
         let l = answer-full room (putAllOver floats pauli A T) (sym e ∙ g .answers) in
         record {
-          answers = e ∙ full-answer room (putAllOver floats pauli (A ++ B) T) (omega (arith, l, length-part A B T));
-          held = λ n q. absurd (apart (sym e ∙ q));
+          answers = full-answer room (putAllOver floats pauli (A ++ B) T) (omega (arith, l, length-part A B T));
+          held = λ n q. absurd (apart q);
         }
       where
         apart : {n : ℕ} → Full ≡ Held n → ⊥

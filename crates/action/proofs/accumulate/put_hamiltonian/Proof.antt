@@ -2,8 +2,8 @@
 -- SPDX-License-Identifier: Apache-2.0
 
 -- `accumulate::put_hamiltonian` meets its contract: nothing, or one term. Assumes nothing.
-use mathlib.Core.Path.{_≡_, sym, ap, _∙_}
-use lib.Ieee.{Float, eq}
+use mathlib.Core.Path.{sym, ap, _∙_}
+use lib.Ieee.{eq}
 use Rattle.word.specs.declared.algebra.CommProduct.{CommProduct}
 use Rattle.number.specs.Floats.{float0}
 use Rattle.action.proofs.AddLaws.{hamiltonian-apart, hamiltonian-none, hamiltonian-one, hamiltonian-number}
