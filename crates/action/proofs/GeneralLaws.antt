@@ -31,7 +31,8 @@ use Rattle.model.specs.declared.tables.Range.{Range}
 use Rattle.model.specs.declared.tables.Jump.the-variants.{General}
 use Rattle.model.proofs.ProductLaws.{onto-eq}
 use Rattle.model.proofs.WorkLaws.{terms-none, terms-more}
-use Rattle.action.specs.Adds.{sandwich, sandwichFrom, dampen, jumpAdds}
+use Rattle.action.specs.Adds.{sandwich, dampen, jumpAdds}
+use Rattle.action.specs.Steps.{sandwichFrom}
 use Rattle.action.proofs.GatherLaws.{terms-parted, map-gathered}
 
 -- ---- sharing a qubit: none of the terms before place i does

@@ -14,7 +14,6 @@ use Rattle.word.specs.Flat.{words}
 use Rattle.word.specs.Product.{phase, mul}
 use Rattle.word.specs.Register.{share}
 use Rattle.word.specs.declared.word.Word.{Word}
-use Rattle.word.specs.declared.algebra.Phased.{Phased}
 use Rattle.number.specs.Numbers.{mulC, negC, realC, unitC}
 use Rattle.number.specs.Floats.{floats}
 use Rattle.gksl.specs.Model.{RealTerm}
@@ -43,11 +42,6 @@ realsIn m t = map (realAt t) (upTo 0 (m .hamiltonian))
 
 abbrev pub jumpsIn : Model → Tables → List Jump
 jumpsIn m t = map (jumpAt (t .jumps) (t .rates)) (upTo 0 (m .jumps))
-
--- a sandwich where the product l of a and p is known
-unfoldable pub sandwichFrom : Phased → Float → Term → Term → Term
-sandwichFrom l g a b =
-    onWord floats pauli (mulC floats (mulC floats (bare floats pauli a b) (unitC floats ((l .phase + phase (l .word) (b .word)) % 4))) (realC floats g)) (mul (l .word) (b .word))
 
 module _ (p : Word) where
   -- ---- a general jump: conjugate of a's number × b's number × i^phase × rate; then minus L†L's number × rate × sign

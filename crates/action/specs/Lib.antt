@@ -3,4 +3,5 @@
 
 -- The action of a model on a word.
 pub mod Adds
+pub mod Steps
 pub mod Sums

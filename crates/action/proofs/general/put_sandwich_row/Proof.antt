@@ -12,7 +12,7 @@ use Rattle.word.specs.declared.algebra.Phased.{Phased}
 use Rattle.word.proofs.WordLaws.{phase-lt}
 use Rattle.model.specs.Product.{onto, termsOf}
 use Rattle.model.specs.Stored.{range}
-use Rattle.action.specs.Adds.{sandwichFrom}
+use Rattle.action.specs.Steps.{sandwichFrom}
 use Rattle.action.proofs.PutsLaws.{puts-one, puts-same}
 use Rattle.action.proofs.GatherLaws.{GatherState, gather-start, gather-room, gather-term, gather-next, gather-full, gather-done, single-term}
 use Rattle.action.proofs.GeneralLaws.{sandwich-row}
