@@ -1,0 +1,8 @@
+-- SPDX-FileCopyrightText: 2026 The PPVM Authors
+-- SPDX-License-Identifier: Apache-2.0
+
+-- Laws of this crate.
+pub mod AddLaws
+pub mod GatherLaws
+pub mod GeneralLaws
+pub mod PutsLaws
