@@ -1,8 +1,9 @@
 // SPDX-FileCopyrightText: 2026 The PPVM Authors
 // SPDX-License-Identifier: Apache-2.0
 
-// Runs the examples of document 01 and a small model through the exported functions and prints a line
-// for each. Each section has its module.
+// Runs the examples of document 01, a small model and a matrix through the exported functions and
+// prints a line for each. Each section has its module.
+mod matrices;
 mod models;
 mod print;
 mod words;
@@ -10,4 +11,5 @@ mod words;
 fn main() {
     words::run();
     models::run();
+    matrices::run();
 }

@@ -16,7 +16,7 @@ fn print_status(status: Status) {
 }
 
 // The counts of a model that was built, or the refusal.
-fn print_built(answer: BuiltModel) {
+pub fn print_built(answer: BuiltModel) {
     let status = answer.status;
     let model = answer.model;
     if status.refusal != 0 {
@@ -25,7 +25,7 @@ fn print_built(answer: BuiltModel) {
         print::number(model.hamiltonian as u64);
         print::text(b" Hamiltonian terms, ");
         print::number(model.jumps as u64);
-        print::text(b" jumps, ");
+        print::text(b" jumps and pairs, ");
         print::number(model.terms as u64);
         print::text(b" terms");
     }

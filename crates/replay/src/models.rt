@@ -7,7 +7,10 @@
 //     the lengths of the eight lent slices, in their order
 //     refusal first second hamiltonian jumps terms
 //   6 the same, for refusals that the Rust does not have
-// Numbers are recorded by their bits. Where building was refused, the recorded counts are 0.
+//   7 the same for a matrix, added to a model of Hamiltonian terms I with these h_numbers: K stands for
+//     the rates, and operators for the jumps
+//   8 as 7, for refusals that the Rust does not have
+// Numbers are recorded by their bits. Where the Rust or document 01 refused, the recorded counts are 0.
 ghost use Prim.Native.Nat.{_≤_};
 use crate::read;
 use crate::read::Cursor;
@@ -16,13 +19,13 @@ use crate::read::Read;
 use crate::read::ReadStatus;
 use crate::tally;
 use crate::tally::Verdict;
+use model::tables::Model;
 use pebblelinen::models::BuiltModel;
 
-// The places that there are for a slice of a case, and for a work table. What `build_lent` asks for
-// names the numbers too.
+// The places that there are for a slice of a case, and for a work table.
 const PLACES: usize = 288;
 
-const WORK_PLACES: usize = 1096;
+const WORK_PLACES: usize = 1184;
 
 // The answer of building against the recorded one, which ends the line.
 fn judged_build(line: &[u8], c: Cursor, answer: BuiltModel) -> Verdict {
@@ -50,10 +53,12 @@ fn judged_build(line: &[u8], c: Cursor, answer: BuiltModel) -> Verdict {
     tally::judged(agrees)
 }
 
-// A model is built from what was read in these tables, and the answer is judged.
+// A model is built, or a matrix added, from what was read in these tables, and the answer is judged.
+// All tables are zero, so that the words of the Hamiltonian terms before a matrix are I.
 fn build_in(
     line: &[u8],
     c: Cursor,
+    kind: u64,
     n_qubits: usize,
     texts: &[u8],
     lengths: &[u64],
@@ -70,16 +75,41 @@ fn build_in(
     work_words: &mut [u64],
     work_numbers: &mut [f64],
 ) -> Verdict {
-    let answer = pebblelinen::models::pebblelinen_build_model(
+    if kind < 7 {
+        let built = pebblelinen::models::pebblelinen_build_model(
+            texts,
+            lengths,
+            h_numbers,
+            given,
+            counts,
+            numbers,
+            n_qubits,
+            h_words,
+            h_coeffs,
+            jumps,
+            rates,
+            t_words,
+            t_numbers,
+            work_words,
+            work_numbers,
+        );
+        return judged_build(line, c, built);
+    }
+    let before = Model {
+        qubits: n_qubits,
+        hamiltonian: h_numbers.len(),
+        jumps: 0,
+        terms: 0,
+    };
+    let added = pebblelinen::models::pebblelinen_add_kossakowski(
+        before,
         texts,
         lengths,
-        h_numbers,
-        given,
         counts,
         numbers,
-        n_qubits,
+        given,
         h_words,
-        h_coeffs,
+        h_numbers,
         jumps,
         rates,
         t_words,
@@ -87,25 +117,25 @@ fn build_in(
         work_words,
         work_numbers,
     );
-    judged_build(line, c, answer)
+    judged_build(line, c, added)
 }
 
-// The lengths of the lent slices.
-struct Lengths {
-    h_words: usize,
-    h_coeffs: usize,
-    jumps: usize,
-    rates: usize,
-    t_words: usize,
-    t_numbers: usize,
-    work_words: usize,
-    work_numbers: usize,
+// A recorded length, or all places where it is more.
+fn at_most(length: u64, places: usize) -> usize
+    ensures { λ r. ⌜ r ≤ places ⌝ }
+{
+    let n = length as usize;
+    if places < n {
+        return places;
+    }
+    n
 }
 
-// A model is built from what was read, in tables of these lengths.
-fn build_lent(
+// The lengths of the lent slices come next.
+fn build_given(
     line: &[u8],
     c: Cursor,
+    kind: u64,
     n_qubits: usize,
     texts: &[u8],
     lengths: &[u64],
@@ -113,18 +143,29 @@ fn build_lent(
     given: &[f64],
     counts: &[u64],
     numbers: &[f64],
-    lent: Lengths,
-) -> Verdict
-    requires { ⌜ (lent .«h_words» ≤ 288) × (lent .«h_coeffs» ≤ 288) × (lent .jumps ≤ 288) × (lent .rates ≤ 288) × (lent .«t_words» ≤ 288) × (lent .«t_numbers» ≤ 288) × (lent .«work_words» ≤ 1096) × (lent .«work_numbers» ≤ 1096) ⌝ }
-{
-    let h_len = lent.h_words;
-    let coeffs_len = lent.h_coeffs;
-    let jumps_len = lent.jumps;
-    let rates_len = lent.rates;
-    let t_len = lent.t_words;
-    let numbers_len = lent.t_numbers;
-    let work_len = lent.work_words;
-    let sums_len = lent.work_numbers;
+) -> Verdict {
+    let mut lent = [0u64; 8];
+    let Filled::Whole(c1) = read::numbers(line, c, &mut lent) else {
+        return Verdict::Malformed;
+    };
+    let h_len = at_most(lent[0], PLACES);
+    let coeffs_len = at_most(lent[1], PLACES);
+    let jumps_len = at_most(lent[2], PLACES);
+    let rates_len = at_most(lent[3], PLACES);
+    let t_len = at_most(lent[4], PLACES);
+    let numbers_len = at_most(lent[5], PLACES);
+    let work_len = at_most(lent[6], WORK_PLACES);
+    let sums_len = at_most(lent[7], WORK_PLACES);
+    let tables = (lent[0] ^ h_len as u64)
+        | (lent[1] ^ coeffs_len as u64)
+        | (lent[2] ^ jumps_len as u64)
+        | (lent[3] ^ rates_len as u64);
+    let terms = (lent[4] ^ t_len as u64) | (lent[5] ^ numbers_len as u64);
+    let work = (lent[6] ^ work_len as u64) | (lent[7] ^ sums_len as u64);
+    // There is no room for one of the lengths.
+    if tables | terms | work != 0 {
+        return Verdict::Malformed;
+    }
     let mut h_words = [0u64; PLACES];
     let mut h_coeffs = [0f64; PLACES];
     let mut jumps = [0u64; PLACES];
@@ -135,7 +176,8 @@ fn build_lent(
     let mut work_numbers = [0f64; WORK_PLACES];
     build_in(
         line,
-        c,
+        c1,
+        kind,
         n_qubits,
         texts,
         lengths,
@@ -154,94 +196,12 @@ fn build_lent(
     )
 }
 
-// The lengths of the lent slices come next.
-fn build_given(
-    line: &[u8],
-    c: Cursor,
-    n_qubits: usize,
-    texts: &[u8],
-    lengths: &[u64],
-    h_numbers: &[f64],
-    given: &[f64],
-    counts: &[u64],
-    numbers: &[f64],
-) -> Verdict {
-    let Read::Number(h_words, c1) = read::number(line, c) else {
-        return Verdict::Malformed;
-    };
-    let Read::Number(h_coeffs, c2) = read::number(line, c1) else {
-        return Verdict::Malformed;
-    };
-    let Read::Number(jumps, c3) = read::number(line, c2) else {
-        return Verdict::Malformed;
-    };
-    let Read::Number(rates, c4) = read::number(line, c3) else {
-        return Verdict::Malformed;
-    };
-    let Read::Number(t_words, c5) = read::number(line, c4) else {
-        return Verdict::Malformed;
-    };
-    let Read::Number(t_numbers, c6) = read::number(line, c5) else {
-        return Verdict::Malformed;
-    };
-    let Read::Number(work_words, c7) = read::number(line, c6) else {
-        return Verdict::Malformed;
-    };
-    let Read::Number(work_numbers, c8) = read::number(line, c7) else {
-        return Verdict::Malformed;
-    };
-    if PLACES < h_words as usize {
-        return Verdict::Malformed;
-    }
-    if PLACES < h_coeffs as usize {
-        return Verdict::Malformed;
-    }
-    if PLACES < jumps as usize {
-        return Verdict::Malformed;
-    }
-    if PLACES < rates as usize {
-        return Verdict::Malformed;
-    }
-    if PLACES < t_words as usize {
-        return Verdict::Malformed;
-    }
-    if PLACES < t_numbers as usize {
-        return Verdict::Malformed;
-    }
-    if WORK_PLACES < work_words as usize {
-        return Verdict::Malformed;
-    }
-    if WORK_PLACES < work_numbers as usize {
-        return Verdict::Malformed;
-    }
-    build_lent(
-        line,
-        c8,
-        n_qubits,
-        texts,
-        lengths,
-        h_numbers,
-        given,
-        counts,
-        numbers,
-        Lengths {
-            h_words: h_words as usize,
-            h_coeffs: h_coeffs as usize,
-            jumps: jumps as usize,
-            rates: rates as usize,
-            t_words: t_words as usize,
-            t_numbers: t_numbers as usize,
-            work_words: work_words as usize,
-            work_numbers: work_numbers as usize,
-        },
-    )
-}
-
 // What is given is read slice by slice, each with its length before it, into the places of the last
 // parameter.
 fn build_numbers(
     line: &[u8],
     c: Cursor,
+    kind: u64,
     n_qubits: usize,
     texts: &[u8],
     lengths: &[u64],
@@ -256,6 +216,7 @@ fn build_numbers(
     build_given(
         line,
         c1,
+        kind,
         n_qubits,
         texts,
         lengths,
@@ -269,6 +230,7 @@ fn build_numbers(
 fn build_counts(
     line: &[u8],
     c: Cursor,
+    kind: u64,
     n_qubits: usize,
     texts: &[u8],
     lengths: &[u64],
@@ -290,6 +252,7 @@ fn build_counts(
     build_numbers(
         line,
         c2,
+        kind,
         n_qubits,
         texts,
         lengths,
@@ -303,6 +266,7 @@ fn build_counts(
 fn build_rates(
     line: &[u8],
     c: Cursor,
+    kind: u64,
     n_qubits: usize,
     texts: &[u8],
     lengths: &[u64],
@@ -323,6 +287,7 @@ fn build_rates(
     build_counts(
         line,
         c2,
+        kind,
         n_qubits,
         texts,
         lengths,
@@ -335,6 +300,7 @@ fn build_rates(
 fn build_hamiltonian(
     line: &[u8],
     c: Cursor,
+    kind: u64,
     n_qubits: usize,
     texts: &[u8],
     lengths: &[u64],
@@ -354,6 +320,7 @@ fn build_hamiltonian(
     build_rates(
         line,
         c2,
+        kind,
         n_qubits,
         texts,
         lengths,
@@ -365,6 +332,7 @@ fn build_hamiltonian(
 fn build_lengths(
     line: &[u8],
     c: Cursor,
+    kind: u64,
     n_qubits: usize,
     texts: &[u8],
     lengths: &mut [u64],
@@ -380,10 +348,10 @@ fn build_lengths(
         return Verdict::Malformed;
     }
     let mut room = [0f64; PLACES];
-    build_hamiltonian(line, c2, n_qubits, texts, lengths, &mut room[0..n])
+    build_hamiltonian(line, c2, kind, n_qubits, texts, lengths, &mut room[0..n])
 }
 
-fn build_texts(line: &[u8], c: Cursor, n_qubits: usize, texts: &mut [u8]) -> Verdict {
+fn build_texts(line: &[u8], c: Cursor, kind: u64, n_qubits: usize, texts: &mut [u8]) -> Verdict {
     let Filled::Whole(c1) = read::bytes(line, c, texts) else {
         return Verdict::Malformed;
     };
@@ -395,11 +363,11 @@ fn build_texts(line: &[u8], c: Cursor, n_qubits: usize, texts: &mut [u8]) -> Ver
         return Verdict::Malformed;
     }
     let mut room = [0u64; PLACES];
-    build_lengths(line, c2, n_qubits, texts, &mut room[0..n])
+    build_lengths(line, c2, kind, n_qubits, texts, &mut room[0..n])
 }
 
-// Kinds 5 and 6.
-pub fn build(line: &[u8], c: Cursor) -> Verdict {
+// Kinds 5 to 8.
+pub fn build(line: &[u8], c: Cursor, kind: u64) -> Verdict {
     let Read::Number(n_qubits, c1) = read::number(line, c) else {
         return Verdict::Malformed;
     };
@@ -411,5 +379,5 @@ pub fn build(line: &[u8], c: Cursor) -> Verdict {
         return Verdict::Malformed;
     }
     let mut room = [0u8; PLACES];
-    build_texts(line, c2, n_qubits as usize, &mut room[0..n])
+    build_texts(line, c2, kind, n_qubits as usize, &mut room[0..n])
 }

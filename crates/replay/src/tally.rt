@@ -27,7 +27,7 @@ pub fn same_status(a: Status, b: Status) -> bool {
 }
 
 // Kinds are counted from 1; place 0 stays empty.
-const KINDS: usize = 7;
+const KINDS: usize = 9;
 
 // The lines that are named before the counts; more would hide them.
 const NAMED: u64 = 10;
@@ -86,14 +86,14 @@ impl Tally {
     }
 
     fn with_case(mut self, k: usize) -> Tally
-        requires { ⌜ k < 7 ⌝ }
+        requires { ⌜ k < 9 ⌝ }
     {
         self.cases[k] = one_more(self.cases[k]);
         self
     }
 
     fn with_disagreement(mut self, k: usize, line_number: u64) -> Tally
-        requires { ⌜ k < 7 ⌝ }
+        requires { ⌜ k < 9 ⌝ }
     {
         self.disagreements[k] = one_more(self.disagreements[k]);
         self.naming(line_number, b" disagrees\n")
@@ -122,6 +122,8 @@ impl Tally {
         print_kind(b"products", self.cases[4], self.disagreements[4]);
         print_kind(b"models", self.cases[5], self.disagreements[5]);
         print_kind(b"models refused", self.cases[6], self.disagreements[6]);
+        print_kind(b"matrices", self.cases[7], self.disagreements[7]);
+        print_kind(b"matrices refused", self.cases[8], self.disagreements[8]);
         text(b"malformed lines: ");
         number(self.malformed);
         text(b"\n");

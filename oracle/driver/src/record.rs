@@ -7,6 +7,7 @@
 //! Only cases are recorded to which document 01 and the Rust have one answer, but for kinds that say
 //! otherwise.
 
+mod matrices;
 mod models;
 mod words;
 
@@ -60,5 +61,6 @@ pub fn run(seed: u64, cases: usize) -> ExitCode {
     println!("# Answers of the published Rust, seed {seed}.");
     words::record(seed, cases);
     models::record(seed, cases / 4);
+    matrices::record(seed, cases * 3 / 40);
     ExitCode::SUCCESS
 }

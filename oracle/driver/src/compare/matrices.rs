@@ -357,13 +357,8 @@ fn small(rng: &mut Rng, tallies: &mut Tallies) {
     add(tallies, &damaged, &matrix, &matrix.flat(), false);
 }
 
-/// Operators XI and IX.
-fn two_operators() -> Vec<Vec<(Vec<u8>, Complex)>> {
-    let operator = |text: &[u8]| vec![(text.to_vec(), (1.0, 0.0))];
-    vec![operator(b"XI"), operator(b"IX")]
-}
-
-/// Matrices of document 01, and the smallest ones whose squares and hypots decide differently.
+/// Matrices of document 01, and the smallest ones whose squares and hypots decide differently, with
+/// the document's answer: the refusal, or how many pairs and terms there are.
 fn known(rng: &mut Rng, tallies: &mut Tallies) {
     let empty = Items {
         n_qubits: 2,
@@ -371,36 +366,51 @@ fn known(rng: &mut Rng, tallies: &mut Tallies) {
         jumps: Vec::new(),
     };
     let standing = Standing::built(rng, empty);
-    let mut add = |operators, k: [[Complex; 2]; 2]| {
-        let matrix = Matrix {
-            operators,
-            k: k.map(Vec::from).into(),
-        };
-        add_sized(rng, tallies, &standing, &matrix).1.built
+    let operator = |text: &[u8], number: Complex| vec![(text.to_vec(), number)];
+    let two = || vec![operator(b"XI", (1.0, 0.0)), operator(b"IX", (1.0, 0.0))];
+    let rows = |k: [[Complex; 2]; 2]| k.map(Vec::from).into();
+    let mut add = |operators, k, refusal: Status, pairs, terms| {
+        let matrix = Matrix { operators, k };
+        let built = add_sized(rng, tallies, &standing, &matrix).1.built;
+        let Built { status, model } = built;
+        assert_eq!((status, model.jumps, model.terms), (refusal, pairs, terms));
     };
-    let example = add(
-        two_operators(),
-        [[(1.0, 0.0), (0.0, 1.0)], [(0.0, -1.0), (1.0, 0.0)]],
-    );
-    assert_eq!((example.model.jumps, example.model.terms), (3, 8), "P9");
-    let skipped = add(
-        two_operators(),
-        [[(7.0, 0.0), (7e-14, 0.0)], [(7e-14, 0.0), (0.0, 0.0)]],
-    );
-    assert_eq!(skipped.model.jumps, 2, "an entry just above the skip rule");
-    let hermitian = add(
-        two_operators(),
-        [
-            [(11.0, 0.0), (0.0, 1.1000000000000001e-9)],
-            [(0.0, 0.0), (11.0, 0.0)],
-        ],
-    );
-    assert_eq!(hermitian.status, refusal(10, 0, 1), "just above the limit");
-    let mut thin = two_operators();
-    thin[1][0].1 = (6e-15, 8e-15);
-    let thinned = add(thin, [[(0.0, 0.0), (2.0, 0.0)], [(2.0, 0.0), (0.0, 0.0)]]);
-    let terms = thinned.model.terms;
-    assert_eq!(terms, 4, "a word just above thinning stays");
+    let accepted = Status::default();
+
+    // P9.
+    let k = rows([[(1.0, 0.0), (0.0, 1.0)], [(0.0, -1.0), (1.0, 0.0)]]);
+    add(two(), k, accepted, 3, 8);
+
+    // No operators, and a row without entries, or rows of two lengths: flat, they are a K.
+    add(Vec::new(), vec![Vec::new()], accepted, 0, 0);
+    let one = (1.0, 0.0);
+    let ragged = vec![vec![one], vec![(0.0, 1.0), (0.0, -1.0), one]];
+    add(two(), ragged, accepted, 3, 8);
+
+    // Hermitian: refused, where the Rust accepts, and the other way round.
+    let x = || vec![operator(b"XI", one)];
+    let k = vec![vec![(11.0, 5.500000000000001e-10)]];
+    add(x(), k, refusal(10, 0, 0), 0, 0);
+    let eleven = (11.0, 0.0);
+    let k = rows([[eleven, (0.0, 1.1000000000000001e-9)], [(0.0, 0.0), eleven]]);
+    add(two(), k, refusal(10, 0, 1), 0, 0);
+    let zero = (0.0, 0.0);
+    let k = rows([[(9.0, 0.0), (5.4e-10, 7.200000000000001e-10)], [zero, zero]]);
+    add(two(), k, accepted, 2, 6);
+
+    // The skip rule: a pair, where the Rust skips, and the other way round.
+    let k = rows([[one, (6e-15, 8e-15)], [(6e-15, -8e-15), zero]]);
+    add(two(), k, accepted, 2, 6);
+    let k = rows([[(7.0, 0.0), (7e-14, 0.0)], [(7e-14, 0.0), zero]]);
+    add(two(), k, accepted, 2, 6);
+    let edge = (5.400000000000001e-14, 7.2e-14);
+    let k = rows([[(9.0, 0.0), edge], [(edge.0, -edge.1), zero]]);
+    add(two(), k, accepted, 1, 4);
+
+    // Thinning: a word that stays, where the Rust drops it.
+    let thin = vec![operator(b"XI", one), operator(b"IX", (6e-15, 8e-15))];
+    let k = rows([[zero, (2.0, 0.0)], [(2.0, 0.0), zero]]);
+    add(thin, k, accepted, 1, 4);
 }
 
 /// Matrices at the limits of counts: one more is refused.

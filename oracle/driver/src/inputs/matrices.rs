@@ -170,9 +170,13 @@ fn skip_edge(rng: &mut Rng, k: &mut [Vec<Complex>]) {
         let (re, im) = about(rng, size.min(2f64.powi(199)));
         set(k, n, m, (re, im));
     }
-    let (n, m) = place(rng, k.len());
-    let edge = about(rng, 1e-14 * largest(k));
-    set(k, n, m, edge);
+    let magnitude = 1e-14 * largest(k);
+    // Below that the edge is out of range.
+    if magnitude >= 2f64.powi(-190) {
+        let (n, m) = place(rng, k.len());
+        let edge = about(rng, magnitude);
+        set(k, n, m, edge);
+    }
 }
 
 /// Makes K not Hermitian at one place: by about the tolerance, or by much.

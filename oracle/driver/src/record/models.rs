@@ -17,7 +17,7 @@ const REFUSED_BY_DOCUMENT: [u64; 4] = [7, 8, 9, 13];
 
 /// The bytes and items of a case, and its places for terms, which replaying has room for.
 const LARGEST: usize = 240;
-const TERM_PLACES: usize = 64;
+pub(super) const TERM_PLACES: usize = 64;
 
 pub fn record(seed: u64, cases: usize) {
     let rng = &mut Rng::new(seed);
@@ -105,7 +105,7 @@ fn refused(rng: &mut Rng, refusal: u64) -> Line {
     }
 }
 
-fn line(kind: u64, n_qubits: usize, given: &Given, sizes: Sizes, built: Built) -> Line {
+pub(super) fn line(kind: u64, n_qubits: usize, given: &Given, sizes: Sizes, built: Built) -> Line {
     let Status {
         refusal,
         first,

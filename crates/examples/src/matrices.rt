@@ -1,0 +1,80 @@
+// SPDX-FileCopyrightText: 2026 The PPVM Authors
+// SPDX-License-Identifier: Apache-2.0
+
+// A matrix over two operators, added to a model without items, and one that is refused.
+use crate::models;
+use crate::print;
+use model::tables::Model;
+use pebblelinen::models::BuiltModel;
+
+// Adds the matrix K over the operators XI and IX to a model of two qubits without items.
+fn add(
+    k: &[f64],
+    jumps: &mut [u64],
+    rates: &mut [f64],
+    t_words: &mut [u64],
+    t_numbers: &mut [f64],
+    work_words: &mut [u64],
+    work_numbers: &mut [f64],
+) -> BuiltModel {
+    let model = Model {
+        qubits: 2,
+        hamiltonian: 0,
+        jumps: 0,
+        terms: 0,
+    };
+    let lengths = [2u64; 2];
+    let counts = [1u64; 2];
+    let numbers = [1.0, 0.0, 1.0, 0.0];
+    let no_words = [0u64; 0];
+    let no_numbers = [0f64; 0];
+    pebblelinen::models::pebblelinen_add_kossakowski(
+        model,
+        b"XIIX",
+        &lengths,
+        &counts,
+        &numbers,
+        k,
+        &no_words,
+        &no_numbers,
+        jumps,
+        rates,
+        t_words,
+        t_numbers,
+        work_words,
+        work_numbers,
+    )
+}
+
+pub fn run() {
+    let mut jumps = [0u64; 24];
+    let mut rates = [0f64; 3];
+    let mut t_words = [0u64; 32];
+    let mut t_numbers = [0f64; 16];
+    let mut work_words = [0u64; 1032];
+    let mut work_numbers = [0f64; 516];
+    let hermitian = [1.0, 0.0, 0.0, 1.0, 0.0, -1.0, 1.0, 0.0];
+    let added = add(
+        &hermitian,
+        &mut jumps,
+        &mut rates,
+        &mut t_words,
+        &mut t_numbers,
+        &mut work_words,
+        &mut work_numbers,
+    );
+    print::text(b"operators XI, IX with K rows (1, i), (-i, 1): ");
+    models::print_built(added);
+    let other = [1.0, 0.0, 0.0, 1.0, 0.0, 1.0, 1.0, 0.0];
+    let refused = add(
+        &other,
+        &mut jumps,
+        &mut rates,
+        &mut t_words,
+        &mut t_numbers,
+        &mut work_words,
+        &mut work_numbers,
+    );
+    print::text(b"the same with K rows (1, i), (i, 1): ");
+    models::print_built(refused);
+}

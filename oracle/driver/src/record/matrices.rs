@@ -1,0 +1,183 @@
+// SPDX-FileCopyrightText: 2026 The PPVM Authors
+// SPDX-License-Identifier: Apache-2.0
+
+//! Matrices: adding. Each cause has as many cases as every other.
+//!
+//! A case stands in a line like that of a model: K for the rates, and operators for the jumps. The
+//! model before is one of Hamiltonian terms I, whose words are zero as replay's tables are.
+
+use super::Line;
+use super::models::{TERM_PLACES, line};
+use crate::inputs::Rng;
+use crate::inputs::matrices::{self as inputs, Matrix};
+use crate::inputs::models::{self as model_inputs, Items};
+use crate::port::matrices::Given;
+use crate::port::models::{self as port, Built, Lent, Model, Sizes};
+use crate::published::matrices::RustMatrix;
+use crate::published::models::RustItems;
+use crate::rules::MAX_QUBITS;
+use crate::rules::matrices as rules;
+
+/// What the Rust answers as document 01 does, 0 for acceptance, and what it does not refuse.
+const ANSWERED: [u64; 8] = [0, 0, 0, 2, 3, 6, 9, 10];
+const REFUSED_BY_DOCUMENT: [u64; 5] = [1, 7, 8, 9, 13];
+
+/// The bytes, terms and numbers of a case, its operators and its terms, which replaying has room for.
+const LARGEST: usize = 240;
+const OPERATORS: usize = 8;
+const TERMS: usize = 40;
+
+pub fn record(seed: u64, cases: usize) {
+    let rng = &mut Rng::new(seed);
+    println!("# 7, as 5: a matrix added to a model of Hamiltonian terms I with these h_numbers; K");
+    println!("#   stands for the rates, operators for the jumps");
+    for case in 0..cases {
+        answered(rng, ANSWERED[case % ANSWERED.len()]).print();
+    }
+    println!("# 8, as 7: refusals of document 01 that the Rust does not have");
+    for case in 0..cases {
+        refused(rng, REFUSED_BY_DOCUMENT[case % REFUSED_BY_DOCUMENT.len()]).print();
+    }
+}
+
+/// A matrix and the model that it is added to.
+struct Case {
+    before: Items,
+    matrix: Matrix,
+}
+
+impl Case {
+    /// A small matrix, with something wrong in most.
+    fn new(rng: &mut Rng) -> Self {
+        loop {
+            let n_qubits = rng.below(6);
+            let mut matrix = inputs::sound(rng, n_qubits);
+            if !rng.one_in(4) {
+                inputs::spoil(rng, n_qubits, &mut matrix);
+            }
+            let terms = matrix.operators.iter().map(Vec::len).sum::<usize>();
+            if matrix.size() <= LARGEST && matrix.operators.len() <= OPERATORS && terms <= TERMS {
+                let identity = vec![b'I'; n_qubits];
+                let count = rng.below(4);
+                let number = |_| (identity.clone(), rng.below(5) as f64);
+                let hamiltonian = (0..count).map(number).collect();
+                let before = Items {
+                    n_qubits,
+                    hamiltonian,
+                    jumps: Vec::new(),
+                };
+                return Self { before, matrix };
+            }
+        }
+    }
+
+    fn h_numbers(&self) -> Vec<f64> {
+        self.before.hamiltonian.iter().map(|(_, x)| *x).collect()
+    }
+
+    /// Lengths that are enough, or what replaying has room for.
+    fn sizes(&self) -> Sizes {
+        let model = Model {
+            hamiltonian: self.before.hamiltonian.len(),
+            ..Model::default()
+        };
+        let added = port::matrix_sizes(self.matrix.operators.len(), self.matrix.longest());
+        let sizes = inputs::enough(model, added);
+        let work = 256 + TERMS;
+        Sizes {
+            t_words: sizes.t_words.min(4 * TERM_PLACES),
+            t_numbers: sizes.t_numbers.min(2 * TERM_PLACES),
+            work_words: 4 * work,
+            work_numbers: 2 * work,
+            ..sizes
+        }
+    }
+
+    /// The answer of the rules in tables that are all zero but for the Hamiltonian's numbers.
+    fn add(&self, given: &Given, sizes: Sizes) -> Built {
+        let h_numbers = self.h_numbers();
+        let model = Model {
+            qubits: self.before.n_qubits,
+            hamiltonian: h_numbers.len(),
+            ..Model::default()
+        };
+        let mut lent = Lent {
+            h_words: vec![0; sizes.h_words],
+            h_coeffs: h_numbers,
+            jumps: vec![0; sizes.jumps],
+            rates: vec![0.0; sizes.rates],
+            t_words: vec![0; sizes.t_words],
+            t_numbers: vec![0.0; sizes.t_numbers],
+            work_words: vec![0; sizes.work_words],
+            work_numbers: vec![0.0; sizes.work_numbers],
+        };
+        rules::add_kossakowski(model, given, &mut lent)
+    }
+
+    /// The answer of the Rust: its status, and how many jumps and pairs its model has.
+    fn rust(&self) -> Option<Built> {
+        let mut model = RustItems::new(&self.before)?.build().ok()?;
+        let matrix = RustMatrix::new(&self.matrix)?;
+        let added = matrix.add(&mut model);
+        let status = matrix.status(&added, self.before.n_qubits);
+        let jumps = match added {
+            Ok(()) => model.num_jump_terms(),
+            Err(_) => 0,
+        };
+        let model = Model {
+            jumps,
+            ..Model::default()
+        };
+        Some(Built { status, model })
+    }
+
+    fn line(&self, kind: u64, given: Given, sizes: Sizes, built: Built) -> Line {
+        let given = port::Given {
+            texts: given.texts,
+            lengths: given.lengths,
+            h_numbers: self.h_numbers(),
+            rates: given.k,
+            counts: given.counts,
+            numbers: given.numbers,
+        };
+        line(kind, self.before.n_qubits, &given, sizes, built)
+    }
+}
+
+/// A case with this answer, which the Rust gives too.
+fn answered(rng: &mut Rng, refusal: u64) -> Line {
+    loop {
+        let case = Case::new(rng);
+        let given = case.matrix.flat();
+        let sizes = case.sizes();
+        let built = case.add(&given, sizes);
+        let alike =
+            |rust: Built| rust.status == built.status && rust.model.jumps == built.model.jumps;
+        if built.status.refusal == refusal && case.rust().is_some_and(alike) {
+            return case.line(7, given, sizes, built);
+        }
+    }
+}
+
+/// A case with this answer, which is that of document 01 alone.
+fn refused(rng: &mut Rng, refusal: u64) -> Line {
+    loop {
+        let mut case = Case::new(rng);
+        if rng.one_in(8) {
+            case.before.n_qubits = MAX_QUBITS + 1 + rng.below(3);
+        }
+        let mut given = case.matrix.flat();
+        if rng.one_in(4) {
+            inputs::spoil_lengths(rng, &mut given);
+        }
+        let mut sizes = case.sizes();
+        if rng.one_in(4) {
+            model_inputs::other_length(rng, &mut sizes);
+            sizes.h_coeffs = case.before.hamiltonian.len();
+        }
+        let built = case.add(&given, sizes);
+        if built.status.refusal == refusal {
+            return case.line(8, given, sizes, built);
+        }
+    }
+}
