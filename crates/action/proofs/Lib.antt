@@ -5,4 +5,5 @@
 pub mod AddLaws
 pub mod GatherLaws
 pub mod GeneralLaws
+pub mod ItemLaws
 pub mod PutsLaws
