@@ -291,7 +291,8 @@ pub fn spoil_model(rng: &mut Rng, model: &mut Model, lent: &mut Lent) {
         4 => spoil_number(rng, &mut lent.h_coeffs),
         5 => spoil_number(rng, &mut lent.rates),
         6 => spoil_number(rng, &mut lent.t_numbers),
-        _ => spoil_entry(rng, model.terms, &mut lent.jumps),
+        // The count may have been damaged before, to one that leaves no room above it.
+        _ => spoil_entry(rng, model.terms.min(usize::MAX - 4), &mut lent.jumps),
     }
 }
 
