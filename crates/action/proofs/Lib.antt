@@ -4,4 +4,5 @@
 -- Laws of this crate.
 pub mod AddLaws
 pub mod GatherLaws
+pub mod PairAdds
 pub mod PutsLaws

@@ -3,3 +3,4 @@
 
 // The action of a model on a word: what each stored item adds, onto sums in word order.
 pub mod accumulate;
+pub mod pair;
