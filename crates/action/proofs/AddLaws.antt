@@ -23,19 +23,19 @@ use Rattle.gksl.specs.Words.{pauli}
 use Rattle.model.specs.Given.{Term}
 use Rattle.model.proofs.ProductLaws.{onto-eq}
 
-false-true : false ≡ true → ⊥
+pub false-true : false ≡ true → ⊥
 false-true e = let z : _≡_ {A = ℕ} 0 1 = cc in omega arith
 
 -- ---- a Hamiltonian term
 module _ (x : Float) (w : Word) where
-  factored-none : (n : ℕ) → eq (factor n) float0 ≡ true → factored floats pauli n x w ≡ []
+  pub factored-none : (n : ℕ) → eq (factor n) float0 ≡ true → factored floats pauli n x w ≡ []
   unfolding factored eq neg ofBits
   factored-none zero e = refl
   factored-none (suc zero) e = absurd (false-true e)
   factored-none (suc (suc zero)) e = refl
   factored-none (suc (suc (suc n))) e = absurd (false-true e)
 
-  factored-one : (n : ℕ) → eq (factor n) float0 ≡ false → factored floats pauli n x w ≡ record { num = realC floats (mul binary64 x (factor n)); word = w } ∷ []
+  pub factored-one : (n : ℕ) → eq (factor n) float0 ≡ false → factored floats pauli n x w ≡ record { num = realC floats (mul binary64 x (factor n)); word = w } ∷ []
   unfolding factored eq ofBits
   factored-one zero e = absurd (false-true (sym e))
   factored-one (suc zero) e = refl

@@ -6,4 +6,5 @@ pub mod AddLaws
 pub mod GatherLaws
 pub mod GeneralLaws
 pub mod ItemLaws
+pub mod PairAdds
 pub mod PutsLaws

@@ -5,3 +5,4 @@
 pub mod accumulate;
 pub mod general;
 pub mod items;
+pub mod pair;
