@@ -5,4 +5,5 @@
 pub mod AddLaws
 pub mod GatherLaws
 pub mod PairAdds
+pub mod PairFactors
 pub mod PutsLaws
