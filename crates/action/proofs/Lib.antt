@@ -7,4 +7,5 @@ pub mod GatherLaws
 pub mod GeneralLaws
 pub mod ItemLaws
 pub mod PairAdds
+pub mod PairFactors
 pub mod PutsLaws

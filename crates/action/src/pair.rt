@@ -5,11 +5,16 @@
 // the two words, and the words of its product by where p lies.
 ghost use mathlib.Core.Path.{_≡_};
 ghost use mathlib.Core.Bool.{cond};
+ghost use mathlib.Core.List.{map};
+ghost use Prim.Native.Nat.{_+_, _*_, _<_, _≤_};
+ghost use Rattle.word.specs.Product.{product};
 ghost use Rattle.number.specs.Floats.{floats};
 ghost use Rattle.gksl.specs.Rules.{gatherOver};
 ghost use Rattle.gksl.specs.Words.{pauli};
-ghost use Rattle.model.specs.Product.{onto, termsOf};
-ghost use Rattle.action.specs.Adds.{diagonal, bothSides, oneSide};
+ghost use Rattle.model.specs.Stored.{range};
+ghost use Rattle.model.specs.Tested.{width};
+ghost use Rattle.model.specs.Product.{onto, termsIn, termsOf};
+ghost use Rattle.action.specs.Adds.{folded, doubled, eachFactor, diagonal, bothSides, oneSide};
 ghost use Rattle.action.specs.Sums.{SumsRoom, TermsRoom, PutsAll};
 use model::product::Term;
 use model::product::term_at;
@@ -21,6 +26,7 @@ use number::scalar::real;
 use number::scalar::slight;
 use table::sums::Added;
 use table::sums::put;
+use word::algebra::Phased;
 use word::algebra::comm_product;
 use word::algebra::pauli_mul;
 use word::word::Word;
@@ -195,6 +201,111 @@ pub fn put_one(
         };
         count = m;
         j += 1;
+    }
+    Added::Held(count)
+}
+
+// A factor f with p between the two words, where ap is the left word times p; twice its real part
+// where `double` says so.
+fn factor_term(ap: Phased, f: Term, double: bool) -> Term
+    requires { ⌜ ap .phase < 4 ⌝ }
+    ensures { λ r. ⌜ ((a : Word) → ((p : Word) → (ap ≡ product a p → onto r ≡ cond double (doubled p) (folded p) a (onto f)))) ⌝ }
+{
+    let left = ap.word;
+    let right = f.word;
+    let product = pauli_mul(left, right);
+    let word = product.word;
+    let turns = ap.phase + product.phase;
+    let z = mul(f.number, phase_factor(turns));
+    if double {
+        return Term {
+            word,
+            number: real(2.0 * z.re),
+        };
+    }
+    Term { word, number: z }
+}
+
+// The factors of one left word a, from place `start` to before `end`.
+fn put_factor_row(
+    lanes: &mut [u64],
+    sums: &mut [f64],
+    room: usize,
+    len: usize,
+    t_words: &[u64],
+    t_numbers: &[f64],
+    start: usize,
+    end: usize,
+    a: Word,
+    p: Word,
+    double: bool,
+) -> Added
+    requires { ⌜ SumsRoom room len (now lanes) (now sums) × TermsRoom (range start end) (now «t_words») (now «t_numbers») ⌝ }
+    ensures { λ r. ⌜ PutsAll room len (map (cond double (doubled p) (folded p) a) (termsIn (now («t_words» .entry)) (now («t_numbers» .entry)) start end)) (now (lanes .entry)) (now (sums .entry)) (now (lanes .exit)) (now (sums .exit)) r ⌝ }
+{
+    let ap = pauli_mul(a, p);
+    let mut count = len;
+    let mut j = start;
+    while j < end {
+        let f = term_at(t_words, t_numbers, j);
+        let t = factor_term(ap, f, double);
+        let w = t.word;
+        let z = t.number;
+        let added = put(lanes, sums, room, count, w, z);
+        let Added::Held(m) = added else {
+            return Added::Full;
+        };
+        count = m;
+        j += 1;
+    }
+    Added::Held(count)
+}
+
+// The factors of each word in `left`, so many for each as `right` has, from place `factors` on.
+pub fn put_factors(
+    lanes: &mut [u64],
+    sums: &mut [f64],
+    room: usize,
+    len: usize,
+    t_words: &[u64],
+    t_numbers: &[f64],
+    left: Range,
+    right: Range,
+    factors: usize,
+    p: Word,
+    double: bool,
+) -> Added
+    requires { ⌜ SumsRoom room len (now lanes) (now sums) × TermsRoom left (now «t_words») (now «t_numbers») × (right .start ≤ right .end) × TermsRoom (range factors (factors + width left * width right)) (now «t_words») (now «t_numbers») ⌝ }
+    ensures { λ r. ⌜ PutsAll room len (eachFactor p (cond double (doubled p) (folded p)) (width right) (termsOf (now («t_words» .entry)) (now («t_numbers» .entry)) left) (termsIn (now («t_words» .entry)) (now («t_numbers» .entry)) factors (factors + width left * width right))) (now (lanes .entry)) (now (sums .entry)) (now (lanes .exit)) (now (sums .exit)) r ⌝ }
+{
+    let row = right.end - right.start;
+    let end = left.end;
+    let mut count = len;
+    let mut i = left.start;
+    let mut place = factors;
+    while i < end {
+        let t = term_at(t_words, t_numbers, i);
+        let a = t.word;
+        let next = place + row;
+        let added = put_factor_row(
+            lanes,
+            sums,
+            room,
+            count,
+            t_words,
+            t_numbers,
+            place,
+            next,
+            a,
+            p,
+            double,
+        );
+        let Added::Held(m) = added else {
+            return Added::Full;
+        };
+        count = m;
+        place = next;
+        i += 1;
     }
     Added::Held(count)
 }
