@@ -197,6 +197,5 @@ module _ (p : Word) (f : Word → Term → Term) (left : Range) (w factors room 
 
         pub each-full : r ≡ Full → PutsAll room len Total lanes₀ sums₀ lanes″ sums″ Full
         each-full g =
-            subst (λ (x : Added). PutsAll room len Total lanes₀ sums₀ lanes″ sums″ x) g
-            (puts-same room len lanes₀ sums₀ s lanes″ sums″ ((t .done ++ row) ++ rest) Total r next-whole
-            (puts-full room len lanes₀ sums₀ s lanes″ sums″ (t .done ++ row) rest r next-puts g))
+            puts-same room len lanes₀ sums₀ s lanes″ sums″ ((t .done ++ row) ++ rest) Total Full next-whole
+            (puts-full room len lanes₀ sums₀ s lanes″ sums″ (t .done ++ row) rest r next-puts g)
