@@ -25,8 +25,8 @@ use Rattle.gksl.specs.Words.{pauli}
 use Rattle.table.specs.declared.sums.Added.{Added}
 use Rattle.table.specs.declared.sums.Added.the-variants.{Held, Full}
 use Rattle.model.specs.Given.{Term}
-use Rattle.model.specs.Stored.{Tables, tables, jumpAt}
-use Rattle.model.specs.Tested.{inside, badJump}
+use Rattle.model.specs.Stored.{Tables, tables, range, jumpAt}
+use Rattle.model.specs.Tested.{inside, width, badJump}
 use Rattle.model.specs.declared.tables.Range.{Range}
 use Rattle.model.specs.declared.tables.Jump.{Jump}
 use Rattle.model.specs.declared.tables.Jump.the-variants.{Pauli, General, Pair}
@@ -156,17 +156,18 @@ module _ (p : Word) (t : Tables) (lanes : List ℕ) (numbers : List Float) (ew :
   unfolding jumpAdds
   pair-adds j left right factors prod e = ap (jumpAdds p t) e
 
-  jump-same : (j : Jump) → jumpAdds p (ofTerms lanes numbers) j ≡ jumpAdds p t j
+  pub jump-same : (j : Jump) → jumpAdds p (ofTerms lanes numbers) j ≡ jumpAdds p t j
   unfolding jumpAdds
   jump-same (Pauli rate term) = rw ew refl
   jump-same (General rate terms prod) = rw (ew, en) refl
   jump-same (Pair left right factors prod) = refl
 
-  pub jumps-each : (jumps : List ℕ) (rates : List Float) (K : List ℕ)
-      → each (λ k. jumpAdds p (ofTerms lanes numbers) (jumpAt jumps rates k)) K ≡ gatherJumps (jumpAdds p t) (map (jumpAt jumps rates) K)
-  unfolding each gatherJumps
-  jumps-each jumps rates [] = refl
-  jumps-each jumps rates (k ∷ K) = ap₂ (λ (a b : List Term). a ++ b) (jump-same (jumpAt jumps rates k)) (jumps-each jumps rates K)
+-- what is gathered from the entries, by two functions that agree
+pub jumps-each : (f g : Jump → List Term) → ((j : Jump) → f j ≡ g j) → (jumps : List ℕ) (rates : List Float) (K : List ℕ)
+    → each (λ k. f (jumpAt jumps rates k)) K ≡ gatherJumps g (map (jumpAt jumps rates) K)
+unfolding each gatherJumps
+jumps-each f g h jumps rates [] = refl
+jumps-each f g h jumps rates (k ∷ K) = ap₂ (λ (a b : List Term). a ++ b) (h (jumpAt jumps rates k)) (jumps-each f g h jumps rates K)
 
 -- ---- a jump that passed its test
 both : (a : Bool) {b : Bool} → (a && b) ≡ true → (a ≡ true) × (b ≡ true)
@@ -189,3 +190,13 @@ module _ (places : ℕ) (lanes : List ℕ) (numbers : List Float) (hl : 4 * plac
   general-room rate terms prod h =
       let e = both (inside places terms) (not-false _ h) in
       (range-room terms (e .0), range-room prod (both (inside places prod) (e .1) .0))
+
+  pub pair-room : (left right : Range) (factors : ℕ) (prod : Range) → badJump places (Pair left right factors prod) ≡ false
+      → TermsRoom left lanes numbers × TermsRoom right lanes numbers × TermsRoom (range factors (factors + width left * width right)) lanes numbers × TermsRoom prod lanes numbers
+  unfolding badJump
+  pair-room left right factors prod h =
+      let e = both (inside places left) (not-false _ h) in
+      let f = both (inside places right) (e .1) in
+      let g = both (inside places prod) (f .1) in
+      let b : factors + width left * width right ≤ places = leb-true (factors + width left * width right) places (g .1) in
+      (range-room left (e .0), range-room right (f .0), record { order = omega arith; lanes-long = omega (arith, b, hl); numbers-long = omega (arith, b, hn) }, range-room prod (g .0))

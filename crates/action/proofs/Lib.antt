@@ -8,4 +8,5 @@ pub mod GeneralLaws
 pub mod ItemLaws
 pub mod PairAdds
 pub mod PairFactors
+pub mod PairItems
 pub mod PutsLaws

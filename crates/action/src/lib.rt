@@ -6,3 +6,4 @@ pub mod accumulate;
 pub mod general;
 pub mod items;
 pub mod pair;
+pub mod pairs;

@@ -9,7 +9,7 @@ use Rattle.model.specs.Stored.{jumpAt}
 use Rattle.model.specs.Tested.{badJump}
 use Rattle.action.specs.Adds.{upTo, jumpAdds}
 use Rattle.action.proofs.PutsLaws.{puts-same}
-use Rattle.action.proofs.ItemLaws.{EachState, ofTerms, each-start, each-room, each-next, each-full, each-done, jumps-each}
+use Rattle.action.proofs.ItemLaws.{EachState, ofTerms, each-start, each-room, each-next, each-full, each-done, jump-same, jumps-each}
 use borrow.Author.Needs.{needs}
 use Rattle.action.proofs.items.put_jumps.Statement.{statement}
 use Rattle.action.proofs.items.put_jumps.Tie as tie
@@ -47,7 +47,7 @@ returns c = λ t ew en.
     let s = c .before .before .before .before .before .before .before .before .before .before .before .before .before .before .before .before .before .before in
     let a = s .args in
     let l = c .before .before .before .before .before .before .before .before .before .before .before .loop in
-    puts-same (a .room) (a .len) (a .lanes .now) (a .sums .now) (s .pre .0) _ _ _ _ _ (jumps-each (a .p) t (a .t-words .now) (a .t-numbers .now) ew en (a .jumps .now) (a .rates .now) (upTo 0 (a .count)))
+    puts-same (a .room) (a .len) (a .lanes .now) (a .sums .now) (s .pre .0) _ _ _ _ _ (jumps-each (jumpAdds (a .p) (ofTerms (a .t-words .now) (a .t-numbers .now))) (jumpAdds (a .p) t) (jump-same (a .p) t (a .t-words .now) (a .t-numbers .now) ew en) (a .jumps .now) (a .rates .now) (upTo 0 (a .count)))
     (each-full (λ (k : ℕ). jumpAdds (a .p) (ofTerms (a .t-words .now) (a .t-numbers .now)) (jumpAt (a .jumps .now) (a .rates .now) k)) (a .count) (a .room) (a .len) (a .lanes .now) (a .sums .now) (s .pre .0) (l .lanes) (l .sums) (l .held) (l .j) (l .inv) (c .before .before .before .before .before .before .before .before .before .before .loop-test .taken)
     _ (ap (jumpAdds (a .p) (ofTerms (a .t-words .now) (a .t-numbers .now))) (c .before .before .before .before .before .before .before .before .before .jump-at .ensures)) _ _ (c .before .before .before .before .before .before .put-jump .result) (c .before .before .before .before .before .before .put-jump .ensures (ofTerms (a .t-words .now) (a .t-numbers .now)) refl refl) (c .enum-told .given .1))
 
@@ -70,7 +70,7 @@ returns-2 c = λ t ew en.
     let s = c .before .before .before .before .before .before .before .before in
     let a = s .args in
     let l = c .before .loop in
-    puts-same (a .room) (a .len) (a .lanes .now) (a .sums .now) (s .pre .0) _ _ _ _ _ (jumps-each (a .p) t (a .t-words .now) (a .t-numbers .now) ew en (a .jumps .now) (a .rates .now) (upTo 0 (a .count)))
+    puts-same (a .room) (a .len) (a .lanes .now) (a .sums .now) (s .pre .0) _ _ _ _ _ (jumps-each (jumpAdds (a .p) (ofTerms (a .t-words .now) (a .t-numbers .now))) (jumpAdds (a .p) t) (jump-same (a .p) t (a .t-words .now) (a .t-numbers .now) ew en) (a .jumps .now) (a .rates .now) (upTo 0 (a .count)))
     (each-done (λ (k : ℕ). jumpAdds (a .p) (ofTerms (a .t-words .now) (a .t-numbers .now)) (jumpAt (a .jumps .now) (a .rates .now) k)) (a .count) (a .room) (a .len) (a .lanes .now) (a .sums .now) (s .pre .0) (l .lanes) (l .sums) (l .held) (l .j) (l .inv) (c .loop-test .left))
 
 pub put-jumps-spec : {M : Type 1} → statement M
