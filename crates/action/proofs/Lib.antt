@@ -10,3 +10,4 @@ pub mod PairAdds
 pub mod PairFactors
 pub mod PairItems
 pub mod PutsLaws
+pub mod RuleLaws

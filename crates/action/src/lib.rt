@@ -7,3 +7,4 @@ pub mod general;
 pub mod items;
 pub mod pair;
 pub mod pairs;
+pub mod rules;
