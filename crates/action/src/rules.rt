@@ -1,8 +1,8 @@
 // SPDX-FileCopyrightText: 2026 The PPVM Authors
 // SPDX-License-Identifier: Apache-2.0
 
-// All that a model that passed its test adds for a word p, put to no sums yet: the Hamiltonian terms,
-// then the jumps, then the pairs.
+// All that a model that passed its test adds for a word p, put to a table of sums that starts empty:
+// the Hamiltonian terms, then the jumps, then the pairs.
 ghost use mathlib.Core.Path.{_≡_};
 ghost use Rattle.refusal.specs.declared.Answer.the-variants.{Accepted};
 ghost use Rattle.model.specs.Stored.{tables};
