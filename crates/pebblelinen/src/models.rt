@@ -3,12 +3,11 @@
 
 // Models: built in lent tables, tested where one is lent, and the lengths that are enough.
 ghost use mathlib.Core.Path.{_≡_};
-ghost use Prim.Native.Nat.{_+_, _*_, _/_, _≤_, _<_};
 ghost use Rattle.refusal.specs.Cause.{answerStatus};
 ghost use Rattle.model.specs.Built.{build};
 ghost use Rattle.model.specs.Tested.{testModel};
 ghost use Rattle.kossakowski.specs.Added.{add};
-ghost use Rattle.pebblelinen.specs.Models.{builtOf, Leaves, lengthsOf, modelSizes, matrixSizes};
+ghost use Rattle.pebblelinen.specs.Models.{builtOf, Leaves, modelSizes, matrixSizes};
 use kossakowski::check::MAX_OPERATORS;
 use model::items::MAX_TERMS;
 use model::lengths::WORK_PLACES;
@@ -164,30 +163,6 @@ pub struct Sizes {
     pub work_numbers: usize,
 }
 
-// The lengths for so many places of each table. No table of this library has more than 2^32.
-fn lengths_of(hamiltonian: usize, jumps: usize, terms: usize, work: usize) -> Sizes
-    requires { ⌜ (hamiltonian < 4294967296) × (jumps < 4294967296) × (terms < 4294967296) × (work < 4294967296) ⌝ }
-    ensures { λ r. ⌜ r ≡ lengthsOf hamiltonian jumps terms work ⌝ }
-{
-    Sizes {
-        h_words: 4 * hamiltonian,
-        h_coeffs: hamiltonian,
-        jumps: 8 * jumps,
-        rates: jumps,
-        t_words: 4 * terms,
-        t_numbers: 2 * terms,
-        work_words: 4 * work,
-        work_numbers: 2 * work,
-    }
-}
-
-fn model_lengths(h: usize, j: usize, c: usize) -> Sizes
-    requires { ⌜ (h ≤ 4096) × (j ≤ 4096) × (c ≤ 16) ⌝ }
-    ensures { λ r. ⌜ r ≡ lengthsOf h j (j * (c + c * c)) 272 ⌝ }
-{
-    lengths_of(h, j, j * (c + c * c), WORK_PLACES)
-}
-
 #[no_mangle]
 pub extern "C" fn pebblelinen_model_sizes(hamiltonian: usize, jumps: usize, terms: usize) -> Sizes
     ensures { λ r. ⌜ r ≡ modelSizes hamiltonian jumps terms ⌝ }
@@ -195,16 +170,17 @@ pub extern "C" fn pebblelinen_model_sizes(hamiltonian: usize, jumps: usize, term
     let h = smaller(hamiltonian, MAX_HAMILTONIAN);
     let j = smaller(jumps, MAX_JUMPS);
     let c = smaller(terms, MAX_TERMS);
-    model_lengths(h, j, c)
-}
-
-fn matrix_lengths(k: usize, c: usize) -> Sizes
-    requires { ⌜ (k ≤ 64) × (c ≤ 16) ⌝ }
-    ensures { λ r. ⌜ r ≡ lengthsOf 0 (k * (k + 1) / 2) (k * c + k * (k + 1) / 2 * (2 * (c * c))) (256 + k * c) ⌝ }
-{
-    let pairs = k * (k + 1) / 2;
-    let given = k * c;
-    lengths_of(0, pairs, given + pairs * (2 * (c * c)), SUM_PLACES + given)
+    let places = j * (c + c * c);
+    Sizes {
+        h_words: 4 * h,
+        h_coeffs: h,
+        jumps: 8 * j,
+        rates: j,
+        t_words: 4 * places,
+        t_numbers: 2 * places,
+        work_words: 4 * WORK_PLACES,
+        work_numbers: 2 * WORK_PLACES,
+    }
 }
 
 #[no_mangle]
@@ -213,5 +189,18 @@ pub extern "C" fn pebblelinen_matrix_sizes(operators: usize, terms: usize) -> Si
 {
     let k = smaller(operators, MAX_OPERATORS);
     let c = smaller(terms, MAX_TERMS);
-    matrix_lengths(k, c)
+    let pairs = k * (k + 1) / 2;
+    let given = k * c;
+    let places = given + pairs * (2 * (c * c));
+    let work = SUM_PLACES + given;
+    Sizes {
+        h_words: 0,
+        h_coeffs: 0,
+        jumps: 8 * pairs,
+        rates: pairs,
+        t_words: 4 * places,
+        t_numbers: 2 * places,
+        work_words: 4 * work,
+        work_numbers: 2 * work,
+    }
 }
