@@ -98,7 +98,7 @@ module _ (lanes : List ℕ) (numbers : List Float) (s w e : ℕ) (h : s + w ≤ 
       drop-take w (e - s) (e - (s + w)) (drop s R) d ∙ ap (take (e - (s + w))) (drop-drop w s R)
 
 -- ---- the factors of the left words before place i are put; the next factor stands at `place`
-pub record EachState (p : Word) (f : Word → Term → Term) (left : Range) (w factors room len : ℕ) (lanes : List ℕ) (numbers : List Float) (lanes₀ : List ℕ) (sums₀ : List Float) (lanes′ : List ℕ) (sums′ : List Float) (count i place : ℕ) : Type 0 where
+pub record FactorsState (p : Word) (f : Word → Term → Term) (left : Range) (w factors room len : ℕ) (lanes : List ℕ) (numbers : List Float) (lanes₀ : List ℕ) (sums₀ : List Float) (lanes′ : List ℕ) (sums′ : List Float) (count i place : ℕ) : Type 0 where
   pub high : i ≤ left .end
   pub fits : place + (left .end - i) * w ≡ factors + width left * w
   pub lanes-same : length lanes′ ≡ length lanes₀
@@ -117,10 +117,10 @@ module _ (p : Word) (f : Word → Term → Term) (left : Range) (w factors room 
   Total = eachFactor p f w (termsOf lanes numbers left) (termsIn lanes numbers factors last)
 
   abbrev State : List ℕ → List Float → ℕ → ℕ → ℕ → Type 0
-  State lanes′ sums′ count i place = EachState p f left w factors room len lanes numbers lanes₀ sums₀ lanes′ sums′ count i place
+  State lanes′ sums′ count i place = FactorsState p f left w factors room len lanes numbers lanes₀ sums₀ lanes′ sums′ count i place
 
-  pub each-start : State lanes₀ sums₀ len (left .start) factors
-  each-start = record {
+  pub factors-start : State lanes₀ sums₀ len (left .start) factors
+  factors-start = record {
     high = h .order;
     fits = refl;
     lanes-same = refl;
@@ -131,20 +131,20 @@ module _ (p : Word) (f : Word → Term → Term) (left : Range) (w factors room 
   }
 
   module _ (lanes′ : List ℕ) (sums′ : List Float) (count i place : ℕ) (t : State lanes′ sums′ count i place) where
-    pub each-room : SumsRoom room count lanes′ sums′
-    each-room = puts-room room len lanes₀ sums₀ s lanes′ sums′ (t .done) count (Held count) (t .puts) refl (t .lanes-same) (t .sums-same)
+    pub factors-room : SumsRoom room count lanes′ sums′
+    factors-room = puts-room room len lanes₀ sums₀ s lanes′ sums′ (t .done) count (Held count) (t .puts) refl (t .lanes-same) (t .sums-same)
 
-    pub each-done : left .end ≤ i → PutsAll room len Total lanes₀ sums₀ lanes′ sums′ (Held count)
+    pub factors-done : left .end ≤ i → PutsAll room len Total lanes₀ sums₀ lanes′ sums′ (Held count)
     unfolding eachFactor
-    each-done k =
+    factors-done k =
         let e : i ≡ left .end = omega (arith, t .high) in
         let none : termsIn lanes numbers i (left .end) ≡ [] = ap (λ (m : ℕ). termsIn lanes numbers m (left .end)) e ∙ terms-none lanes numbers (left .end) in
         puts-same room len lanes₀ sums₀ s lanes′ sums′ (t .done) Total (Held count)
         (sym (append-nil (t .done)) ∙ ap (λ (l : List Term). t .done ++ eachFactor p f w l (termsIn lanes numbers place last)) (sym none) ∙ t .whole) (t .puts)
 
     module _ (k : i < left .end) where
-      pub each-term : (4 * i + 4 ≤ length lanes) × (2 * i + 2 ≤ length numbers)
-      each-term = (omega (arith, h .lanes-long), omega (arith, h .numbers-long))
+      pub factors-term : (4 * i + 4 ≤ length lanes) × (2 * i + 2 ≤ length numbers)
+      factors-term = (omega (arith, h .lanes-long), omega (arith, h .numbers-long))
 
       one-less : (left .end - i) * w ≡ (left .end - (i + 1)) * w + w
       one-less = let d : left .end - i ≡ suc (left .end - (i + 1)) = omega arith in ap (λ (x : ℕ). x * w) d ∙ suc-mul (left .end - (i + 1)) w
@@ -172,8 +172,8 @@ module _ (p : Word) (f : Word → Term → Term) (left : Range) (w factors room 
           (take-row lanes numbers place w last row-ends) (drop-row lanes numbers place w last row-ends)
 
       -- the row of factors is inside the terms table
-      pub each-row : (place ≤ place + w) × (4 * (place + w) ≤ length lanes) × (2 * (place + w) ≤ length numbers)
-      each-row = (omega arith, omega (arith, row-ends, hf .0), omega (arith, row-ends, hf .1))
+      pub factors-row : (place ≤ place + w) × (4 * (place + w) ≤ length lanes) × (2 * (place + w) ≤ length numbers)
+      factors-row = (omega arith, omega (arith, row-ends, hf .0), omega (arith, row-ends, hf .1))
 
       module _ (A : List Term) (e : A ≡ row) (lanes″ : List ℕ) (sums″ : List Float) (r : Added) (q : PutsAll room count A lanes′ sums′ lanes″ sums″ r) where
         next-puts : PutsAll room len (t .done ++ row) lanes₀ sums₀ lanes″ sums″ r
@@ -184,8 +184,8 @@ module _ (p : Word) (f : Word → Term → Term) (left : Range) (w factors room 
         next-whole : (t .done ++ row) ++ rest ≡ Total
         next-whole = append-assoc (t .done) row rest ∙ ap (λ (l : List Term). t .done ++ l) (sym next-row) ∙ t .whole
 
-        pub each-next : (m : ℕ) → r ≡ Held m → length lanes″ ≡ length lanes′ → length sums″ ≡ length sums′ → State lanes″ sums″ m (i + 1) (place + w)
-        each-next m g el es = record {
+        pub factors-next : (m : ℕ) → r ≡ Held m → length lanes″ ≡ length lanes′ → length sums″ ≡ length sums′ → State lanes″ sums″ m (i + 1) (place + w)
+        factors-next m g el es = record {
           high = omega arith;
           fits = omega (arith, t .fits, one-less);
           lanes-same = el ∙ t .lanes-same;
@@ -195,7 +195,7 @@ module _ (p : Word) (f : Word → Term → Term) (left : Range) (w factors room 
           puts = subst (λ (x : Added). PutsAll room len (t .done ++ row) lanes₀ sums₀ lanes″ sums″ x) g next-puts;
         }
 
-        pub each-full : r ≡ Full → PutsAll room len Total lanes₀ sums₀ lanes″ sums″ Full
-        each-full g =
+        pub factors-full : r ≡ Full → PutsAll room len Total lanes₀ sums₀ lanes″ sums″ Full
+        factors-full g =
             puts-same room len lanes₀ sums₀ s lanes″ sums″ ((t .done ++ row) ++ rest) Total Full next-whole
             (puts-full room len lanes₀ sums₀ s lanes″ sums″ (t .done ++ row) rest r next-puts g)

@@ -6,6 +6,7 @@
 use mathlib.Core.Path.{_≡_, sym, ap, _∙_, subst}
 use mathlib.Core.List.{List, [], _∷_}
 use Prim.Native.Nat.{ℕ, suc, _+_, _*_, _/_, _≤_, _<_, min}
+use native.Mathlib.Nat.{suc-mul}
 use native.Mathlib.Omega.{arith}
 use lib.Dec.{ltb}
 use lib.Ieee.{Float}
@@ -50,10 +51,11 @@ terms-inside m t e =
     let e9 = lent-passed (m .terms) (length (t .tNumbers) / 2) _ (e8 .1) in
     (e8 .0, e9 .0)
 
-total-few : (cs : List ℕ) → ((j : ℕ) → getD cs j 0 ≤ 16) → total cs ≤ 16 * length cs
+-- numbers of at most n
+pub total-most : (n : ℕ) (ns : List ℕ) → ((j : ℕ) → getD ns j 0 ≤ n) → total ns ≤ length ns * n
 unfolding total
-total-few [] h = omega arith
-total-few (c ∷ cs) h = omega (arith, h 0, total-few cs (λ j. h (suc j)))
+total-most n [] h = omega arith
+total-most n (k ∷ ns) h = omega (arith, h 0, total-most n ns (λ j. h (suc j)), suc-mul (length ns) n)
 
 module _ (m : Model) (i : Input) (t : Tables) (workWords : List ℕ) (workNumbers : List Float) (a : Accepts m i t workWords workNumbers) where
   abbrev own : ℕ
@@ -63,7 +65,7 @@ module _ (m : Model) (i : Input) (t : Tables) (workWords : List ℕ) (workNumber
   few = counts-few (m .qubits) i (a .As) (a .read) (a .lengths .terms-counted) (a .lengths .numbers-two)
 
   pub own-few : own ≤ 1024
-  own-few = omega (arith, total-few (i .counts) few, a .lengths .terms-counted, a .few)
+  own-few = omega (arith, total-most 16 (i .counts) few, a .lengths .terms-counted, a .few)
 
   -- ---- what each step asks
   pub read-fits : TextsFit (i .lengths) (i .texts) (i .numbers)

@@ -42,6 +42,7 @@ use Rattle.kossakowski.specs.Added.{operators, matrix, maxOperators, entriesNee
 use Rattle.kossakowski.specs.Added as Adding
 use Rattle.kossakowski.specs.Work.{matrixAnswer}
 use Rattle.kossakowski.proofs.AddLaws.{operators-are}
+use Rattle.kossakowski.proofs.CompiledLaws.{total-most}
 use Rattle.kossakowski.proofs.MatrixAccepted.{matrix-accepted}
 use Rattle.model_laws.specs.Every.{Every}
 use Rattle.model_laws.specs.BuiltFrom.{answered, answeredRead, builtFrom, ModelCounts, ModelRoom}
@@ -51,7 +52,7 @@ use Rattle.model_laws.specs.AddedFrom as AddedFrom
 use Rattle.model_laws.proofs.Lists.{every-weaken, every-both, every-map}
 use Rattle.model_laws.proofs.ReadItems.{JumpGood, jump-read, each-every}
 use Rattle.model_laws.proofs.BuiltLaws.{jumps-few}
-use Rattle.model_laws.proofs.SizesLaws.{total-most, parts-every, jumps-fit, pairs-up, pairs-fit}
+use Rattle.model_laws.proofs.SizesLaws.{parts-every, jumps-fit, pairs-up, pairs-fit}
 
 -- ---- tests with the same answer after them, where they are passed
 equal-same : (needed have : ℕ) (a b : Answer) → (have ≡ needed → a ≡ b) → equal needed have a ≡ equal needed have b

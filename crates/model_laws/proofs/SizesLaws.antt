@@ -16,7 +16,6 @@ use Rattle.gksl.specs.Words.{pauli}
 use Rattle.model.specs.Given.{Term}
 use Rattle.model.specs.Compiled.{Compiled, compileJump}
 use Rattle.model.specs.Built.{parts, termsOf}
-use Rattle.model.specs.Items.{total}
 use Rattle.model.specs.declared.tables.Range.{Range}
 use Rattle.model.proofs.SizeLaws.{formed-few, compiled-few}
 use Rattle.kossakowski.specs.Matrix.{pairPlaces}
@@ -38,11 +37,6 @@ all-most : (n : ℕ) (As : List (List Term)) → Every (λ A. length A ≤ n) As
 unfolding allTerms
 all-most n [] h = omega arith
 all-most n (A ∷ As) h = omega (arith, h .0, all-most n As (h .1), length-append A (allTerms As), suc-mul (length As) n)
-
-pub total-most : (n : ℕ) (ns : List ℕ) → ((j : ℕ) → getD ns j 0 ≤ n) → total ns ≤ length ns * n
-unfolding total
-total-most n [] h = omega arith
-total-most n (k ∷ ns) h = omega (arith, h 0, total-most n ns (λ j. h (suc j)), suc-mul (length ns) n)
 
 -- what holds of lengths, and of smaller ones, holds of the parts
 pub parts-every : {A : Type 0} (P : ℕ → Type 0) → ((a b : ℕ) → a ≤ b → P b → P a) → (ns : List ℕ) (l : List A) → ((j : ℕ) → P (getD ns j 0)) → Every (λ p. P (length p)) (parts ns l)

@@ -152,12 +152,6 @@ inRange-atMost x h =
       | inr r ↦ within-power 200 x (and-r (le (fin false 1 (negsuc 199)) (magnitude x)) (le (magnitude x) (fin false 1 (pos 200))) r)
     ]
 
-pub bounded-finite : (x : Float) → bounded x ≡ true → T (isFinite x)
-bounded-finite x h = atMost-finite (bounded-atMost x h)
-
-pub inRange-finite : (x : Float) → inRange x ≡ true → T (isFinite x)
-inRange-finite x h = atMost-finite (inRange-atMost x h)
-
 -- ---- and a bound up to 2^620 passes the test
 power-le : (k : ℕ) (x : Float) → T (nonneg x) → AtMost k x → T (le x (fin false 1 (pos k)))
 unfolding le lt eq
@@ -387,10 +381,6 @@ upToC-more M K h g = record { re = upTo-more M K (h .re) (g .re); im = upTo-more
 pub atMostC-settled : {k : ℕ} {x y : Cx floats} → k ≤ 969 → AtMostC (k + 54) x → AtMostC k y → AtMostC (k + 54) (addC floats x y)
 unfolding addC
 atMostC-settled K h g = record { re = atMost-settled K (h .re) (g .re); im = atMost-settled K (h .im) (g .im) }
-
-pub atMostC-add : {k : ℕ} {x y : Cx floats} → k < 1023 → AtMostC k x → AtMostC k y → AtMostC (suc k) (addC floats x y)
-unfolding addC
-atMostC-add K h g = record { re = atMost-add K (h .re) (g .re); im = atMost-add K (h .im) (g .im) }
 
 pub atMostC-mul : {j k : ℕ} {x y : Cx floats} → j + k < 1023 → AtMostC j x → AtMostC k y → AtMostC (suc (j + k)) (mulC floats x y)
 unfolding mulC

@@ -321,17 +321,7 @@ fn small(rng: &mut Rng, tallies: &mut Tallies) {
     if !sound {
         inputs::spoil_lengths(rng, &mut given);
     }
-    let lengths = |lent: &Lent| Sizes {
-        h_words: lent.h_words.len(),
-        h_coeffs: lent.h_coeffs.len(),
-        jumps: lent.jumps.len(),
-        rates: lent.rates.len(),
-        t_words: lent.t_words.len(),
-        t_numbers: lent.t_numbers.len(),
-        work_words: lent.work_words.len(),
-        work_numbers: lent.work_numbers.len(),
-    };
-    let mut sizes = lengths(&enough.lent);
+    let mut sizes = enough.lent.sizes();
     model_inputs::other_length(rng, &mut sizes);
     let other = enough.with_room(rng, sizes);
     add(tallies, &other, &matrix, &given, sound);
@@ -342,14 +332,14 @@ fn small(rng: &mut Rng, tallies: &mut Tallies) {
             let sizes = Sizes {
                 t_words: 4 * terms,
                 t_numbers: 2 * terms,
-                ..lengths(&enough.lent)
+                ..enough.lent.sizes()
             };
             let exact = enough.with_room(rng, sizes);
             add(tallies, &exact, &matrix, &matrix.flat(), true);
         }
     }
 
-    let mut damaged = enough.with_room(rng, lengths(&enough.lent));
+    let mut damaged = enough.with_room(rng, enough.lent.sizes());
     damaged.made_of = None;
     for _ in 0..=rng.below(2) {
         model_inputs::spoil_model(rng, &mut damaged.model, &mut damaged.lent);

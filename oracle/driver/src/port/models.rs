@@ -60,6 +60,20 @@ pub struct Lent {
 }
 
 impl Lent {
+    /// How long the slices are.
+    pub fn sizes(&self) -> Sizes {
+        Sizes {
+            h_words: self.h_words.len(),
+            h_coeffs: self.h_coeffs.len(),
+            jumps: self.jumps.len(),
+            rates: self.rates.len(),
+            t_words: self.t_words.len(),
+            t_numbers: self.t_numbers.len(),
+            work_words: self.work_words.len(),
+            work_numbers: self.work_numbers.len(),
+        }
+    }
+
     /// The slices of words and entries, and those of numbers by their bits.
     fn bits(&self) -> [Vec<u64>; 8] {
         let bits = |numbers: &[f64]| numbers.iter().map(|x| x.to_bits()).collect();

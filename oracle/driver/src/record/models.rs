@@ -37,16 +37,7 @@ pub fn record(seed: u64, cases: usize) {
 
 /// The answer of the rules, and how long the lent tables were.
 fn build(given: &Given, n_qubits: usize, lent: Lent) -> (Built, Sizes) {
-    let sizes = Sizes {
-        h_words: lent.h_words.len(),
-        h_coeffs: lent.h_coeffs.len(),
-        jumps: lent.jumps.len(),
-        rates: lent.rates.len(),
-        t_words: lent.t_words.len(),
-        t_numbers: lent.t_numbers.len(),
-        work_words: lent.work_words.len(),
-        work_numbers: lent.work_numbers.len(),
-    };
+    let sizes = lent.sizes();
     (rules::build_model(given, n_qubits, &mut { lent }), sizes)
 }
 

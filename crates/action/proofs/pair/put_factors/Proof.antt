@@ -14,7 +14,7 @@ use Rattle.model.specs.Given.{Term}
 use Rattle.model.specs.Stored.{range}
 use Rattle.model.specs.Product.{termsIn}
 use Rattle.action.specs.Adds.{folded, doubled}
-use Rattle.action.proofs.PairFactors.{EachState, each-start, each-room, each-term, each-row, each-next, each-full, each-done}
+use Rattle.action.proofs.PairFactors.{FactorsState, factors-start, factors-room, factors-term, factors-row, factors-next, factors-full, factors-done}
 use borrow.Author.Needs.{needs}
 use native.Mathlib.Omega.{arith}
 use Rattle.action.proofs.pair.put_factors.Statement.{statement}
@@ -24,7 +24,7 @@ abbrev spread : Bool → Word → Word → Term → Term
 spread double p = cond double (doubled p) (folded p)
 
 abbrev Inv-loop : tie.InvT-loop
-Inv-loop lanes₀ sums₀ room len t-words t-numbers factors p double row end count₀ i₀ place₀ lanes sums count i place = EachState p (spread double p) (range i₀ end) row factors room len t-words t-numbers lanes₀ sums₀ lanes sums count i place
+Inv-loop lanes₀ sums₀ room len t-words t-numbers factors p double row end count₀ i₀ place₀ lanes sums count i place = FactorsState p (spread double p) (range i₀ end) row factors room len t-words t-numbers lanes₀ sums₀ lanes sums count i place
 
 abbrev μ-loop : tie.MeasureT-loop
 μ-loop lanes₀ sums₀ room len t-words t-numbers factors p double row end count₀ i₀ place₀ lanes sums count i place = end - i
@@ -36,21 +36,21 @@ loop-holds : tie.Need-loop-holds Inv-loop μ-loop
 loop-holds c =
     let s = c .before .before .before .before .before in
     let a = s .args in
-    each-start (a .p) (spread (a .double) (a .p)) (a .left) (a .right .end - a .right .start) (a .factors) (a .room) (a .len) (a .t-words .now) (a .t-numbers .now) (a .lanes .now) (a .sums .now) (s .pre .0) (s .pre .1) (s .pre .3 .lanes-long, s .pre .3 .numbers-long)
+    factors-start (a .p) (spread (a .double) (a .p)) (a .left) (a .right .end - a .right .start) (a .factors) (a .room) (a .len) (a .t-words .now) (a .t-numbers .now) (a .lanes .now) (a .sums .now) (s .pre .0) (s .pre .1) (s .pre .3 .lanes-long, s .pre .3 .numbers-long)
 
 term-at-requires : tie.Need-term-at-requires Inv-loop μ-loop
 term-at-requires c κs =
     let s = c .before .before .before .before .before .before .before in
     let a = s .args in
     let l = c .before .loop in
-    each-term (a .p) (spread (a .double) (a .p)) (a .left) (a .right .end - a .right .start) (a .factors) (a .room) (a .len) (a .t-words .now) (a .t-numbers .now) (a .lanes .now) (a .sums .now) (s .pre .0) (s .pre .1) (s .pre .3 .lanes-long, s .pre .3 .numbers-long) (l .lanes) (l .sums) (l .count) (l .i) (l .place) (l .inv) (c .loop-test .taken)
+    factors-term (a .p) (spread (a .double) (a .p)) (a .left) (a .right .end - a .right .start) (a .factors) (a .room) (a .len) (a .t-words .now) (a .t-numbers .now) (a .lanes .now) (a .sums .now) (s .pre .0) (s .pre .1) (s .pre .3 .lanes-long, s .pre .3 .numbers-long) (l .lanes) (l .sums) (l .count) (l .i) (l .place) (l .inv) (c .loop-test .taken)
 
 add-next : tie.Need-add-next Inv-loop μ-loop
 add-next c =
     let s = c .before .before .before .before .before .before .before .before .before in
     let a = s .args in
     let l = c .before .before .before .loop in
-    let r = each-row (a .p) (spread (a .double) (a .p)) (a .left) (a .right .end - a .right .start) (a .factors) (a .room) (a .len) (a .t-words .now) (a .t-numbers .now) (a .lanes .now) (a .sums .now) (s .pre .0) (s .pre .1) (s .pre .3 .lanes-long, s .pre .3 .numbers-long) (l .lanes) (l .sums) (l .count) (l .i) (l .place) (l .inv) (c .before .before .loop-test .taken) in
+    let r = factors-row (a .p) (spread (a .double) (a .p)) (a .left) (a .right .end - a .right .start) (a .factors) (a .room) (a .len) (a .t-words .now) (a .t-numbers .now) (a .lanes .now) (a .sums .now) (s .pre .0) (s .pre .1) (s .pre .3 .lanes-long, s .pre .3 .numbers-long) (l .lanes) (l .sums) (l .count) (l .i) (l .place) (l .inv) (c .before .before .loop-test .taken) in
     let f : Fits w64 (length (a .t-words .now)) = search (s .good, needs) in
     omega (arith, r .1, f .fits)
 
@@ -59,8 +59,8 @@ put-factor-row-requires c κs =
     let s = c .before .before .before .before .before .before .before .before .before .before .before in
     let a = s .args in
     let l = c .before .before .before .before .before .loop in
-    let r = each-row (a .p) (spread (a .double) (a .p)) (a .left) (a .right .end - a .right .start) (a .factors) (a .room) (a .len) (a .t-words .now) (a .t-numbers .now) (a .lanes .now) (a .sums .now) (s .pre .0) (s .pre .1) (s .pre .3 .lanes-long, s .pre .3 .numbers-long) (l .lanes) (l .sums) (l .count) (l .i) (l .place) (l .inv) (c .before .before .before .before .loop-test .taken) in
-    (each-room (a .p) (spread (a .double) (a .p)) (a .left) (a .right .end - a .right .start) (a .factors) (a .room) (a .len) (a .t-words .now) (a .t-numbers .now) (a .lanes .now) (a .sums .now) (s .pre .0) (s .pre .1) (s .pre .3 .lanes-long, s .pre .3 .numbers-long) (l .lanes) (l .sums) (l .count) (l .i) (l .place) (l .inv), record { order = r .0; lanes-long = r .1; numbers-long = r .2 })
+    let r = factors-row (a .p) (spread (a .double) (a .p)) (a .left) (a .right .end - a .right .start) (a .factors) (a .room) (a .len) (a .t-words .now) (a .t-numbers .now) (a .lanes .now) (a .sums .now) (s .pre .0) (s .pre .1) (s .pre .3 .lanes-long, s .pre .3 .numbers-long) (l .lanes) (l .sums) (l .count) (l .i) (l .place) (l .inv) (c .before .before .before .before .loop-test .taken) in
+    (factors-room (a .p) (spread (a .double) (a .p)) (a .left) (a .right .end - a .right .start) (a .factors) (a .room) (a .len) (a .t-words .now) (a .t-numbers .now) (a .lanes .now) (a .sums .now) (s .pre .0) (s .pre .1) (s .pre .3 .lanes-long, s .pre .3 .numbers-long) (l .lanes) (l .sums) (l .count) (l .i) (l .place) (l .inv), record { order = r .0; lanes-long = r .1; numbers-long = r .2 })
 
 same-length : tie.Need-same-length Inv-loop μ-loop
 same-length c = c .before .before .before .before .before .before .put-factor-row .kept .0 ∙ c .before .before .before .before .before .before .before .before .before .before .before .before .loop .inv .lanes-same
@@ -75,7 +75,7 @@ returns c =
     let l = c .before .before .before .before .before .before .before .before .before .before .before .before .loop in
     let t = c .before .before .before .before .before .before .before .before .before .before .term-at in
     let q = c .before .before .before .before .before .before .put-factor-row in
-    each-full (a .p) (spread (a .double) (a .p)) (a .left) (a .right .end - a .right .start) (a .factors) (a .room) (a .len) (a .t-words .now) (a .t-numbers .now) (a .lanes .now) (a .sums .now) (s .pre .0) (s .pre .1) (s .pre .3 .lanes-long, s .pre .3 .numbers-long) (l .lanes) (l .sums) (l .count) (l .i) (l .place) (l .inv) (c .before .before .before .before .before .before .before .before .before .before .before .loop-test .taken)
+    factors-full (a .p) (spread (a .double) (a .p)) (a .left) (a .right .end - a .right .start) (a .factors) (a .room) (a .len) (a .t-words .now) (a .t-numbers .now) (a .lanes .now) (a .sums .now) (s .pre .0) (s .pre .1) (s .pre .3 .lanes-long, s .pre .3 .numbers-long) (l .lanes) (l .sums) (l .count) (l .i) (l .place) (l .inv) (c .before .before .before .before .before .before .before .before .before .before .before .loop-test .taken)
     _ (ap (λ (x : Term). map (spread (a .double) (a .p) (x .word)) (termsIn (a .t-words .now) (a .t-numbers .now) (l .place) (l .place + (a .right .end - a .right .start)))) (t .ensures)) _ _ (q .result) (q .ensures) (c .enum-told .given .1)
 
 add-i : tie.Need-add-i Inv-loop μ-loop
@@ -91,7 +91,7 @@ loop-again c =
     let l = c .before .before .before .before .before .before .before .before .before .before .before .before .before .loop in
     let t = c .before .before .before .before .before .before .before .before .before .before .before .term-at in
     let q = c .before .before .before .before .before .before .before .put-factor-row in
-    each-next (a .p) (spread (a .double) (a .p)) (a .left) (a .right .end - a .right .start) (a .factors) (a .room) (a .len) (a .t-words .now) (a .t-numbers .now) (a .lanes .now) (a .sums .now) (s .pre .0) (s .pre .1) (s .pre .3 .lanes-long, s .pre .3 .numbers-long) (l .lanes) (l .sums) (l .count) (l .i) (l .place) (l .inv) (c .before .before .before .before .before .before .before .before .before .before .before .before .loop-test .taken)
+    factors-next (a .p) (spread (a .double) (a .p)) (a .left) (a .right .end - a .right .start) (a .factors) (a .room) (a .len) (a .t-words .now) (a .t-numbers .now) (a .lanes .now) (a .sums .now) (s .pre .0) (s .pre .1) (s .pre .3 .lanes-long, s .pre .3 .numbers-long) (l .lanes) (l .sums) (l .count) (l .i) (l .place) (l .inv) (c .before .before .before .before .before .before .before .before .before .before .before .before .loop-test .taken)
     _ (ap (λ (x : Term). map (spread (a .double) (a .p) (x .word)) (termsIn (a .t-words .now) (a .t-numbers .now) (l .place) (l .place + (a .right .end - a .right .start)))) (t .ensures)) _ _ (q .result) (q .ensures) _ (c .before .added .given .1) (q .kept .0) (q .kept .1 .0)
 
 same-length-3 : tie.Need-same-length-3 Inv-loop μ-loop
@@ -105,7 +105,7 @@ returns-2 c =
     let s = c .before .before .before .before .before .before .before in
     let a = s .args in
     let l = c .before .loop in
-    each-done (a .p) (spread (a .double) (a .p)) (a .left) (a .right .end - a .right .start) (a .factors) (a .room) (a .len) (a .t-words .now) (a .t-numbers .now) (a .lanes .now) (a .sums .now) (s .pre .0) (s .pre .1) (s .pre .3 .lanes-long, s .pre .3 .numbers-long) (l .lanes) (l .sums) (l .count) (l .i) (l .place) (l .inv) (c .loop-test .left)
+    factors-done (a .p) (spread (a .double) (a .p)) (a .left) (a .right .end - a .right .start) (a .factors) (a .room) (a .len) (a .t-words .now) (a .t-numbers .now) (a .lanes .now) (a .sums .now) (s .pre .0) (s .pre .1) (s .pre .3 .lanes-long, s .pre .3 .numbers-long) (l .lanes) (l .sums) (l .count) (l .i) (l .place) (l .inv) (c .loop-test .left)
 
 pub put-factors-spec : {M : Type 1} → statement M
 put-factors-spec =
