@@ -1,0 +1,34 @@
+-- SPDX-FileCopyrightText: 2026 The PPVM Authors
+-- SPDX-License-Identifier: Apache-2.0
+
+-- A model that was built, with the matrices added to it: what was given, as it was read, and what stands in the lent tables.
+use Prim.Native.Nat.{ℕ}
+use mathlib.Core.Path.{_≡_}
+use mathlib.Core.List.{List, [], _∷_, _++_}
+use lib.Ieee.{Float}
+use Rattle.number.specs.Floats.{floats}
+use Rattle.gksl.specs.Model.{RealTerm, JumpOver, MatrixOver, ModelOver}
+use Rattle.gksl.specs.Words.{pauli}
+use Rattle.model.specs.Stored.{Tables}
+use Rattle.model.specs.Given.{Term, got}
+use Rattle.model.specs.Built as Building
+use Rattle.model.specs.declared.tables.Model.{Model}
+use Rattle.model.specs.declared.spec.Built.the-variants as Answers
+use Rattle.kossakowski.specs.Added as Adding
+
+-- with one more matrix
+abbrev pub withMatrix : ModelOver floats pauli → MatrixOver floats pauli → ModelOver floats pauli
+withMatrix g k = record { terms = g .terms; jumps = g .jumps; matrices = g .matrices ++ (k ∷ []) }
+
+pub data Made : ModelOver floats pauli → Model → Tables → Type 0 where
+  built : (n : ℕ) (i : Building.Input) (t : Tables) (workWords : List ℕ) (workNumbers : List Float)
+      (m : Model) (hs : List (RealTerm floats pauli)) (js : List (JumpOver floats pauli))
+      → Building.build n i t workWords workNumbers .answer ≡ Answers.Model m
+      → Building.readHamiltonian n i ≡ got hs
+      → Building.readJumps n i ≡ got js
+      → Made (record { terms = hs; jumps = js; matrices = [] }) m (Building.build n i t workWords workNumbers .tables)
+  added : (g : ModelOver floats pauli) (m : Model) (t : Tables) → Made g m t
+      → (i : Adding.Input) (workWords : List ℕ) (workNumbers : List Float) (m′ : Model) (As : List (List Term))
+      → Adding.add m i t workWords workNumbers .answer ≡ Answers.Model m′
+      → Adding.readOperators (m .qubits) i ≡ got As
+      → Made (withMatrix g (record { ops = As; entries = Adding.matrix i })) m′ (Adding.add m i t workWords workNumbers .tables)
