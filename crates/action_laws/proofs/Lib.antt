@@ -2,3 +2,9 @@
 -- SPDX-License-Identifier: Apache-2.0
 
 -- Laws of the action of a model that was built.
+pub mod WholeSizes
+pub mod WholeWeights
+pub mod WholeAdds
+pub mod WholeRules
+pub mod WholeMatrices
+pub mod WholeAction
