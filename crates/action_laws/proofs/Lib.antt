@@ -8,3 +8,4 @@ pub mod WholeAdds
 pub mod WholeRules
 pub mod WholeMatrices
 pub mod WholeAction
+pub mod WholeListed
