@@ -9,3 +9,5 @@ pub mod WholeRules
 pub mod WholeMatrices
 pub mod WholeAction
 pub mod WholeListed
+pub mod ReachedNothing
+pub mod ReachedNear

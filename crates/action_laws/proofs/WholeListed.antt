@@ -43,7 +43,7 @@ module _ (drop : Term → Bool) where
       go true k = k
       go false k = (h .0, k)
 
-  pub rising-without : (T : List Term) → Rising T → Rising (withoutOver floats pauli drop T)
+  rising-without : (T : List Term) → Rising T → Rising (withoutOver floats pauli drop T)
   unfolding Rising withoutOver
   rising-without [] h = tt
   rising-without (c ∷ T) h = go (drop c) (rising-without T (h .1))
@@ -52,7 +52,7 @@ module _ (drop : Term → Bool) where
       go true k = k
       go false k = (after-without (c .word) T (h .0), k)
 
-  pub without-passes : (T : List Term) → Every (λ c. drop c ≡ false) (withoutOver floats pauli drop T)
+  without-passes : (T : List Term) → Every (λ c. drop c ≡ false) (withoutOver floats pauli drop T)
   unfolding withoutOver
   without-passes [] = tt
   without-passes (c ∷ T) = go (drop c) refl (without-passes T)

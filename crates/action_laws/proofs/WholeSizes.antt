@@ -30,7 +30,7 @@ pub abs-opposite : (z : ℤ) → natAbs (neg z) ≡ natAbs z
 unfolding neg
 abs-opposite z = abs-neg z
 
-pub abs-times : (z w : ℤ) → natAbs (z ⊠ w) ≡ natAbs z * natAbs w
+abs-times : (z w : ℤ) → natAbs (z ⊠ w) ≡ natAbs z * natAbs w
 unfolding _⊠_
 abs-times z w = abs-mul z w
 
@@ -46,11 +46,11 @@ size-im g = omega arith
 pub size-within : {b : ℕ} {g : Cx whole} → size g ≤ b → Within b g
 size-within {g} h = record { re = le-trans (size-re g) h; im = le-trans (size-im g) h }
 
-pub within-size : {b : ℕ} {g : Cx whole} → Within b g → size g ≤ b + b
+within-size : {b : ℕ} {g : Cx whole} → Within b g → size g ≤ b + b
 unfolding size
 within-size {b} {g} h = omega (arith, h .re, h .im)
 
-pub size-real : (z : ℤ) → size (realC whole z) ≡ natAbs z
+size-real : (z : ℤ) → size (realC whole z) ≡ natAbs z
 unfolding size
 size-real z = omega arith
 

@@ -42,7 +42,7 @@ weight-within (c ∷ A) =
 zero-size : (g : Cx whole) → size (addC whole (zeroC whole) g) ≤ size g
 zero-size g = omega (arith, size-add (zeroC whole) g, sized-zero .most)
 
-pub weight-put : (u : Onto whole pauli) (U : Op pauli) → weight (putOver whole pauli u U) ≤ size (u .num) + weight U
+weight-put : (u : Onto whole pauli) (U : Op pauli) → weight (putOver whole pauli u U) ≤ size (u .num) + weight U
 unfolding weight putOver
 weight-put u [] = omega (arith, zero-size (u .num))
 weight-put u (d ∷ U) = go (pauli .alike (d .word) (u .word)) (pauli .below (u .word) (d .word)) (weight-put u U)
