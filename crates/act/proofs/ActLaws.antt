@@ -1,0 +1,107 @@
+-- SPDX-FileCopyrightText: 2026 The PPVM Authors
+-- SPDX-License-Identifier: Apache-2.0
+
+-- The action of a lent model, answer by answer. Assumes nothing.
+use mathlib.Core.Path.{_≡_, refl, sym, ap, ap₂, _∙_, subst, subst⁻¹}
+use mathlib.Core.Bool.{Bool, true, false, cond}
+use mathlib.Core.List.{List, []}
+use Prim.Native.Nat.{ℕ, _*_, _/_, _≤_, _<_, min}
+use native.Mathlib.Omega.{arith}
+use borrow.Author.Tests.{lt-ltb, le-ltb}
+use lib.Dec.{ltb}
+use lib.Ieee.{Float}
+use lib.ListN.{length, replicate}
+use Rattle.refusal.specs.declared.Refusal.{Refusal}
+use Rattle.refusal.specs.declared.Refusal.the-variants.{WordOutsideRegister, TableFull}
+use Rattle.refusal.specs.declared.Answer.{Answer}
+use Rattle.refusal.specs.declared.Answer.the-variants as Tests
+use Rattle.word.specs.Register.{reaches}
+use Rattle.word.specs.declared.word.Word.{Word}
+use Rattle.number.specs.Floats.{floats, float0}
+use Rattle.gksl.specs.Table.{putAllOver}
+use Rattle.gksl.specs.Words.{pauli}
+use Rattle.table.specs.Sums.{table, answer}
+use Rattle.table.specs.declared.sums.Added.{Added}
+use Rattle.table.specs.declared.sums.Added.the-variants.{Held, Full}
+use Rattle.table.proofs.SumLaws.{rising-empty, answer-held, answer-full}
+use Rattle.model.specs.Stored.{Tables}
+use Rattle.model.specs.Tested.{testModel}
+use Rattle.model.specs.Given.{Term}
+use Rattle.model.specs.declared.tables.Model.{Model}
+use Rattle.action.specs.Adds.{rulesStored}
+use Rattle.action.specs.Sums.{SumsRoom, PutsAll}
+use Rattle.act.specs.declared.act.Acted.{Acted}
+use Rattle.act.specs.declared.act.Acted.the-variants.{Listed, Refused}
+use Rattle.act.specs.Acts.{listed, sumsOf, actionOf, sumPlaces, listPlaces, Lists, ListRoom, Acting, refusal, full, listing, act}
+
+-- ---- the sums: an empty table at first, and all of them where there is room
+pub empty-room : (room : ℕ) (words : List ℕ) (sums : List Float) → room ≡ sumPlaces words sums → SumsRoom room 0 words sums
+empty-room room words sums e = record { lanes-long = omega (arith, e); sums-long = omega (arith, e); inside = omega arith; rises = rising-empty words sums }
+
+module _ (m : Model) (t : Tables) (p : Word) (room : ℕ) (words : List ℕ) (sums : List Float) (words′ : List ℕ) (sums′ : List Float) (r : Added)
+    (g : PutsAll room 0 (rulesStored m t p) words sums words′ sums′ r) where
+  pub sums-full : r ≡ Full → room < length (sumsOf m t p)
+  unfolding sumsOf
+  sums-full e = answer-full room (putAllOver floats pauli (rulesStored m t p) []) (sym e ∙ g .answers)
+
+  module _ (len : ℕ) (e : r ≡ Held len) where
+    pub sums-held : (len ≡ length (sumsOf m t p)) × (length (sumsOf m t p) ≤ room)
+    unfolding sumsOf
+    sums-held = answer-held room len (putAllOver floats pauli (rulesStored m t p) []) (sym e ∙ g .answers)
+
+    pub sums-are : table len words′ sums′ ≡ sumsOf m t p
+    unfolding sumsOf
+    sums-are = g .held len e
+
+    pub listed-are : listed (table len words′ sums′) ≡ actionOf m t p
+    unfolding actionOf
+    listed-are = ap listed sums-are
+
+    module _ (el : length words′ ≡ length words) (es : length sums′ ≡ length sums) (er : room ≡ sumPlaces words sums) where
+      pub sums-inside : (4 * len ≤ length words′) × (2 * len ≤ length sums′)
+      sums-inside = let h = sums-held in (omega (arith, h .0, h .1, el, es, er), omega (arith, h .0, h .1, el, es, er))
+
+      pub list-room : (outWords : List ℕ) (outValues : List Float) (count places : ℕ) → count ≡ length (listed (table len words′ sums′)) → places ≡ listPlaces outWords outValues → count ≤ places
+          → ListRoom len words′ sums′ outWords outValues
+      list-room outWords outValues count places ec ep h =
+          record { lanes-long = sums-inside .0; sums-long = sums-inside .1; words-room = omega (arith, ec, ep); values-room = omega (arith, ec, ep) }
+
+-- ---- the answers
+module _ (outWords : List ℕ) (outValues : List Float) (workWords : List ℕ) (workSums : List Float) (m : Model) (t : Tables) (p : Word) where
+  abbrev done : Acting
+  done = act outWords outValues workWords workSums m t p
+
+  pub act-refused : (r : Refusal) → testModel m t ≡ Tests.Refused r
+      → record { answer = Refused r; outWords = outWords; outValues = outValues; workWords = workWords; workSums = workSums } ≡ done
+  unfolding act
+  act-refused r e = rw e
+
+  module _ (ok : testModel m t ≡ Tests.Accepted) where
+    pub act-outside : reaches p (m .qubits) ≡ true
+        → record { answer = Refused (WordOutsideRegister 0); outWords = outWords; outValues = outValues; workWords = workWords; workSums = workSums } ≡ done
+    unfolding act
+    act-outside e = rw (ok, e)
+
+    module _ (inside : reaches p (m .qubits) ≡ false) where
+      pub act-full : (places : ℕ) (words : List ℕ) (sums : List Float) → places ≡ sumPlaces workWords workSums → places < length (sumsOf m t p)
+          → words ≡ replicate (length workWords) 0 → sums ≡ replicate (length workSums) float0
+          → record { answer = Refused (TableFull 1 places); outWords = outWords; outValues = outValues; workWords = words; workSums = sums } ≡ done
+      unfolding act
+      act-full places words sums e h ew es = rw (ok, inside, sym e, lt-ltb places (length (sumsOf m t p)) h, ew, es)
+
+      module _ (fits : length (sumsOf m t p) ≤ sumPlaces workWords workSums) where
+        pub act-unlisted : (places : ℕ) (words : List ℕ) (sums : List Float) → places ≡ listPlaces outWords outValues → places < length (actionOf m t p)
+            → words ≡ replicate (length workWords) 0 → sums ≡ replicate (length workSums) float0
+            → record { answer = Refused (TableFull 3 places); outWords = outWords; outValues = outValues; workWords = words; workSums = sums } ≡ done
+        unfolding act
+        act-unlisted places words sums e h ew es =
+            rw (ok, inside, le-ltb (sumPlaces workWords workSums) (length (sumsOf m t p)) fits, sym e, lt-ltb places (length (actionOf m t p)) h, ew, es)
+
+        pub act-listed : (count : ℕ) (words : List ℕ) (sums : List Float) (outWords′ : List ℕ) (outValues′ : List Float) (L : List Term) → L ≡ actionOf m t p → count ≡ length L
+            → count ≤ listPlaces outWords outValues → Lists L outWords outValues outWords′ outValues′
+            → words ≡ replicate (length workWords) 0 → sums ≡ replicate (length workSums) float0
+            → record { answer = Listed count; outWords = outWords′; outValues = outValues′; workWords = words; workSums = sums } ≡ done
+        unfolding act
+        act-listed count words sums outWords′ outValues′ L k e h l ew es =
+            let n : length (actionOf m t p) ≤ listPlaces outWords outValues = subst (λ (A : List Term). length A ≤ listPlaces outWords outValues) k (omega (arith, e)) in
+            rw (ok, inside, le-ltb (sumPlaces workWords workSums) (length (sumsOf m t p)) fits, le-ltb (listPlaces outWords outValues) (length (actionOf m t p)) n, sym k, e, ew, es, l .words-are, l .values-are)
