@@ -2,3 +2,4 @@
 -- SPDX-License-Identifier: Apache-2.0
 
 -- Laws of the action of a model that was built.
+pub mod LaidTerms
