@@ -4,3 +4,4 @@
 -- Laws of the action of a model that was built.
 pub mod LaidTerms
 pub mod ExtendedItems
+pub mod JumpRules
