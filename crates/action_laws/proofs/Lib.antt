@@ -5,3 +5,4 @@
 pub mod LaidTerms
 pub mod ExtendedItems
 pub mod JumpRules
+pub mod PairRules
