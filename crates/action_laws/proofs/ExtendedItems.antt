@@ -42,7 +42,7 @@ use Rattle.action.specs.Adds.{upTo, realAt, realsIn, jumpsIn, jumpAdds, pairAdd
 use Rattle.action_laws.proofs.LaidTerms.{terms-kept, word-kept}
 
 -- ---- a list by its places
-upTo-parted : (k a b : ℕ) → upTo k (a + b) ≡ upTo k a ++ upTo (k + a) b
+pub upTo-parted : (k a b : ℕ) → upTo k (a + b) ≡ upTo k a ++ upTo (k + a) b
 unfolding upTo
 upTo-parted k zero b =
     let e : 0 + b ≡ b = omega arith in

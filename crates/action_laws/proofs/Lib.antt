@@ -6,3 +6,4 @@ pub mod LaidTerms
 pub mod ExtendedItems
 pub mod JumpRules
 pub mod PairRules
+pub mod MatrixRules
