@@ -7,3 +7,4 @@ pub mod ExtendedItems
 pub mod JumpRules
 pub mod PairRules
 pub mod MatrixRules
+pub mod MadeParts
