@@ -8,3 +8,4 @@ pub mod JumpRules
 pub mod PairRules
 pub mod MatrixRules
 pub mod MadeParts
+pub mod MadeRules

@@ -1,0 +1,141 @@
+-- SPDX-FileCopyrightText: 2026 The PPVM Authors
+-- SPDX-License-Identifier: Apache-2.0
+
+-- The rules over what is stored in the tables of a model that was built, with the matrices added to it, are the rules over what
+-- was given, bit for bit. Assumes nothing.
+use mathlib.Core.Path.{_≡_, refl, sym, ap, ap₂, _∙_, subst, subst⁻¹}
+use mathlib.Core.List.{List, [], _∷_, _++_, map, append-nil, append-assoc}
+use Prim.Native.Nat.{ℕ, suc, _+_, _*_, _/_, _%_, _≤_, _<_}
+use native.Mathlib.Omega.{arith}
+use lib.Ieee.{Float}
+use lib.ListN.{length, getD, set, take, drop, length-map, length-set, length-drop}
+use lib.Seq.{length-take-le}
+use Rattle.refusal.specs.declared.Answer.the-variants.{Accepted}
+use Rattle.word.specs.Word.{Sound}
+use Rattle.word.specs.Flat.{layWord}
+use Rattle.word.specs.declared.word.Word.{Word}
+use Rattle.number.specs.Numbers.{Cx}
+use Rattle.number.specs.Floats.{floats}
+use Rattle.gksl.specs.Model.{RealTerm, JumpOver, MatrixOver, ModelOver, entryIn, entryOver, rowsOver}
+use Rattle.gksl.specs.Rules.{pairsOver, formedOver, termsOver, jumpsOver, matrixOver, matricesOver, rulesOver}
+use Rattle.gksl.specs.Words.{pauli}
+use Rattle.number.specs.Numbers.{largestOver}
+use Rattle.table.specs.Numbers.{layNumber}
+use Rattle.model.specs.Stored.{Tables}
+use Rattle.model.specs.Tested.{testModel}
+use Rattle.model.specs.Given.{got, GivenTerm, Term, readReal, readJump, readOperator}
+use Rattle.model.specs.Items.{total}
+use Rattle.model.specs.Laid.{laid, layEntry}
+use Rattle.model.specs.Compiled.{Compiled, compileJump}
+use Rattle.model.specs.Built.{parts, hamiltonian, jumpsGiven, readHamiltonian, readJumps, entriesFrom, termsOf, ratesOf}
+use Rattle.model.specs.Built as Building
+use Rattle.model.specs.Taken.{termTaken}
+use Rattle.model.specs.Work.{operatorTaken}
+use Rattle.model.specs.declared.tables.Model.{Model}
+use Rattle.model.specs.declared.tables.Range.{Range}
+use Rattle.model.specs.declared.spec.Built.the-variants as Answers
+use Rattle.model.proofs.TakenLaws.{operator-taken, operator-few}
+use Rattle.kossakowski.specs.Matrix.{isPair, pairPlaces}
+use Rattle.kossakowski.specs.Pairs.{factorOf, factorsOf, scaled, productAfter, compilePair, rangeOf, pairAt, pairsOf}
+use Rattle.kossakowski.specs.Added.{operators, operatorsGiven, matrix, readOperators, allTerms}
+use Rattle.kossakowski.specs.Added as Adding
+use Rattle.kossakowski.proofs.MatrixLaws.{row-below, column-below}
+use Rattle.kossakowski.proofs.AddLaws.{operators-are, all-are, all-length}
+use Rattle.model_laws.specs.Every.{Every}
+use Rattle.model_laws.specs.Stands.{Stands}
+use Rattle.model_laws.specs.Extended.{Additions, larger, extended}
+use Rattle.model_laws.proofs.Lists.{every-at, every-of, every-weaken, every-append, every-map}
+use Rattle.model_laws.proofs.LaidLaws.{laid-length, word-length, number-length, entry-length}
+use Rattle.model_laws.proofs.StandsLaws.{tested-stands}
+use Rattle.model_laws.proofs.ReadItems.{GivenGood, JumpGood, real-read, jump-read, operator-read, each-every}
+use Rattle.model_laws.proofs.CompiledLaws.{TermGood, CompiledGood, given-term, formed-sizes, compiled-good, entries-length, terms-every, terms-good, entries-good}
+use Rattle.model_laws.proofs.PairsGood.{passing-below}
+use Rattle.model_laws.proofs.BuiltLaws.{empty, built-passes, empty-stands}
+use Rattle.model_laws.proofs.AddedLaws.{all-every, added-passes}
+use Rattle.action.specs.Adds.{upTo, realsIn, jumpsIn, jumpAdds, pairAdds, gatherJumps, rulesStored}
+use Rattle.action_laws.specs.Made.{Made, built, added, withMatrix}
+use Rattle.action_laws.proofs.LaidTerms.{Holds, holds-left, holds-right, laid-holds}
+use Rattle.action_laws.proofs.ExtendedItems.{Laying, jumpsFrom, reals-read, jumps-read, gathered-both, jumps-stay, pairs-stay}
+use Rattle.action_laws.proofs.JumpRules.{jumps-add, jumps-no-pairs}
+use Rattle.action_laws.proofs.MatrixRules.{Counted, counted-length, no-jumps, pairs-add}
+use Rattle.action_laws.proofs.MadeParts.{built-is, Settled, added-is}
+
+-- a model that was made passes the test
+pub made-passes : (g : ModelOver floats pauli) (m : Model) (t : Tables) → Made g m t → testModel m t ≡ Accepted
+made-passes _ _ _ (built n i t workWords workNumbers m hs js answer reals jumps) = built-passes n i t workWords workNumbers m answer
+made-passes _ _ _ (added g m t made i workWords workNumbers m′ As answer read) = added-passes m i t workWords workNumbers m′ answer
+
+-- ---- there was room for what stands
+laying-of : (m : Model) (t : Tables) (a : Additions) → Stands (larger m a) (extended m t a) → length (a .rates) ≡ length (a .entries)
+    → Every (λ h. Sound (h .word)) (a .reals) → Every (λ e. length e ≡ 8) (a .entries) → Every (λ z. Sound (z .word)) (a .terms) → Laying m t a
+unfolding extended
+laying-of m t a s rates reals eight terms = record {
+  rates-each = rates;
+  reals = reals;
+  eight = eight;
+  terms = terms;
+  h-words-room = omega (arith, s .h-words-room, laid-length layWord word-length (m .hamiltonian) (map (λ (h : RealTerm floats pauli). h .word) (a .reals)) (t .hWords));
+  h-coeffs-room = omega (arith, s .h-coeffs-room, laid-length set length-set (m .hamiltonian) (map (λ (h : RealTerm floats pauli). h .num) (a .reals)) (t .hCoeffs));
+  jumps-room = omega (arith, s .jumps-room, laid-length layEntry entry-length (m .jumps) (a .entries) (t .jumps));
+  rates-room = omega (arith, s .rates-room, laid-length set length-set (m .jumps) (a .rates) (t .rates));
+  t-words-room = omega (arith, s .t-words-room, laid-length layWord word-length (m .terms) (map (λ (z : Term). z .word) (a .terms)) (t .tWords));
+  t-numbers-room = omega (arith, s .t-numbers-room, laid-length layNumber number-length (m .terms) (map (λ (z : Term). z .num) (a .terms)) (t .tNumbers));
+}
+
+-- ---- building
+module _ (n : ℕ) (i : Building.Input) (t : Tables) (workWords : List ℕ) (workNumbers : List Float) (m : Model) (hs : List (RealTerm floats pauli)) (js : List (JumpOver floats pauli))
+    (answer : Building.build n i t workWords workNumbers .answer ≡ Answers.Model m) (reals : readHamiltonian n i ≡ got hs) (read : readJumps n i ≡ got js) where
+  abbrev compiledJumps : List Compiled
+  compiledJumps = map compileJump js
+
+  abbrev given : Additions
+  given = record { reals = hs; entries = entriesFrom 0 compiledJumps; rates = ratesOf compiledJumps; terms = termsOf compiledJumps }
+
+  abbrev after : Tables
+  after = extended (empty n) t given
+
+  model-is : larger (empty n) given ≡ m
+  model-is =
+      let h : 0 + length hs ≡ length hs = omega arith in
+      let j : 0 + length (entriesFrom 0 compiledJumps) ≡ length compiledJumps = omega (arith, entries-length 0 compiledJumps) in
+      let z : 0 + length (termsOf compiledJumps) ≡ length (termsOf compiledJumps) = omega arith in
+      (λ k. record { qubits = n; hamiltonian = h k; jumps = j k; terms = z k }) ∙ built-is n i t workWords workNumbers m hs js answer reals read .0
+
+  tables-are : Building.build n i t workWords workNumbers .tables ≡ after
+  unfolding extended Building.stored
+  tables-are = built-is n i t workWords workNumbers m hs js answer reals read .1
+
+  compiled : Every (CompiledGood n) compiledJumps
+  compiled = every-map (CompiledGood n) compileJump js (every-weaken (JumpGood n) _ (compiled-good n) js (each-every (JumpGood n) (readJump n) (jump-read n) 0 (jumpsGiven i) js read))
+
+  laying : Laying (empty n) t given
+  laying =
+      let many = entries-length 0 compiledJumps in
+      laying-of (empty n) t given
+      (tested-stands (larger (empty n) given) after (ap₂ testModel model-is (sym tables-are) ∙ built-passes n i t workWords workNumbers m answer))
+      (length-map compiledJumps (λ (c : Compiled). c .rate) ∙ sym many)
+      (every-weaken _ (λ h. Sound (h .word)) (λ h g. g .0) hs (each-every _ (readReal n) (real-read n) 0 (hamiltonian i) hs reals))
+      (every-of _ (entriesFrom 0 compiledJumps) [] (λ j l. entries-good n 0 compiledJumps compiled j (omega (arith, l, many)) .eight))
+      (every-weaken (TermGood n) (λ z. Sound (z .word)) (λ z g. g .0) (termsOf compiledJumps) (terms-good n compiledJumps compiled))
+
+  module _ (p : Word) where
+    jumps-are : jumpsIn (larger (empty n) given) after ≡ jumpsFrom 0 compiledJumps
+    unfolding upTo
+    jumps-are = jumps-read (empty n) t given laying 0 compiledJumps refl refl
+
+    jumps-added : gatherJumps (jumpAdds p after) (jumpsIn (larger (empty n) given) after) ≡ jumpsOver floats pauli js p
+    unfolding extended
+    jumps-added =
+        ap (gatherJumps (jumpAdds p after)) jumps-are
+        ∙ jumps-add p after js 0 (laid-holds 0 (termsOf compiledJumps) (t .tWords) (t .tNumbers) (laying .terms) (laying .t-words-room) (laying .t-numbers-room))
+
+    reals-added : termsOver floats pauli (realsIn (larger (empty n) given) after) p ≡ termsOver floats pauli hs p
+    unfolding upTo
+    reals-added = ap (λ (H : List (RealTerm floats pauli)). termsOver floats pauli H p) (reals-read (empty n) t given laying)
+
+    built-rules : rulesStored m (Building.build n i t workWords workNumbers .tables) p ≡ rulesOver floats pauli (record { terms = hs; jumps = js; matrices = [] }) p
+    unfolding rulesStored rulesOver matricesOver
+    built-rules =
+        ap₂ (λ (m : Model) (t : Tables). rulesStored m t p) (sym model-is) tables-are
+        ∙ ap₂ (λ (a b : List Term). a ++ b) reals-added
+        (ap₂ (λ (a b : List Term). a ++ b) jumps-added (ap (gatherJumps (pairAdds p after)) jumps-are ∙ jumps-no-pairs p after js 0))
