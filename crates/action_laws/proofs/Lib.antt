@@ -8,4 +8,5 @@ pub mod JumpRules
 pub mod PairRules
 pub mod MatrixRules
 pub mod MadeParts
+pub mod OperatorsRead
 pub mod MadeRules
