@@ -12,7 +12,7 @@ use lib.ListN.{length, getD, set, take, drop, length-map, length-set, length-dro
 use lib.Seq.{length-take-le}
 use Rattle.refusal.specs.declared.Answer.the-variants.{Accepted}
 use Rattle.word.specs.Word.{Sound}
-use Rattle.word.specs.Flat.{layWord}
+use Rattle.word.specs.Flat.{words, layWord}
 use Rattle.word.specs.declared.word.Word.{Word}
 use Rattle.number.specs.Numbers.{Cx}
 use Rattle.number.specs.Floats.{floats}
@@ -20,7 +20,8 @@ use Rattle.gksl.specs.Model.{RealTerm, JumpOver, MatrixOver, ModelOver, entryIn
 use Rattle.gksl.specs.Rules.{pairsOver, formedOver, termsOver, jumpsOver, matrixOver, matricesOver, rulesOver}
 use Rattle.gksl.specs.Words.{pauli}
 use Rattle.number.specs.Numbers.{largestOver}
-use Rattle.table.specs.Numbers.{layNumber}
+use Rattle.table.specs.Numbers.{complexes, layNumber}
+use Rattle.table.specs.Sums.{rows}
 use Rattle.model.specs.Stored.{Tables}
 use Rattle.model.specs.Tested.{testModel}
 use Rattle.model.specs.Given.{got, GivenTerm, Term, readReal, readJump, readOperator}
@@ -58,6 +59,7 @@ use Rattle.action_laws.proofs.LaidTerms.{Holds, holds-left, holds-right
 use Rattle.action_laws.proofs.ExtendedItems.{Laying, jumpsFrom, reals-read, jumps-read, gathered-both, jumps-stay, pairs-stay}
 use Rattle.action_laws.proofs.JumpRules.{jumps-add, jumps-no-pairs}
 use Rattle.action_laws.proofs.MatrixRules.{Counted, counted-length, no-jumps, pairs-add}
+use Rattle.action_laws.proofs.OperatorsRead.{operators-good, operators-laid, operators-counted, pairs-laid, pairs-eight}
 use Rattle.action_laws.proofs.MadeParts.{built-is, Settled, added-is}
 
 -- a model that was made passes the test
@@ -139,3 +141,108 @@ module _ (n : ℕ) (i : Building.Input) (t : Tables) (workWords : List ℕ) (wor
         ap₂ (λ (m : Model) (t : Tables). rulesStored m t p) (sym model-is) tables-are
         ∙ ap₂ (λ (a b : List Term). a ++ b) reals-added
         (ap₂ (λ (a b : List Term). a ++ b) jumps-added (ap (gatherJumps (pairAdds p after)) jumps-are ∙ jumps-no-pairs p after js 0))
+
+-- ---- adding a matrix
+matrices-last : (Ks : List (MatrixOver floats pauli)) (k : MatrixOver floats pauli) (p : Word)
+    → matricesOver floats pauli (Ks ++ (k ∷ [])) p
+    ≡ matricesOver floats pauli Ks p ++ matrixOver floats pauli (largestOver floats (k .entries)) (entryOver floats pauli k) (rowsOver floats pauli 0 (k .ops)) p
+unfolding matricesOver
+matrices-last [] k p = append-nil _
+matrices-last (j ∷ Ks) k p =
+    let first : List Term = matrixOver floats pauli (largestOver floats (j .entries)) (entryOver floats pauli j) (rowsOver floats pauli 0 (j .ops)) p in
+    ap (λ (l : List Term). first ++ l) (matrices-last Ks k p) ∙ sym (append-assoc first (matricesOver floats pauli Ks p) _)
+
+-- what comes last comes last
+at-the-end : (a b c d : List Term) → a ++ (b ++ (c ++ d)) ≡ (a ++ (b ++ c)) ++ d
+at-the-end a b c d = ap (λ (l : List Term). a ++ l) (sym (append-assoc b c d)) ∙ sym (append-assoc a (b ++ c) d)
+
+module _ (m : Model) (t : Tables) (tested : testModel m t ≡ Accepted) (i : Adding.Input) (workWords : List ℕ) (workNumbers : List Float) (m′ : Model) (As : List (List Term))
+    (answer : Adding.add m i t workWords workNumbers .answer ≡ Answers.Model m′) (read : readOperators (m .qubits) i ≡ got As) where
+  abbrev pairs : List Compiled
+  pairs = pairsOf (m .terms) (i .counts) (matrix i) As
+
+  abbrev from : ℕ
+  from = m .terms + length (allTerms As)
+
+  abbrev more : Additions
+  more = record { reals = []; entries = entriesFrom from pairs; rates = ratesOf pairs; terms = allTerms As ++ termsOf pairs }
+
+  abbrev then : Tables
+  then = extended m t more
+
+  larger-is : larger m more ≡ m′
+  larger-is =
+      let h : m .hamiltonian + 0 ≡ m .hamiltonian = omega arith in
+      let j : m .jumps + length (entriesFrom from pairs) ≡ m .jumps + length pairs = omega (arith, entries-length from pairs) in
+      (λ k. record { qubits = m .qubits; hamiltonian = h k; jumps = j k; terms = m .terms + length (allTerms As ++ termsOf pairs) })
+      ∙ added-is m i t workWords workNumbers m′ As answer read .1
+
+  then-is : Adding.add m i t workWords workNumbers .tables ≡ then
+  unfolding extended Adding.stored laid
+  then-is = added-is m i t workWords workNumbers m′ As answer read .2
+
+  counted : Counted As (i .counts)
+  counted =
+      let fit = added-is m i t workWords workNumbers m′ As answer read .0 .lengths in
+      operators-counted (m .qubits) i As read (fit .terms-counted) (fit .numbers-two)
+
+  more-laid : Laying m t more
+  more-laid =
+      laying-of m t more
+      (tested-stands (larger m more) then (ap₂ testModel larger-is (sym then-is) ∙ added-passes m i t workWords workNumbers m′ answer))
+      (length-map pairs (λ (c : Compiled). c .rate) ∙ sym (entries-length from pairs))
+      tt
+      (pairs-eight (m .terms) (i .counts) (matrix i) As (pairPlaces floats (operators i) (matrix i)) from)
+      (every-append (λ z. Sound (z .word)) (allTerms As) (termsOf pairs) (operators-laid (m .qubits) i As read)
+      (pairs-laid (m .qubits) (m .terms) (i .counts) (matrix i) As (counted-length As (i .counts) counted) (operators-good (m .qubits) i As read)))
+
+  module _ (p : Word) where
+    abbrev matrixAdds : List Term
+    matrixAdds = matrixOver floats pauli (largestOver floats (matrix i)) (entryIn floats (length As) (matrix i)) (rowsOver floats pauli 0 As) p
+
+    both-are : jumpsIn (larger m more) then ≡ jumpsIn m t ++ jumpsFrom from pairs
+    both-are = jumps-read m t more more-laid from pairs refl refl
+
+    reals-same : realsIn (larger m more) then ≡ realsIn m t
+    reals-same = reals-read m t more more-laid ∙ append-nil (realsIn m t)
+
+    jumps-same : gatherJumps (jumpAdds p then) (jumpsIn (larger m more) then) ≡ gatherJumps (jumpAdds p t) (jumpsIn m t)
+    jumps-same =
+        ap (gatherJumps (jumpAdds p then)) both-are ∙ gathered-both (jumpAdds p then) (jumpsIn m t) (jumpsFrom from pairs)
+        ∙ ap₂ (λ (a b : List Term). a ++ b) (jumps-stay m t more (tested-stands m t tested) more-laid p)
+        (no-jumps p (i .counts) (matrix i) As then (m .terms) (pairPlaces floats (operators i) (matrix i)) from)
+        ∙ append-nil (gatherJumps (jumpAdds p t) (jumpsIn m t))
+
+    pairs-more : gatherJumps (pairAdds p then) (jumpsIn (larger m more) then) ≡ gatherJumps (pairAdds p t) (jumpsIn m t) ++ matrixAdds
+    unfolding extended
+    pairs-more =
+        let all = laid-holds (m .terms) (allTerms As ++ termsOf pairs) (t .tWords) (t .tNumbers) (more-laid .terms) (more-laid .t-words-room) (more-laid .t-numbers-room) in
+        let R : List Term = rows (words (then .tWords)) (complexes (then .tNumbers)) in
+        ap (gatherJumps (pairAdds p then)) both-are ∙ gathered-both (pairAdds p then) (jumpsIn m t) (jumpsFrom from pairs)
+        ∙ ap₂ (λ (a b : List Term). a ++ b) (pairs-stay m t more (tested-stands m t tested) more-laid p)
+        (pairs-add p (i .counts) (matrix i) As then counted (m .terms) (holds-left R (m .terms) (allTerms As) (termsOf pairs) all) from (holds-right R (m .terms) (allTerms As) (termsOf pairs) all))
+
+    -- the matrix adds its own after all that stood
+    added-rules : rulesStored m′ (Adding.add m i t workWords workNumbers .tables) p ≡ rulesStored m t p ++ matrixAdds
+    unfolding rulesStored
+    added-rules =
+        ap₂ (λ (m : Model) (t : Tables). rulesStored m t p) (sym larger-is) then-is
+        ∙ ap₂ (λ (a b : List Term). a ++ b) (ap (λ (H : List (RealTerm floats pauli)). termsOver floats pauli H p) reals-same)
+        (ap₂ (λ (a b : List Term). a ++ b) jumps-same pairs-more)
+        ∙ at-the-end (termsOver floats pauli (realsIn m t) p) (gatherJumps (jumpAdds p t) (jumpsIn m t)) (gatherJumps (pairAdds p t) (jumpsIn m t)) matrixAdds
+
+rules-with : (g : ModelOver floats pauli) (k : MatrixOver floats pauli) (p : Word)
+    → rulesOver floats pauli g p ++ matrixOver floats pauli (largestOver floats (k .entries)) (entryOver floats pauli k) (rowsOver floats pauli 0 (k .ops)) p
+    ≡ rulesOver floats pauli (withMatrix g k) p
+unfolding rulesOver
+rules-with g k p =
+    sym (at-the-end (termsOver floats pauli (g .terms) p) (jumpsOver floats pauli (g .jumps) p) (matricesOver floats pauli (g .matrices) p) _)
+    ∙ ap (λ (l : List Term). termsOver floats pauli (g .terms) p ++ (jumpsOver floats pauli (g .jumps) p ++ l)) (sym (matrices-last (g .matrices) k p))
+
+-- ---- the rules over what is stored are those over what was given
+pub made-rules : (g : ModelOver floats pauli) (m : Model) (t : Tables) → Made g m t → (p : Word) → rulesStored m t p ≡ rulesOver floats pauli g p
+made-rules _ _ _ (built n i t workWords workNumbers m hs js answer reals jumps) p = built-rules n i t workWords workNumbers m hs js answer reals jumps p
+made-rules _ _ _ (added g m t made i workWords workNumbers m′ As answer read) p =
+    added-rules m t (made-passes g m t made) i workWords workNumbers m′ As answer read p
+    ∙ ap (λ (l : List Term). l ++ matrixOver floats pauli (largestOver floats (matrix i)) (entryIn floats (length As) (matrix i)) (rowsOver floats pauli 0 As) p) (made-rules g m t made p)
+    ∙ rules-with g (record { ops = As; entries = matrix i }) p
