@@ -10,3 +10,4 @@ pub mod MatrixRules
 pub mod MadeParts
 pub mod OperatorsRead
 pub mod MadeRules
+pub mod MadeLimits
