@@ -6,12 +6,12 @@
 use mathlib.Core.Path.{_≡_, refl, sym, ap, ap₂, _∙_}
 use mathlib.Core.Bool.{true, false, cond}
 use mathlib.Core.List.{List, [], _∷_, _++_, map, map-append, append-assoc}
-use Prim.Native.Nat.{ℕ, zero, suc, _+_, _-_, _*_, _%_, _≤_, _<_}
+use Prim.Native.Nat.{ℕ, zero, suc, _+_, _*_, _%_, _≤_, _<_}
 use native.Mathlib.Omega.{arith}
 use borrow.Author.Tests.{leb-true, ltb-true, not-false}
 use lib.Dec.{leb, ltb}
 use lib.Ieee.{Float, nan}
-use lib.ListN.{length, getD, take, drop, set, length-map, List·getD-map}
+use lib.ListN.{length, getD, length-map, List·getD-map}
 use Rattle.word.specs.Word.{identity, Sound}
 use Rattle.word.specs.Flat.{words}
 use Rattle.word.specs.Product.{phase}
@@ -34,7 +34,7 @@ use Rattle.model.specs.declared.tables.Jump.the-variants.{Pauli, General, Pair}
 use Rattle.model_laws.specs.Every.{Every}
 use Rattle.model_laws.specs.Stands.{Stands}
 use Rattle.model_laws.specs.Extended.{Additions, larger, extended}
-use Rattle.model_laws.proofs.Lists.{every-weaken, every-map}
+use Rattle.model_laws.proofs.Lists.{every-map}
 use Rattle.model_laws.proofs.LaidLaws.{set-other, set-here, words-other, words-here, entries-other, entries-here, jump-same}
 use Rattle.model_laws.proofs.JumpTests.{both}
 use Rattle.model_laws.proofs.CompiledLaws.{entries-length}
@@ -187,8 +187,12 @@ module _ (p : Word) (t u : Tables) (n : ℕ)
       let e = both (inside n left) (not-false _ h) in
       let f = both (inside n right) (e .1) in
       let g = both (inside n product) (f .1) in
-      rw (range-kept left (e .0), range-kept right (f .0), range-kept product (g .0),
-      terms factors (factors + width left * width right) (omega arith) (leb-true (factors + width left * width right) n (g .1))) refl
+      rw (
+        range-kept left (e .0),
+        range-kept right (f .0),
+        range-kept product (g .0),
+        terms factors (factors + width left * width right) (omega arith) (leb-true (factors + width left * width right) n (g .1)),
+      ) refl
 
 gathered-same : (f g : Jump → List Term) (P : Jump → Type 0) → ((j : Jump) → P j → f j ≡ g j) → (J : List Jump) → Every P J → gatherJumps f J ≡ gatherJumps g J
 unfolding gatherJumps

@@ -2,11 +2,10 @@
 -- SPDX-License-Identifier: Apache-2.0
 
 -- Jumps whose terms stand in the terms table add what the rules over the given jumps do. Assumes nothing.
-use mathlib.Core.Path.{_≡_, refl, sym, ap, ap₂, _∙_}
-use mathlib.Core.Bool.{Bool, true, false, _||_, cond}
+use mathlib.Core.Path.{_≡_, refl, ap₂}
+use mathlib.Core.Bool.{Bool, true, false, _||_, cond, or-false}
 use mathlib.Core.List.{List, [], _∷_, _++_, map}
 use Prim.Native.Nat.{ℕ, _+_, _%_}
-use native.Mathlib.Omega.{arith}
 use lib.Ieee.{Float}
 use lib.ListN.{length}
 use Rattle.word.specs.Flat.{words}
@@ -15,16 +14,15 @@ use Rattle.word.specs.Register.{share}
 use Rattle.word.specs.declared.word.Word.{Word}
 use Rattle.number.specs.Floats.{floats}
 use Rattle.gksl.specs.Model.{JumpOver}
-use Rattle.gksl.specs.Rules.{pairsOver, gatherOver, overlapsOver, formedOver, clashOver, generalOver, shapeOver, jumpsOver}
+use Rattle.gksl.specs.Rules.{overlapsOver, formedOver, clashOver, generalOver, shapeOver, jumpsOver}
 use Rattle.gksl.specs.Words.{pauli}
 use Rattle.table.specs.Numbers.{complexes}
 use Rattle.table.specs.Sums.{rows}
-use Rattle.model.specs.Stored.{Tables, jumpAt, range}
+use Rattle.model.specs.Stored.{Tables, jumpAt}
 use Rattle.model.specs.Given.{Term}
 use Rattle.model.specs.Compiled.{Compiled, compileJump, pauliJump, generalJump}
 use Rattle.model.specs.Built.{termsOf}
 use Rattle.model.specs.declared.tables.Jump.{Jump}
-use Rattle.model.specs.declared.tables.Jump.the-variants.{Pauli, General}
 use Rattle.action.specs.Adds.{sandwich, dampen, jumpAdds, pairAdds, gatherJumps}
 use Rattle.action_laws.proofs.LaidTerms.{Holds, holds-left, holds-right, holds-part, holds-word}
 use Rattle.action_laws.proofs.ExtendedItems.{jumpsFrom}
@@ -32,10 +30,6 @@ use Rattle.action_laws.proofs.ExtendedItems.{jumpsFrom}
 -- the entry of a compiled jump or pair, whose terms stand from a place on
 abbrev pub jumpOf : Compiled → ℕ → Jump
 jumpOf c at = jumpAt (c .numbers at) (c .rate ∷ []) 0
-
-or-false : (b : Bool) → b || false ≡ b
-or-false true = refl
-or-false false = refl
 
 module _ (p : Word) (t : Tables) where
   abbrev R : List Term
@@ -46,8 +40,10 @@ module _ (p : Word) (t : Tables) where
   unfolding jumpAt jumpAdds sandwich dampen generalOver
   general-adds g op at h =
       let product : List Term = formedOver floats pauli op op in
-      rw (holds-part R at (at + length op) op (holds-left R at op product h) refl,
-      holds-part R (at + length op) (at + length op + length product) product (holds-right R at op product h) refl) refl
+      rw (
+        holds-part R at (at + length op) op (holds-left R at op product h) refl,
+        holds-part R (at + length op) (at + length op + length product) product (holds-right R at op product h) refl,
+      ) refl
 
   pauli-adds : (g : Float) (c : Term) (at : ℕ) → Holds R at (c ∷ [])
       → jumpAdds p t (jumpOf (pauliJump g c) at) ≡ cond (share (c .word) p || false) (clashOver floats pauli (phase (c .word) p % 2) (pauliJump g c .rate) p) []

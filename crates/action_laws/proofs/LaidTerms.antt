@@ -23,6 +23,7 @@ use Rattle.model.specs.Laid.{laid}
 use Rattle.model.proofs.Parts.{part-is}
 use Rattle.model.proofs.WorkLaws.{rows-length}
 use Rattle.model_laws.specs.Every.{Every}
+use Rattle.model_laws.proofs.Lists.{every-map}
 use Rattle.model_laws.proofs.LaidLaws.{word-length, number-length}
 
 -- ---- plain elements
@@ -96,7 +97,7 @@ pub holds-right : (R : List Term) (at : ℕ) (A B : List Term) → Holds R at (A
 holds-right R at A B h =
     let X : List Term = drop at R in
     let whole : take (length A) X ++ take (length B) (drop (length A) X) ≡ A ++ B =
-        sym (take-add (length A) (length B) X) ∙ ap (λ (n : ℕ). take n X) (sym (length-append A B)) ∙ h in
+    sym (take-add (length A) (length B) X) ∙ ap (λ (n : ℕ). take n X) (sym (length-append A B)) ∙ h in
     let left : take (length A) X ≡ A = holds-left R at A B h in
     let both : A ++ take (length B) (drop (length A) X) ≡ A ++ B = ap (λ (l : List Term). l ++ take (length B) (drop (length A) X)) (sym left) ∙ whole in
     ap (take (length B)) (sym (drop-drop (length A) at R))
@@ -119,23 +120,19 @@ holds-word (w ∷ ws) (z ∷ zs) (suc at) c h = holds-word ws zs at c h
 -- ---- the terms table with T laid from a place on
 module _ (k : ℕ) (T : List Term) (lanes : List ℕ) (numbers : List Float) (sound : Every (λ c. Sound (c .word)) T)
     (lanes-room : 4 * (k + length T) ≤ length lanes) (numbers-room : 2 * (k + length T) ≤ length numbers) where
-  abbrev pub laidWords : List ℕ
+  abbrev laidWords : List ℕ
   laidWords = laid layWord k (map (λ (c : Term). c .word) T) lanes
 
-  abbrev pub laidNumbers : List Float
+  abbrev laidNumbers : List Float
   laidNumbers = laid layNumber k (map (λ (c : Term). c .num) T) numbers
 
-  words-sound : (T : List Term) → Every (λ c. Sound (c .word)) T → Every Sound (map (λ (c : Term). c .word) T)
-  words-sound [] s = tt
-  words-sound (c ∷ T) s = (s .0, words-sound T (s .1))
-
   words-are : words laidWords ≡ laid set k (map (λ (c : Term). c .word) T) (words lanes)
-  words-are = words-laid k (map (λ (c : Term). c .word) T) lanes (words-sound T sound) (omega (arith, lanes-room, length-map T (λ (c : Term). c .word)))
+  words-are = words-laid k (map (λ (c : Term). c .word) T) lanes (every-map Sound (λ (c : Term). c .word) T sound) (omega (arith, lanes-room, length-map T (λ (c : Term). c .word)))
 
   numbers-are : complexes laidNumbers ≡ laid set k (map (λ (c : Term). c .num) T) (complexes numbers)
   numbers-are = complexes-laid k (map (λ (c : Term). c .num) T) numbers (omega (arith, numbers-room, length-map T (λ (c : Term). c .num)))
 
-  abbrev pub laidRows : List Term
+  abbrev laidRows : List Term
   laidRows = rows (words laidWords) (complexes laidNumbers)
 
   rows-are : laidRows ≡ laid set k T (rows (words lanes) (complexes numbers))

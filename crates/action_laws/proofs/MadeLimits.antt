@@ -4,18 +4,16 @@
 -- A model that was made keeps to the limits, and of whole numbers its matrices are exactly Hermitian. Assumes nothing.
 use mathlib.Core.Path.{_≡_, refl, sym, ap, _∙_}
 use mathlib.Core.List.{List, [], _∷_, _++_, map}
-use Prim.Native.Nat.{ℕ, suc, _+_, _≤_}
+use Prim.Native.Nat.{ℕ, suc, _+_}
 use native.Mathlib.Omega.{arith}
-use lib.Ieee.{Float}
 use lib.ListN.{length, length-map}
 use Rattle.refusal.specs.declared.Answer.the-variants.{Accepted}
 use Rattle.number.specs.Whole.{whole}
 use Rattle.number.specs.Floats.{floats}
-use Rattle.gksl.specs.Operator.{Onto}
-use Rattle.gksl.specs.Model.{JumpOver, MatrixOver, ModelOver, AllModerate}
+use Rattle.gksl.specs.Model.{MatrixOver, ModelOver, AllModerate}
 use Rattle.gksl.specs.Words.{pauli}
 use Rattle.model.specs.Stored.{Tables}
-use Rattle.model.specs.Given.{Term, readJump}
+use Rattle.model.specs.Given.{readJump}
 use Rattle.model.specs.Compiled.{compileJump}
 use Rattle.model.specs.Built.{jumpsGiven}
 use Rattle.model.specs.declared.tables.Model.{Model}
@@ -78,11 +76,13 @@ made-parts _ _ _ (added g m t made i workWords workNumbers m′ As answer read) 
       reals = sym h ∙ before .reals;
       together = omega (arith, before .together, j, length-map places (pairAt (m .terms) (i .counts) (matrix i) As), same, pairs-last (g .matrices) k);
       jumps = before .jumps;
-      matrices = every-append Accepts (g .matrices) (k ∷ []) (before .matrices)
-          (record {
-            square = ap (λ (n : ℕ). hermitian n (matrix i) Accepted) (sym many) ∙ is .0 .square;
-            few = every-weaken (OperatorGood (m .qubits)) FewTerms (λ A g. g .0) As (operators-good (m .qubits) i As read);
-          }, tt);
+      matrices = every-append Accepts (g .matrices) (k ∷ []) (before .matrices) (
+        record {
+          square = ap (λ (n : ℕ). hermitian n (matrix i) Accepted) (sym many) ∙ is .0 .square;
+          few = every-weaken (OperatorGood (m .qubits)) FewTerms (λ A g. g .0) As (operators-good (m .qubits) i As read);
+        },
+        tt,
+      );
     }
 
 -- ---- the limits

@@ -5,9 +5,8 @@
 use mathlib.Core.Path.{_≡_, refl, sym, ap, _∙_}
 use mathlib.Core.Bool.{Bool, true, false, cond}
 use mathlib.Core.List.{List, _++_, map}
-use Prim.Native.Nat.{ℕ, _+_, _*_, _≤_}
+use Prim.Native.Nat.{ℕ, _+_, _*_}
 use native.Mathlib.Omega.{arith}
-use borrow.Author.Tests.{ltb-false}
 use lib.Dec.{ltb}
 use lib.Ieee.{Float}
 use lib.ListN.{length}
@@ -24,7 +23,7 @@ use Rattle.model.specs.Fails.{numberFails}
 use Rattle.model.specs.Tested.{maxHamiltonian, maxJumps, counted, testModel}
 use Rattle.model.specs.Given.{Read, got, Term}
 use Rattle.model.specs.Compiled.{Compiled, compileJump}
-use Rattle.model.specs.Built.{Building, refusal, finished, tested, whenRead, readHamiltonian, readJumps, termsOf, termPlaces}
+use Rattle.model.specs.Built.{Building, finished, tested, whenRead, readHamiltonian, readJumps, termsOf, termPlaces}
 use Rattle.model.specs.Built as Compiling
 use Rattle.model.specs.declared.tables.Model.{Model}
 use Rattle.model.specs.declared.spec.Built.the-variants as Answers
@@ -74,12 +73,12 @@ module _ (n : ℕ) (i : Compiling.Input) (t : Tables) (workWords : List ℕ) (wo
   built-is e reals read =
       let first = by-test t workWords workNumbers m firstTests _ e .1 in
       let step : Compiling.build n i t workWords workNumbers ≡ Compiling.compiledModel n i t workWords workNumbers hs jumps =
-          first
-          ∙ ap (λ (x : Read (List (RealTerm floats pauli))). whenRead t workWords workNumbers x (λ hs. whenRead t workWords workNumbers (readJumps n i) (λ js. Compiling.compiledModel n i t workWords workNumbers hs (map compileJump js)))) reals
-          ∙ ap (λ (x : Read (List (JumpOver floats pauli))). whenRead t workWords workNumbers x (λ js. Compiling.compiledModel n i t workWords workNumbers hs (map compileJump js))) read in
+      first
+      ∙ ap (λ (x : Read (List (RealTerm floats pauli))). whenRead t workWords workNumbers x (λ hs. whenRead t workWords workNumbers (readJumps n i) (λ js. Compiling.compiledModel n i t workWords workNumbers hs (map compileJump js)))) reals
+      ∙ ap (λ (x : Read (List (JumpOver floats pauli))). whenRead t workWords workNumbers x (λ js. Compiling.compiledModel n i t workWords workNumbers hs (map compileJump js))) read in
       let last = by-room t workWords workNumbers m (termPlaces t) (length (termsOf jumps))
-          (record { qubits = n; hamiltonian = length hs; jumps = length jumps; terms = length (termsOf jumps) }) (Compiling.stored hs jumps t)
-          (ap (λ (b : Building). b .answer) (sym step) ∙ e) in
+      (record { qubits = n; hamiltonian = length hs; jumps = length jumps; terms = length (termsOf jumps) }) (Compiling.stored hs jumps t)
+      (ap (λ (b : Building). b .answer) (sym step) ∙ e) in
       (last .0, ap (λ (b : Building). b .tables) step ∙ last .1)
 
 -- ---- adding
@@ -110,10 +109,10 @@ module _ (m : Model) (i : Adding.Input) (t : Tables) (workWords : List ℕ) (wor
     added-is e read =
         let first = by-test t workWords workNumbers m′ (matrixTests m i t workWords workNumbers) _ e in
         let step : Adding.add m i t workWords workNumbers ≡ tested t workWords workNumbers (pairsTest m i t workWords workNumbers) (compiledMatrix m i t workWords workNumbers As) =
-            first .1
-            ∙ ap (λ (x : Read (List (List Term))). whenRead t workWords workNumbers x (λ As. tested t workWords workNumbers (pairsTest m i t workWords workNumbers) (compiledMatrix m i t workWords workNumbers As))) read in
+        first .1
+        ∙ ap (λ (x : Read (List (List Term))). whenRead t workWords workNumbers x (λ As. tested t workWords workNumbers (pairsTest m i t workWords workNumbers) (compiledMatrix m i t workWords workNumbers As))) read in
         let second = by-test t workWords workNumbers m′ (pairsTest m i t workWords workNumbers) (compiledMatrix m i t workWords workNumbers As) (ap (λ (b : Building). b .answer) (sym step) ∙ e) in
         let all : Adding.add m i t workWords workNumbers ≡ compiledMatrix m i t workWords workNumbers As = step ∙ second .1 in
         let last = by-room t workWords workNumbers m′ (termPlaces t) (m .terms + length (allTerms As ++ termsOf pairs)) made (Adding.stored m i t workWords workNumbers As pairs)
-            (ap (λ (b : Building). b .answer) (sym all) ∙ e) in
+        (ap (λ (b : Building). b .answer) (sym all) ∙ e) in
         (settles (first .0), last .0, ap (λ (b : Building). b .tables) all ∙ last .1)

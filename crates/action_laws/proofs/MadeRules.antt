@@ -3,64 +3,54 @@
 
 -- The rules over what is stored in the tables of a model that was built, with the matrices added to it, are the rules over what
 -- was given, bit for bit. Assumes nothing.
-use mathlib.Core.Path.{_≡_, refl, sym, ap, ap₂, _∙_, subst, subst⁻¹}
+use mathlib.Core.Path.{_≡_, refl, sym, ap, ap₂, _∙_}
 use mathlib.Core.List.{List, [], _∷_, _++_, map, append-nil, append-assoc}
-use Prim.Native.Nat.{ℕ, suc, _+_, _*_, _/_, _%_, _≤_, _<_}
+use Prim.Native.Nat.{ℕ, _+_}
 use native.Mathlib.Omega.{arith}
 use lib.Ieee.{Float}
-use lib.ListN.{length, getD, set, take, drop, length-map, length-set, length-drop}
-use lib.Seq.{length-take-le}
+use lib.ListN.{length, set, length-map, length-set}
 use Rattle.refusal.specs.declared.Answer.the-variants.{Accepted}
 use Rattle.word.specs.Word.{Sound}
 use Rattle.word.specs.Flat.{words, layWord}
 use Rattle.word.specs.declared.word.Word.{Word}
-use Rattle.number.specs.Numbers.{Cx}
+use Rattle.number.specs.Numbers.{largestOver}
 use Rattle.number.specs.Floats.{floats}
 use Rattle.gksl.specs.Model.{RealTerm, JumpOver, MatrixOver, ModelOver, entryIn, entryOver, rowsOver}
-use Rattle.gksl.specs.Rules.{pairsOver, formedOver, termsOver, jumpsOver, matrixOver, matricesOver, rulesOver}
+use Rattle.gksl.specs.Rules.{termsOver, jumpsOver, matrixOver, matricesOver, rulesOver}
 use Rattle.gksl.specs.Words.{pauli}
-use Rattle.number.specs.Numbers.{largestOver}
 use Rattle.table.specs.Numbers.{complexes, layNumber}
 use Rattle.table.specs.Sums.{rows}
 use Rattle.model.specs.Stored.{Tables}
 use Rattle.model.specs.Tested.{testModel}
-use Rattle.model.specs.Given.{got, GivenTerm, Term, readReal, readJump, readOperator}
-use Rattle.model.specs.Items.{total}
+use Rattle.model.specs.Given.{got, Term, readReal, readJump}
 use Rattle.model.specs.Laid.{laid, layEntry}
 use Rattle.model.specs.Compiled.{Compiled, compileJump}
-use Rattle.model.specs.Built.{parts, hamiltonian, jumpsGiven, readHamiltonian, readJumps, entriesFrom, termsOf, ratesOf}
+use Rattle.model.specs.Built.{hamiltonian, jumpsGiven, readHamiltonian, readJumps, entriesFrom, termsOf, ratesOf}
 use Rattle.model.specs.Built as Building
-use Rattle.model.specs.Taken.{termTaken}
-use Rattle.model.specs.Work.{operatorTaken}
 use Rattle.model.specs.declared.tables.Model.{Model}
-use Rattle.model.specs.declared.tables.Range.{Range}
 use Rattle.model.specs.declared.spec.Built.the-variants as Answers
-use Rattle.model.proofs.TakenLaws.{operator-taken, operator-few}
-use Rattle.kossakowski.specs.Matrix.{isPair, pairPlaces}
-use Rattle.kossakowski.specs.Pairs.{factorOf, factorsOf, scaled, productAfter, compilePair, rangeOf, pairAt, pairsOf}
-use Rattle.kossakowski.specs.Added.{operators, operatorsGiven, matrix, readOperators, allTerms}
+use Rattle.kossakowski.specs.Matrix.{pairPlaces}
+use Rattle.kossakowski.specs.Pairs.{pairsOf}
+use Rattle.kossakowski.specs.Added.{operators, matrix, readOperators, allTerms}
 use Rattle.kossakowski.specs.Added as Adding
-use Rattle.kossakowski.proofs.MatrixLaws.{row-below, column-below}
-use Rattle.kossakowski.proofs.AddLaws.{operators-are, all-are, all-length}
 use Rattle.model_laws.specs.Every.{Every}
 use Rattle.model_laws.specs.Stands.{Stands}
 use Rattle.model_laws.specs.Extended.{Additions, larger, extended}
-use Rattle.model_laws.proofs.Lists.{every-at, every-of, every-weaken, every-append, every-map}
+use Rattle.model_laws.proofs.Lists.{every-of, every-weaken, every-append, every-map}
 use Rattle.model_laws.proofs.LaidLaws.{laid-length, word-length, number-length, entry-length}
 use Rattle.model_laws.proofs.StandsLaws.{tested-stands}
-use Rattle.model_laws.proofs.ReadItems.{GivenGood, JumpGood, real-read, jump-read, operator-read, each-every}
-use Rattle.model_laws.proofs.CompiledLaws.{TermGood, CompiledGood, given-term, formed-sizes, compiled-good, entries-length, terms-every, terms-good, entries-good}
-use Rattle.model_laws.proofs.PairsGood.{passing-below}
-use Rattle.model_laws.proofs.BuiltLaws.{empty, built-passes, empty-stands}
-use Rattle.model_laws.proofs.AddedLaws.{all-every, added-passes}
+use Rattle.model_laws.proofs.ReadItems.{JumpGood, real-read, jump-read, each-every}
+use Rattle.model_laws.proofs.CompiledLaws.{TermGood, CompiledGood, compiled-good, entries-length, terms-good, entries-good}
+use Rattle.model_laws.proofs.BuiltLaws.{empty, built-passes}
+use Rattle.model_laws.proofs.AddedLaws.{added-passes}
 use Rattle.action.specs.Adds.{upTo, realsIn, jumpsIn, jumpAdds, pairAdds, gatherJumps, rulesStored}
 use Rattle.action_laws.specs.Made.{Made, built, added, withMatrix}
-use Rattle.action_laws.proofs.LaidTerms.{Holds, holds-left, holds-right, laid-holds}
+use Rattle.action_laws.proofs.LaidTerms.{holds-left, holds-right, laid-holds}
 use Rattle.action_laws.proofs.ExtendedItems.{Laying, jumpsFrom, reals-read, jumps-read, gathered-both, jumps-stay, pairs-stay}
 use Rattle.action_laws.proofs.JumpRules.{jumps-add, jumps-no-pairs}
 use Rattle.action_laws.proofs.MatrixRules.{Counted, counted-length, no-jumps, pairs-add}
 use Rattle.action_laws.proofs.OperatorsRead.{operators-good, operators-laid, operators-counted, pairs-laid, pairs-eight}
-use Rattle.action_laws.proofs.MadeParts.{built-is, Settled, added-is}
+use Rattle.action_laws.proofs.MadeParts.{built-is, added-is}
 
 -- a model that was made passes the test
 pub made-passes : (g : ModelOver floats pauli) (m : Model) (t : Tables) → Made g m t → testModel m t ≡ Accepted

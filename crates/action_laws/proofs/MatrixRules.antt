@@ -16,7 +16,7 @@ use Rattle.word.specs.Flat.{words}
 use Rattle.word.specs.declared.word.Word.{Word}
 use Rattle.number.specs.Numbers.{Cx, square, largestOver}
 use Rattle.number.specs.Floats.{floats}
-use Rattle.gksl.specs.Model.{Row, rowsOver, entryIn}
+use Rattle.gksl.specs.Model.{rowsOver, entryIn}
 use Rattle.gksl.specs.Rules.{diagonalOver, pairOver, rowOver, matrixOver}
 use Rattle.gksl.specs.Words.{pauli}
 use Rattle.table.specs.Numbers.{complexes}
@@ -27,11 +27,11 @@ use Rattle.model.specs.Built.{termsOf}
 use Rattle.model.specs.Items.{total}
 use Rattle.model.specs.declared.tables.Range.{Range}
 use Rattle.kossakowski.specs.Matrix.{skipped, isPair, passing, pairPlaces}
-use Rattle.kossakowski.specs.Pairs.{compilePair, rangeOf, pairAt, pairsOf}
+use Rattle.kossakowski.specs.Pairs.{rangeOf, pairAt, pairsOf}
 use Rattle.kossakowski.specs.Added.{allTerms}
 use Rattle.kossakowski.proofs.MatrixLaws.{row-below, column-below}
 use Rattle.model_laws.specs.Every.{Every}
-use Rattle.model_laws.proofs.Lists.{every-at, every-both, every-weaken}
+use Rattle.model_laws.proofs.Lists.{every-both, every-weaken}
 use Rattle.model_laws.proofs.JumpTests.{both}
 use Rattle.model_laws.proofs.PairsGood.{passing-below}
 use Rattle.action.specs.Adds.{upTo, jumpAdds, pairAdds, gatherJumps}
@@ -210,7 +210,7 @@ module _ (p : Word) (counts : List ℕ) (K : List (Cx floats)) (As : List (List 
 
   -- ---- all places, and the rows
   -- what a place adds, if its row is not above its column
-  placeAdds : ℕ → List Term
+  unfoldable placeAdds : ℕ → List Term
   placeAdds q = cond (leb (q / k) (q % k)) (entryAdds (q / k) (q % k)) []
 
   place-is : (q n m : ℕ) → q ≡ n * k + m → m < k → placeAdds q ≡ cond (leb n m) (entryAdds n m) []
@@ -294,9 +294,9 @@ module _ (p : Word) (counts : List ℕ) (K : List (Cx floats)) (As : List (List 
       let many : length As ≡ k = counted-length As counts counted in
       let z : 0 ≡ 0 * k = omega arith in
       let every : Every (λ q. (q < k * k) × (isPair floats k K q ≡ true)) (pairPlaces floats k K) =
-          every-both _ _ (pairPlaces floats k K)
-          (every-weaken (λ q. q < 0 + k * k) (λ q. q < k * k) (λ q l. omega arith) (pairPlaces floats k K) (passing-below (isPair floats k K) 0 (k * k)))
-          (passing-true (isPair floats k K) 0 (k * k)) in
+      every-both _ _ (pairPlaces floats k K)
+      (every-weaken (λ q. q < 0 + k * k) (λ q. q < k * k) (λ q l. omega arith) (pairPlaces floats k K) (passing-below (isPair floats k K) 0 (k * k)))
+      (passing-true (isPair floats k K) 0 (k * k)) in
       places-add t counted from own (pairPlaces floats k K) every at h
       ∙ all-places
       ∙ ap₂ (λ (x y : ℕ). flatMap placeAdds (upTo x y)) z (ap (λ (x : ℕ). x * k) (sym many))

@@ -4,11 +4,10 @@
 -- The operators of a matrix that were read: each has as many terms as its count says, at least one and at most 16, and the words
 -- of what is stored for their pairs are read back. Assumes nothing.
 use mathlib.Core.Path.{_≡_, refl, ap, _∙_, subst, subst⁻¹}
-use mathlib.Core.List.{List, [], _∷_, _++_, map}
-use Prim.Native.Nat.{ℕ, suc, _+_, _*_, _/_, _%_, _≤_, _<_}
+use mathlib.Core.List.{List, [], _∷_, map}
+use Prim.Native.Nat.{ℕ, _+_, _*_, _/_, _%_, _≤_, _<_}
 use native.Mathlib.Omega.{arith}
-use lib.Ieee.{Float}
-use lib.ListN.{length, getD, take, drop, length-map, length-drop}
+use lib.ListN.{length, getD, drop, length-map, length-drop}
 use lib.Seq.{length-take-le}
 use Rattle.word.specs.Word.{Sound}
 use Rattle.number.specs.Numbers.{Cx}
@@ -16,21 +15,17 @@ use Rattle.number.specs.Floats.{floats}
 use Rattle.gksl.specs.Model.{entryIn}
 use Rattle.gksl.specs.Rules.{pairsOver, formedOver}
 use Rattle.gksl.specs.Words.{pauli}
-use Rattle.model.specs.Stored.{Tables}
 use Rattle.model.specs.Given.{got, GivenTerm, Term, readOperator}
 use Rattle.model.specs.Items.{total}
-use Rattle.model.specs.Compiled.{Compiled}
 use Rattle.model.specs.Built.{parts, entriesFrom, termsOf}
 use Rattle.model.specs.Taken.{termTaken}
 use Rattle.model.specs.Work.{operatorTaken}
-use Rattle.model.specs.declared.tables.Model.{Model}
 use Rattle.model.specs.declared.tables.Range.{Range}
 use Rattle.model.proofs.TakenLaws.{operator-taken, operator-few}
 use Rattle.kossakowski.specs.Matrix.{isPair, pairPlaces}
 use Rattle.kossakowski.specs.Pairs.{factorOf, factorsOf, scaled, productAfter, compilePair, rangeOf, pairAt, pairsOf}
 use Rattle.kossakowski.specs.Added.{Input, operatorsGiven, readOperators, allTerms}
 use Rattle.kossakowski.proofs.MatrixLaws.{row-below, column-below}
-use Rattle.kossakowski.proofs.MatrixLengths.{LengthsFit}
 use Rattle.kossakowski.proofs.AddLaws.{operators-are, all-are, all-length}
 use Rattle.model_laws.specs.Every.{Every}
 use Rattle.model_laws.proofs.Lists.{every-at, every-weaken, every-append, every-map}
@@ -38,7 +33,7 @@ use Rattle.model_laws.proofs.ReadItems.{GivenGood, operator-read, each-every}
 use Rattle.model_laws.proofs.CompiledLaws.{formed-sizes, terms-every}
 use Rattle.model_laws.proofs.PairsGood.{passing-below}
 use Rattle.model_laws.proofs.AddedLaws.{all-every}
-use Rattle.action_laws.proofs.MatrixRules.{Counted, counted-length}
+use Rattle.action_laws.proofs.MatrixRules.{Counted}
 
 -- a term whose word is read back
 abbrev pub Laid : Term → Type 0

@@ -3,11 +3,9 @@
 
 -- A pair whose factors and product stand in the terms table adds what the rules over the two given operators do. Assumes nothing.
 use mathlib.Core.Path.{_≡_, refl, sym, ap, ap₂, _∙_}
-use mathlib.Core.Bool.{Bool, true, false, _&&_, cond}
+use mathlib.Core.Bool.{Bool, true, false, _&&_}
 use mathlib.Core.List.{List, [], _∷_, _++_, map}
 use Prim.Native.Nat.{ℕ, _+_, _-_, _*_}
-use native.Mathlib.Omega.{arith}
-use borrow.Author.Tests.{eq-eqb}
 use lib.Dec.{eqb}
 use lib.Ieee.{Float}
 use lib.ListN.{length, take, drop, length-map}
@@ -84,18 +82,34 @@ module _ (p : Word) (t : Tables) where
       pub pair-adds : same ≡ false → pairAdds p t (jumpOf (compilePair k left right A B) at) ≡ pairOver floats pauli big k A B p
       unfolding compilePair jumpAt pairAdds pairOver bothOver oneOver folded doubled bothSides oneSide factorOf scaled
       pair-adds e =
-          rw (e, kept, factors-are, product-is, l .terms, r .terms, r .wide,
-          each-pair p (doubled p) (factorOf k) (length B) A B refl,
-          gather-map (bothSides p) (scaled k) (formedOver floats pauli A B),
-          gather-map (oneSide p (λ x. x)) (scaled k) (formedOver floats pauli A B),
-          gather-map (oneSide p (floats .opposite)) (scaled k) (formedOver floats pauli A B)) refl
+          rw (
+            e,
+            kept,
+            factors-are,
+            product-is,
+            l .terms,
+            r .terms,
+            r .wide,
+            each-pair p (doubled p) (factorOf k) (length B) A B refl,
+            gather-map (bothSides p) (scaled k) (formedOver floats pauli A B),
+            gather-map (oneSide p (λ x. x)) (scaled k) (formedOver floats pauli A B),
+            gather-map (oneSide p (floats .opposite)) (scaled k) (formedOver floats pauli A B),
+          ) refl
 
       pub diagonal-adds : same ≡ true → A ≡ B → pairAdds p t (jumpOf (compilePair k left right A B) at) ≡ diagonalOver floats pauli big k A p
       unfolding compilePair jumpAt pairAdds diagonalOver folded diagonal factorOf scaled
       diagonal-adds e f =
-          rw (e, kept, factors-are, product-is, l .terms, r .wide, ← f,
-          each-pair p (folded p) (factorOf k) (length A) A A refl,
-          gather-map (diagonal p) (scaled k) (formedOver floats pauli A A)) refl
+          rw (
+            e,
+            kept,
+            factors-are,
+            product-is,
+            l .terms,
+            r .wide,
+            ← f,
+            each-pair p (folded p) (factorOf k) (length A) A A refl,
+            gather-map (diagonal p) (scaled k) (formedOver floats pauli A A),
+          ) refl
 
   -- and nothing among the jumps
   pub no-jump : (k : Cx floats) (left right : Range) (A B : List Term) (at : ℕ) → jumpAdds p t (jumpOf (compilePair k left right A B) at) ≡ []
