@@ -2,6 +2,15 @@
 -- SPDX-License-Identifier: Apache-2.0
 
 -- Laws of the action of a model that was built.
+pub mod LaidTerms
+pub mod ExtendedItems
+pub mod JumpRules
+pub mod PairRules
+pub mod MatrixRules
+pub mod OperatorsRead
+pub mod MadeParts
+pub mod MadeRules
+pub mod MadeLimits
 pub mod WholeSizes
 pub mod WholeWeights
 pub mod WholeAdds

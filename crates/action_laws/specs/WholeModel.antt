@@ -18,7 +18,6 @@ use Rattle.kossakowski.specs.Matrix.{pairPlaces}
 use Rattle.kossakowski.specs.Whole.{WholeEntries}
 use Rattle.model_laws.specs.Every.{Every}
 use Rattle.model_laws.specs.Exactly.{Exactly}
-use Rattle.gksl.specs.Operator.{Onto}
 
 module _ {A B : Type 0} where
   -- two lists, element by element
