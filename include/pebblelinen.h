@@ -307,6 +307,40 @@ pebblelinen_status pebblelinen_test_model(pebblelinen_model model, const uint64_
                                           const uint64_t *t_words, size_t t_words_len,
                                           const double *t_numbers, size_t t_numbers_len);
 
+/* ---- Actions ---- */
+
+/* How many words a call lists. Where the status is a refusal, the count is 0. */
+typedef struct {
+    pebblelinen_status status;
+    size_t count;
+} pebblelinen_listed;
+
+/* The action of a model on a word p, in the Heisenberg picture: i(Hp - pH), for each jump
+ * rate * (L^dagger p L - 1/2 (L^dagger L p + p L^dagger L)), and for each matrix the dissipator of
+ * pebblelinen_add_kossakowski.
+ *
+ * Only items that share a qubit with p count: the Hamiltonian terms, then the jumps, then the pairs,
+ * each in the order in which they are stored. What they add is summed word by word, from 0, in
+ * work_words and work_sums, a table in word order of a word (4 lanes) and a complex number each. The
+ * answer lists the words whose real part is not 0, in word order: their lanes in out_words, their
+ * real parts in out_values. Places past the list stay as they were. Where the call was accepted, the
+ * work tables are all zero; what they held before makes no difference. Refusals, in this order:
+ *
+ *       those of pebblelinen_test_model for the model
+ *   11  (0): p has a letter at or above the register
+ *   13  (1, places lent): the work tables have fewer places than p's action touches words, words
+ *       whose sum is 0 among them
+ *   13  (3, places lent): out_words and out_values have fewer places than there are words to list
+ *
+ * A refusal changes nothing that was lent, but for 13, after which the work tables are all zero. */
+pebblelinen_listed pebblelinen_compute_action_terms(
+    pebblelinen_model model, const uint64_t *h_words, size_t h_words_len, const double *h_coeffs,
+    size_t h_coeffs_len, const uint64_t *jumps, size_t jumps_len, const double *rates,
+    size_t rates_len, const uint64_t *t_words, size_t t_words_len, const double *t_numbers,
+    size_t t_numbers_len, pebblelinen_word p, uint64_t *work_words, size_t work_words_len,
+    double *work_sums, size_t work_sums_len, uint64_t *out_words, size_t out_words_len,
+    double *out_values, size_t out_values_len);
+
 #ifdef __cplusplus
 }
 #endif

@@ -4,4 +4,5 @@
 -- What the exported functions answer, in plain numbers.
 pub mod Words
 pub mod Models
+pub mod Actions
 pub mod Examples

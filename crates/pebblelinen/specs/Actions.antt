@@ -1,0 +1,27 @@
+-- SPDX-FileCopyrightText: 2026 The PPVM Authors
+-- SPDX-License-Identifier: Apache-2.0
+
+-- Answers about actions in plain numbers.
+use Prim.Native.Nat.{ℕ}
+use mathlib.Core.Path.{_≡_}
+use mathlib.Core.List.{List}
+use lib.Ieee.{Float}
+use Rattle.refusal.specs.Cause.{statusOf, answerStatus}
+use Rattle.refusal.specs.declared.Answer.the-variants.{Accepted}
+use Rattle.act.specs.Acts.{Acting}
+use Rattle.act.specs.declared.act.Acted.{Acted}
+use Rattle.act.specs.declared.act.Acted.the-variants.{Listed, Refused}
+use Rattle.pebblelinen.specs.declared.actions.ListedWords.{ListedWords}
+
+-- how many words are listed, or the refusal and 0
+abbrev pub listedOf : Acted → ListedWords
+listedOf (Listed n) = record { status = answerStatus Accepted; count = n }
+listedOf (Refused refusal) = record { status = statusOf refusal; count = 0 }
+
+-- what the action answers, and the lent tables afterwards
+pub record LeavesList (a : Acting) (r : ListedWords) (outWords : List ℕ) (outValues : List Float) (workWords : List ℕ) (workSums : List Float) : Type 0 where
+  pub answers : r ≡ listedOf (a .answer)
+  pub out-words : outWords ≡ a .outWords
+  pub out-values : outValues ≡ a .outValues
+  pub work-words : workWords ≡ a .workWords
+  pub work-sums : workSums ≡ a .workSums
