@@ -32,7 +32,7 @@ use Rattle.action.specs.Adds.{rulesStored}
 use Rattle.action.specs.Sums.{SumsRoom, PutsAll}
 use Rattle.act.specs.declared.act.Acted.{Acted}
 use Rattle.act.specs.declared.act.Acted.the-variants.{Listed, Refused}
-use Rattle.act.specs.Acts.{listed, sumsOf, actionOf, sumPlaces, listPlaces, Lists, ListRoom, Acting, refusal, full, listing, act}
+use Rattle.act.specs.Acts.{listed, sumsOf, actionOf, sumPlaces, listPlaces, Lists, ListRoom, Acting, refusal, full, listing, tested, act}
 
 -- ---- the sums: an empty table at first, and all of them where there is room
 pub empty-room : (room : ℕ) (words : List ℕ) (sums : List Float) → room ≡ sumPlaces words sums → SumsRoom room 0 words sums
@@ -105,3 +105,29 @@ module _ (outWords : List ℕ) (outValues : List Float) (workWords : List ℕ) (
         act-listed count words sums outWords′ outValues′ L k e h l ew es =
             let n : length (actionOf m t p) ≤ listPlaces outWords outValues = subst (λ (A : List Term). length A ≤ listPlaces outWords outValues) k (omega (arith, e)) in
             rw (ok, inside, le-ltb (sumPlaces workWords workSums) (length (sumsOf m t p)) fits, le-ltb (listPlaces outWords outValues) (length (actionOf m t p)) n, sym k, e, ew, es, l .words-are, l .values-are)
+
+-- ---- what the work tables held makes no difference to the answer and the list
+pub record Alike (a b : Acting) : Type 0 where
+  pub answers : a .answer ≡ b .answer
+  pub out-words : a .outWords ≡ b .outWords
+  pub out-values : a .outValues ≡ b .outValues
+
+by-cond : (c : Bool) {a a′ b b′ : Acting} → Alike a a′ → Alike b b′ → Alike (cond c a b) (cond c a′ b′)
+by-cond true h k = h
+by-cond false h k = k
+
+module _ (outWords : List ℕ) (outValues : List Float) (words words′ : List ℕ) (sums sums′ : List Float) where
+  by-test : (a : Answer) {b b′ : Acting} → Alike b b′ → Alike (tested outWords outValues words sums a b) (tested outWords outValues words′ sums′ a b′)
+  by-test Tests.Accepted h = h
+  by-test (Tests.Refused r) h = record { answers = refl; out-words = refl; out-values = refl }
+
+  pub act-independent : length words ≡ length words′ → length sums ≡ length sums′ → (m : Model) (t : Tables) (p : Word)
+      → Alike (act outWords outValues words sums m t p) (act outWords outValues words′ sums′ m t p)
+  unfolding act
+  act-independent ew es m t p =
+      let e : sumPlaces words sums ≡ sumPlaces words′ sums′ = ap₂ (λ (a b : ℕ). min (a / 4) (b / 2)) ew es in
+      rw (sym e)
+      (by-test (testModel m t)
+      (by-cond (reaches p (m .qubits)) (record { answers = refl; out-words = refl; out-values = refl })
+      (by-cond (ltb (sumPlaces words sums) (length (sumsOf m t p))) (record { answers = refl; out-words = refl; out-values = refl })
+      (by-cond (ltb (listPlaces outWords outValues) (length (actionOf m t p))) (record { answers = refl; out-words = refl; out-values = refl }) (record { answers = refl; out-words = refl; out-values = refl })))))

@@ -18,5 +18,7 @@ pub mod WholeRules
 pub mod WholeMatrices
 pub mod WholeAction
 pub mod WholeListed
+pub mod MadeExact
 pub mod ReachedNothing
 pub mod ReachedNear
+pub mod ReachedListed

@@ -61,7 +61,7 @@ unfolding gatherOver
 gather f [] h make = none
 gather f (c ∷ M) h make = append (make c (h .0)) (gather f M (h .1) make)
 
-every-without : (P : Term → Type 0) (drop : Term → Bool) (A : List Term) → Every P A → Every P (withoutOver floats pauli drop A)
+pub every-without : (P : Term → Type 0) (drop : Term → Bool) (A : List Term) → Every P A → Every P (withoutOver floats pauli drop A)
 unfolding withoutOver
 every-without P drop [] h = tt
 every-without P drop (a ∷ A) h = go (drop a) (every-without P drop A (h .1))
