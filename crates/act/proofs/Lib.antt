@@ -4,3 +4,4 @@
 -- Laws of this crate.
 pub mod ActLaws
 pub mod ListLaws
+pub mod WordsLaws

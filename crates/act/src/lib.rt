@@ -3,4 +3,6 @@
 
 // The action of a lent model on a word, with its tests and its list.
 pub mod act;
+pub mod count;
 pub mod list;
+pub mod words;
