@@ -8,7 +8,7 @@ use mathlib.Core.List.{List, [], _∷_, _++_, append-nil}
 use Prim.Native.Nat.{ℕ, zero, suc, _+_, _<_, _≤_}
 use native.Mathlib.Omega.{arith}
 use lib.Dec.{eqb}
-use Rattle.index.specs.Visit.{upFrom, keep}
+use Rattle.index.specs.Visit.{upFrom, keep, AllBelow}
 
 pub keep-cong : (s t : ℕ → ℕ) (d j : ℕ) → ((i : ℕ) → j ≤ i → i < j + d → s i ≡ t i) → keep s (upFrom d j) ≡ keep t (upFrom d j)
 unfolding keep upFrom
@@ -57,11 +57,6 @@ skip t (suc e) d j h =
 -- numbers past which t is 0 may be added
 pub keep-short : (t : ℕ → ℕ) (e d j : ℕ) → ((i : ℕ) → j + d ≤ i → i < j + d + e → t i ≡ 0) → keep t (upFrom (d + e) j) ≡ keep t (upFrom d j)
 keep-short t e d j h = keep-cat t d e j ∙ ap (λ (l : List ℕ). keep t (upFrom d j) ++ l) (keep-none t e (j + d) h) ∙ append-nil (keep t (upFrom d j))
-
--- each of a list is below n
-unfoldable pub AllBelow : ℕ → List ℕ → Type 0
-AllBelow n [] = Unit {0}
-AllBelow n (j ∷ js) = (j < n) × AllBelow n js
 
 pub keep-below : (t : ℕ → ℕ) (n d j : ℕ) → j + d ≤ n → AllBelow n (keep t (upFrom d j))
 unfolding AllBelow keep upFrom

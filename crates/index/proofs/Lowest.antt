@@ -3,7 +3,7 @@
 
 -- The lowest set digit of a number: where `trailingZeros` finds it, and that `m & (m - 1)` clears it and nothing else. Assumes nothing.
 use mathlib.Core.Path.{_≡_, refl, sym, ap, ap₂, _∙_}
-use Prim.Native.Nat.{ℕ, zero, suc, _+_, _-_, _*_, _/_, _%_, _^_, _<_, _≤_, min}
+use Prim.Native.Nat.{ℕ, zero, suc, _-_, _*_, _/_, _%_, _^_, _<_, _≤_, min}
 use native.Mathlib.Omega.{arith}
 use lib.Bits.{bitAnd, bitOr, shifted-half, shifted-even}
 use lib.Count.{trailingZeros, under}

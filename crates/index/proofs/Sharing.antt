@@ -19,8 +19,8 @@ use Rattle.index.specs.declared.Cursor.{Cursor}
 use Rattle.index.specs.declared.Next.{Next}
 use Rattle.index.specs.declared.Next.the-variants.{Item}
 use Rattle.index.specs.Index.{flag, digit, acts, actsAny, sharesAny, unites, Indexed, United}
-use Rattle.index.specs.Visit.{upFrom, keep, flagged, left, Steps}
-use Rattle.index.proofs.Kept.{keep-short, AllBelow, keep-below}
+use Rattle.index.specs.Visit.{upFrom, keep, flagged, left, Steps, AllBelow}
+use Rattle.index.proofs.Kept.{keep-short, keep-below}
 use Rattle.index.proofs.Cursors.{stepped}
 
 digit-or : (a b : Bool) → digit (a || b) ≡ max (digit a) (digit b)

@@ -35,3 +35,8 @@ left mask c = keep (λ j. bit (c .rest) (j - c .lane * 64)) (upFrom 64 (c .lane 
 abbrev pub Steps : List ℕ → Cursor → Next → Type 0
 Steps mask c (Item j d) = (left mask c ≡ j ∷ left mask d) × (j < 4096) × (d .lane < 64)
 Steps mask c Done = left mask c ≡ []
+
+-- each of a list is below n
+unfoldable pub AllBelow : ℕ → List ℕ → Type 0
+AllBelow n [] = Unit {0}
+AllBelow n (j ∷ js) = (j < n) × AllBelow n js
