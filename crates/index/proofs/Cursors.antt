@@ -47,7 +47,7 @@ left-whole mask i h =
     ∙ sym (keep-cat (flag mask) 64 (4096 - (i * 64 + 64)) (i * 64)))
 
 -- nothing left of a lane
-pub left-none : (mask : List ℕ) (i : ℕ) → left mask (cursor i 0) ≡ flagged mask ((i + 1) * 64)
+left-none : (mask : List ℕ) (i : ℕ) → left mask (cursor i 0) ≡ flagged mask ((i + 1) * 64)
 unfolding left
 left-none mask i =
     let a : (i + 1) * 64 ≡ i * 64 + 64 = omega arith in
@@ -78,7 +78,7 @@ module _ (mask : List ℕ) (i m t : ℕ) (l : Lowest 64 m t) where
       ∙ ap (λ (d : ℕ). keep (λ j. bit (bitAnd m (m - 1)) (j - i * 64)) (upFrom (64 - suc t) d)) b
       ∙ keep-cong (λ j. bit (bitAnd m (m - 1)) (j - i * 64)) (λ j. bit m (j - i * 64)) (64 - suc t) (suc (i * 64 + t)) (λ j h k. l .others (j - i * 64) (λ e. omega arith))
 
-  pub left-next : left mask (cursor i m) ≡ (i * 64 + t) ∷ left mask (cursor i (bitAnd m (m - 1)))
+  left-next : left mask (cursor i m) ≡ (i * 64 + t) ∷ left mask (cursor i (bitAnd m (m - 1)))
   unfolding left
   left-next = ap₂ (λ (x y : List ℕ). x ++ y) (t-keep ∙ ap (λ (x : List ℕ). (i * 64 + t) ∷ x) (sym rest-keep)) refl
 
