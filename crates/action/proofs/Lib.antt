@@ -5,9 +5,12 @@
 pub mod AddLaws
 pub mod GatherLaws
 pub mod GeneralLaws
+pub mod IndexLaws
 pub mod ItemLaws
+pub mod NearLaws
 pub mod PairAdds
 pub mod PairFactors
 pub mod PairItems
 pub mod PutsLaws
 pub mod RuleLaws
+pub mod VisitLaws

@@ -3,5 +3,6 @@
 
 -- The action of a model on a word.
 pub mod Adds
+pub mod Near
 pub mod Steps
 pub mod Sums
