@@ -34,7 +34,7 @@ returns c =
     reals-full (a .m) t (a .p) (a .room) (a .lanes .now) (a .sums .now) (s .pre .0) _ _ _ (near-reals (a .m) t (a .p) (a .h-index .now) (a .j-index .now) k (s .pre .2) (s .pre .6) _ (c .before .before .before .before .before .before .before .before .before .before .before .before .union-rows .ensures) (c .before .before .before .before .before .before .put-reals-near .ensures t refl refl)) (c .enum-told .given .1)
 
 union-rows-requires-2 : tie.Need-union-rows-requires-2
-union-rows-requires-2 c κs = let s = c .before .before .before .before .before .before .before .before .before .before .before .before .before .before .before .before .before .before .before .before .before .before .before .before .before .before .before in (s .pre .4, omega (arith, c .before .before .before .before .before .before .before .before .before .before .before .before .before .before .union-rows .kept .1 .1 .1 .0, s .pre .5))
+union-rows-requires-2 c κs = let s = c .before .before .before .before .before .before .before .before .before .before .before .before .before .before .before .before .before .before .before .before .before .before .before .before .before .before .before in (omega (arith, s .pre .3, s .pre .4), omega (arith, c .before .before .before .before .before .before .before .before .before .before .before .before .before .before .union-rows .kept .1 .1 .1 .0, s .pre .5))
 
 put-jumps-near-requires : tie.Need-put-jumps-near-requires
 put-jumps-near-requires c κs =
