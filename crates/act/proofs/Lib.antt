@@ -3,5 +3,6 @@
 
 -- Laws of this crate.
 pub mod ActLaws
+pub mod CountLaws
 pub mod ListLaws
 pub mod WordsLaws

@@ -39,6 +39,10 @@ touchedBy m t p = length (sumsOf m t p)
 abbrev pub listedBy : Model → Tables → Word → ℕ
 listedBy m t p = length (actionOf m t p)
 
+-- 13 where one action touches more words than there is room for
+unfoldable pub mostPlaces : ℕ → (Word → ℕ) → (Word → ℕ) → List Word → Counted
+mostPlaces room touched listed ps = cond (ltb room (most touched ps)) (Refused (TableFull 1 room)) (Places (most touched ps) (most listed ps))
+
 -- Limit: 65,536 words
 abbrev pub maxWords : ℕ
 maxWords = 65536
@@ -101,8 +105,7 @@ module _ (hIndex jIndex mask workWords : List ℕ) (workSums : List Float) where
   unfoldable pub countPlaces : Model → Tables → List ℕ → Counting
   countPlaces m t lanes =
       testedWords (wordsTests m t lanes (length hIndex) (length jIndex) (length mask))
-      (cond (ltb (sumPlaces workWords workSums) (most (touchedBy m t) (words lanes))) (zeroed (Refused (TableFull 1 (sumPlaces workWords workSums))))
-      (zeroed (Places (most (touchedBy m t) (words lanes)) (most (listedBy m t) (words lanes)))))
+      (zeroed (mostPlaces (sumPlaces workWords workSums) (touchedBy m t) (listedBy m t) (words lanes)))
 
 -- every word has its letters below n
 pub record AllInside (lanes : List ℕ) (n : ℕ) : Type 0 where
