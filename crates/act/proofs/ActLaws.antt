@@ -35,8 +35,8 @@ use Rattle.act.specs.declared.act.Acted.the-variants.{Listed, Refused}
 use Rattle.act.specs.Acts.{listed, sumsOf, actionOf, sumPlaces, listPlaces, Lists, ListRoom, Acting, refusal, full, listing, tested, act}
 
 -- ---- the sums: an empty table at first, and all of them where there is room
-pub empty-room : (room : ℕ) (words : List ℕ) (sums : List Float) → room ≡ sumPlaces words sums → SumsRoom room 0 words sums
-empty-room room words sums e = record { lanes-long = omega (arith, e); sums-long = omega (arith, e); inside = omega arith; rises = rising-empty words sums }
+pub empty-room : (room : ℕ) (words : List ℕ) (sums : List Float) → 4 * room ≤ length words → 2 * room ≤ length sums → SumsRoom room 0 words sums
+empty-room room words sums l k = record { lanes-long = l; sums-long = k; inside = omega arith; rises = rising-empty words sums }
 
 module _ (m : Model) (t : Tables) (p : Word) (room : ℕ) (words : List ℕ) (sums : List Float) (words′ : List ℕ) (sums′ : List Float) (r : Added)
     (g : PutsAll room 0 (rulesStored m t p) words sums words′ sums′ r) where
@@ -57,9 +57,9 @@ module _ (m : Model) (t : Tables) (p : Word) (room : ℕ) (words : List ℕ) (su
     unfolding actionOf
     listed-are = ap listed sums-are
 
-    module _ (el : length words′ ≡ length words) (es : length sums′ ≡ length sums) (er : room ≡ sumPlaces words sums) where
+    module _ (el : length words′ ≡ length words) (es : length sums′ ≡ length sums) (rl : 4 * room ≤ length words) (rs : 2 * room ≤ length sums) where
       pub sums-inside : (4 * len ≤ length words′) × (2 * len ≤ length sums′)
-      sums-inside = let h = sums-held in (omega (arith, h .0, h .1, el, es, er), omega (arith, h .0, h .1, el, es, er))
+      sums-inside = let h = sums-held in (omega (arith, h .0, h .1, el), omega (arith, h .0, h .1, es))
 
       pub list-room : (outWords : List ℕ) (outValues : List Float) (count places : ℕ) → count ≡ length (listed (table len words′ sums′)) → places ≡ listPlaces outWords outValues → count ≤ places
           → ListRoom len words′ sums′ outWords outValues

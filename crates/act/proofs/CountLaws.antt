@@ -15,11 +15,12 @@ use lib.Ieee.{Float}
 use lib.ListN.{length, getD, drop, replicate, drop-of-length-le}
 use lib.Seq.{drop-cons}
 use Rattle.refusal.specs.declared.Refusal.{Refusal}
-use Rattle.refusal.specs.declared.Refusal.the-variants.{TableFull, WordOutsideRegister}
+use Rattle.refusal.specs.declared.Refusal.the-variants.{TableFull}
 use Rattle.refusal.specs.declared.Answer.{Answer}
 use Rattle.refusal.specs.declared.Answer.the-variants as Tests
 use Rattle.word.specs.Word.{identity}
 use Rattle.word.specs.Flat.{words}
+use Rattle.word.specs.Register.{reaches}
 use Rattle.word.specs.declared.word.Word.{Word}
 use Rattle.word.proofs.FlatLaws.{words-high, words-low}
 use Rattle.number.specs.Floats.{float0}
@@ -71,3 +72,27 @@ module _ (touch list : Word → ℕ) (ps : List Word) (room : ℕ) where
         let t : touched ≡ most touch ps = omega (arith, n, s .touched-left) in
         let l : listed ≡ most list ps = omega (arith, o, s .listed-left) in
         rw (sym t, sym l, le-ltb room touched (s .fits))
+
+-- ---- the words of a list that was tested
+pub words-count : (lanes : List ℕ) → length (words lanes) ≡ length lanes / 4
+words-count lanes = let l = words-low lanes in let h = words-high lanes in omega (arith, l, h)
+
+pub word-inside : (lanes : List ℕ) (n : ℕ) → AllInside lanes n → (k : ℕ) → k < length lanes / 4 → {w : Word} → w ≡ getD (words lanes) k identity → reaches w n ≡ false
+unfolding outsideAt
+word-inside lanes n a k h e = ap (λ (v : Word). reaches v n) e ∙ a k h
+
+-- ---- the answers
+module _ (hIndex jIndex mask workWords : List ℕ) (workSums : List Float) (m : Model) (t : Tables) (lanes : List ℕ) where
+  pub count-refused : (r : Refusal) → wordsTests m t lanes (length hIndex) (length jIndex) (length mask) ≡ Tests.Refused r
+      → record { answer = Refused r; hIndex = hIndex; jIndex = jIndex; mask = mask; workWords = workWords; workSums = workSums } ≡ countPlaces hIndex jIndex mask workWords workSums m t lanes
+  unfolding countPlaces
+  count-refused r e = rw e
+
+  pub count-answered : wordsTests m t lanes (length hIndex) (length jIndex) (length mask) ≡ Tests.Accepted
+      → (r : Counted) (hIndex′ jIndex′ mask′ workWords′ : List ℕ) (workSums′ : List Float) (room : ℕ) → room ≡ sumPlaces workWords workSums
+      → r ≡ mostPlaces room (touchedBy m t) (listedBy m t) (words lanes)
+      → hIndex′ ≡ replicate (length hIndex) 0 → jIndex′ ≡ replicate (length jIndex) 0 → mask′ ≡ replicate (length mask) 0
+      → workWords′ ≡ replicate (length workWords) 0 → workSums′ ≡ replicate (length workSums) float0
+      → record { answer = r; hIndex = hIndex′; jIndex = jIndex′; mask = mask′; workWords = workWords′; workSums = workSums′ } ≡ countPlaces hIndex jIndex mask workWords workSums m t lanes
+  unfolding countPlaces
+  count-answered ok r hIndex′ jIndex′ mask′ workWords′ workSums′ room er e eh ej em ew es = rw (ok, sym er, e, eh, ej, em, ew, es)

@@ -6,8 +6,9 @@ use mathlib.Core.Path.{_≡_, sym, ap, _∙_}
 use mathlib.Core.Bool.{Bool, true, false}
 use mathlib.Core.List.{List}
 use Prim.Native.Nat.{ℕ, _*_, _/_, _≤_, _<_}
-use borrow.Author.Tests.{lt-ltb, le-ltb}
-use lib.Dec.{eqb}
+use native.Mathlib.Omega.{arith}
+use borrow.Author.Tests.{lt-ltb, le-ltb, ltb-false}
+use lib.Dec.{eqb, ltb}
 use lib.ListN.{length, getD}
 use Rattle.refusal.specs.declared.Refusal.{Refusal}
 use Rattle.refusal.specs.declared.Refusal.the-variants.{CountAboveLimit, LengthMismatch, WordOutsideRegister}
@@ -20,7 +21,9 @@ use Rattle.word.specs.declared.word.Word.{Word}
 use Rattle.model.specs.Stored.{Tables}
 use Rattle.model.specs.Tested.{firstTo, testModel}
 use Rattle.model.specs.declared.tables.Model.{Model}
-use Rattle.act.specs.Counts.{maxWords, rowLanes, outsideAt, allInside, wordsTests}
+use Rattle.model.proofs.Firsts.{first-before}
+use Rattle.model.proofs.BuildLaws.{passed, both, equal-passed, lent-passed, counted-passed}
+use Rattle.act.specs.Counts.{maxWords, rowLanes, outsideAt, allInside, wordsTests, AllInside}
 
 module _ (m : Model) (t : Tables) (lanes : List ℕ) (h j k : ℕ) where
   abbrev tests : Answer
@@ -75,3 +78,32 @@ module _ (m : Model) (t : Tables) (lanes : List ℕ) (h j k : ℕ) where
 pub outside-at : (lanes : List ℕ) (n k : ℕ) {w : Word} {b : Bool} → w ≡ getD (Flat.words lanes) k identity → b ≡ reaches w n → b ≡ outsideAt lanes n k
 unfolding outsideAt
 outside-at lanes n k e f = f ∙ ap (λ (v : Word). reaches v n) e
+
+-- ---- what is known where all tests are passed
+pub record Passed (m : Model) (t : Tables) (lanes : List ℕ) (h j k : ℕ) : Type 0 where
+  pub model : testModel m t ≡ Accepted
+  pub h-long : rowLanes * m .qubits ≤ h
+  pub j-long : rowLanes * m .qubits ≤ j
+  pub mask-long : rowLanes ≤ k
+  pub inside : AllInside lanes (m .qubits)
+
+pub words-passed : (m : Model) (t : Tables) (lanes : List ℕ) (h j k : ℕ) → wordsTests m t lanes h j k ≡ Accepted → Passed m t lanes h j k
+unfolding wordsTests allInside
+words-passed m t lanes h j k e =
+    let words : ℕ = length lanes / 4 in
+    let first : ℕ = firstTo words (outsideAt lanes (m .qubits)) in
+    let e0 = both (testModel m t) _ e in
+    let e1 = counted-passed maxWords words _ (e0 .1) in
+    let e2 = equal-passed (words * 4) (length lanes) _ (e1 .1) in
+    let e3 = lent-passed (rowLanes * m .qubits) h _ (e2 .1) in
+    let e4 = lent-passed (rowLanes * m .qubits) j _ (e3 .1) in
+    let e5 = lent-passed rowLanes k _ (e4 .1) in
+    let e6 = passed (ltb first words) (WordOutsideRegister first) _ (e5 .1) in
+    let l = ltb-false first words (e6 .0) in
+    record {
+      model = e0 .0;
+      h-long = e3 .0;
+      j-long = e4 .0;
+      mask-long = e5 .0;
+      inside = λ i a. first-before words (outsideAt lanes (m .qubits)) i (omega arith);
+    }

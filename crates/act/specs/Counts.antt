@@ -108,6 +108,5 @@ module _ (hIndex jIndex mask workWords : List ℕ) (workSums : List Float) where
       (zeroed (mostPlaces (sumPlaces workWords workSums) (touchedBy m t) (listedBy m t) (words lanes)))
 
 -- every word has its letters below n
-pub record AllInside (lanes : List ℕ) (n : ℕ) : Type 0 where
-  pub four : length lanes ≡ 4 * (length lanes / 4)
-  pub inside : (k : ℕ) → k < length lanes / 4 → outsideAt lanes n k ≡ false
+abbrev pub AllInside : List ℕ → ℕ → Type 0
+AllInside lanes n = (k : ℕ) → k < length lanes / 4 → outsideAt lanes n k ≡ false

@@ -23,7 +23,7 @@ returns c =
 put-rules-requires : tie.Need-put-rules-requires
 put-rules-requires c κs =
     let s = c .before .before .before .before .before .before .before .before .before .before .before .before .before .before .before in
-    (empty-room _ (s .args .work-words .now) (s .args .work-sums .now) (c .before .before .smaller .ensures), s .pre)
+    (empty-room _ (s .args .work-words .now) (s .args .work-sums .now) (omega (arith, c .before .before .smaller .ensures)) (omega (arith, c .before .before .smaller .ensures)), s .pre)
 
 returns-2 : tie.Need-returns-2
 returns-2 c =
@@ -42,7 +42,7 @@ count-listed-requires c κs =
     let a = s .args in
     let t : Tables = tables (a .h-words .now) (a .h-coeffs .now) (a .jumps .now) (a .rates .now) (a .t-words .now) (a .t-numbers .now) in
     let q = c .before .before .before .before .before .before .before .before .before .put-rules in
-    sums-inside (a .m) t (a .p) _ (a .work-words .now) (a .work-sums .now) _ _ _ (q .ensures) _ (c .before .before .before .added .given .1) (q .kept .0) (q .kept .1 .0) (c .before .before .before .before .before .before .before .before .before .before .before .before .smaller .ensures)
+    sums-inside (a .m) t (a .p) _ (a .work-words .now) (a .work-sums .now) _ _ _ (q .ensures) _ (c .before .before .before .added .given .1) (q .kept .0) (q .kept .1 .0) (omega (arith, c .before .before .before .before .before .before .before .before .before .before .before .before .smaller .ensures)) (omega (arith, c .before .before .before .before .before .before .before .before .before .before .before .before .smaller .ensures))
 
 returns-3 : tie.Need-returns-3
 returns-3 c =
@@ -65,7 +65,7 @@ list-sums-requires c κs =
     let a = s .args in
     let t : Tables = tables (a .h-words .now) (a .h-coeffs .now) (a .jumps .now) (a .rates .now) (a .t-words .now) (a .t-numbers .now) in
     let q = c .before .before .before .before .before .before .before .before .before .before .before .before .before .before .before .before .put-rules in
-    list-room (a .m) t (a .p) _ (a .work-words .now) (a .work-sums .now) _ _ _ (q .ensures) _ (c .before .before .before .before .before .before .before .before .before .before .added .given .1) (q .kept .0) (q .kept .1 .0) (c .before .before .before .before .before .before .before .before .before .before .before .before .before .before .before .before .before .before .before .smaller .ensures)
+    list-room (a .m) t (a .p) _ (a .work-words .now) (a .work-sums .now) _ _ _ (q .ensures) _ (c .before .before .before .before .before .before .before .before .before .before .added .given .1) (q .kept .0) (q .kept .1 .0) (omega (arith, c .before .before .before .before .before .before .before .before .before .before .before .before .before .before .before .before .before .before .before .smaller .ensures)) (omega (arith, c .before .before .before .before .before .before .before .before .before .before .before .before .before .before .before .before .before .before .before .smaller .ensures))
     (a .out-words .now) (a .out-values .now) _ _ (c .before .before .before .before .before .before .count-listed .ensures) (c .before .before .before .before .before .smaller2 .ensures) (c .before .before .before .before .if2 .left)
 
 returns-4 : tie.Need-returns-4
