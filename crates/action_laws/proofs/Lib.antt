@@ -24,3 +24,4 @@ pub mod ReachedNothing
 pub mod ReachedNear
 pub mod ReachedMade
 pub mod ReachedListed
+pub mod FiniteSums
