@@ -19,6 +19,9 @@ pub mod WholeMatrices
 pub mod WholeAction
 pub mod WholeListed
 pub mod MadeExact
+pub mod Runs
 pub mod ReachedNothing
 pub mod ReachedNear
+pub mod ReachedMade
 pub mod ReachedListed
+pub mod FiniteSums
