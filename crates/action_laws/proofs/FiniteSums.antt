@@ -43,7 +43,7 @@ use Rattle.model_laws.proofs.StandsLaws.{tested-stands}
 use Rattle.model_laws.proofs.TestedNumbers.{real-size, term-size, given-size, pauli-size, general-size}
 use Rattle.model_laws.proofs.ActionBounds.{sandwich-value, product-value, factor-value, twice-value, diagonal-value, both-value, sums-finite}
 use Rattle.model_laws.proofs.RuleBounds.{Small, Added, none, append, choose, pairs, gather, signed-small, factored-small, clash-small, terms-small}
-use Rattle.action.specs.Adds.{upTo, realAt, realsIn, jumpsIn, op, sandwich, dampen, folded, doubled, eachFactor, diagonal, bothSides, oneSide, jumpAdds, pairAdds, gatherJumps, rulesStored}
+use Rattle.rules.specs.Adds.{upTo, realAt, realsIn, jumpsIn, op, sandwich, dampen, folded, doubled, eachFactor, diagonal, bothSides, oneSide, jumpAdds, pairAdds, gatherJumps, rulesStored}
 use Rattle.action_laws.proofs.Runs.{every-up, every-first, every-rest}
 
 -- ---- lists of what is added

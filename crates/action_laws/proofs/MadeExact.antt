@@ -16,7 +16,7 @@ use Rattle.gksl.specs.Words.{pauli}
 use Rattle.model.specs.Stored.{Tables}
 use Rattle.model.specs.Given.{Term}
 use Rattle.model.specs.declared.tables.Model.{Model}
-use Rattle.act.specs.Acts.{listed, sumsOf, actionOf}
+use Rattle.action.specs.Acts.{listed, sumsOf, actionOf}
 use Rattle.action_laws.specs.Made.{Made}
 use Rattle.action_laws.specs.WholeModel.{WholeModel}
 use Rattle.action_laws.specs.Exact.{ListsGenerator}

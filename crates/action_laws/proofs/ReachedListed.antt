@@ -17,7 +17,7 @@ use Rattle.model.specs.Tested.{testModel}
 use Rattle.model.specs.declared.tables.Model.{Model}
 use Rattle.model_laws.specs.Every.{Every}
 use Rattle.model_laws.proofs.RuleBounds.{every-without}
-use Rattle.act.specs.Acts.{sumsOf, actionOf}
+use Rattle.action.specs.Acts.{sumsOf, actionOf}
 use Rattle.action_laws.proofs.ReachedNothing.{identity-nothing}
 use Rattle.action_laws.proofs.ReachedNear.{sums-near}
 

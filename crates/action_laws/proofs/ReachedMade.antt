@@ -20,7 +20,7 @@ use Rattle.model.specs.Stored.{Tables}
 use Rattle.model.specs.declared.tables.Model.{Model}
 use Rattle.model_laws.specs.Every.{Every}
 use Rattle.model_laws.proofs.RuleBounds.{every-without}
-use Rattle.action.specs.Adds.{rulesStored}
+use Rattle.rules.specs.Adds.{rulesStored}
 use Rattle.action_laws.specs.Made.{Made}
 use Rattle.action_laws.specs.Untouched.{Clear, Untouched}
 use Rattle.action_laws.proofs.MadeRules.{made-rules}

@@ -40,7 +40,7 @@ use Rattle.model_laws.specs.Every.{Every}
 use Rattle.model_laws.proofs.Lists.{every-weaken, every-append, every-map}
 use Rattle.model_laws.proofs.JumpTests.{both}
 use Rattle.model_laws.proofs.StandsLaws.{tested-stands}
-use Rattle.action.specs.Adds.{upTo, realAt, realsIn, jumpsIn, op, sandwich, dampen, folded, doubled, eachFactor, diagonal, bothSides, oneSide, jumpAdds, pairAdds, gatherJumps, rulesStored}
+use Rattle.rules.specs.Adds.{upTo, realAt, realsIn, jumpsIn, op, sandwich, dampen, folded, doubled, eachFactor, diagonal, bothSides, oneSide, jumpAdds, pairAdds, gatherJumps, rulesStored}
 use Rattle.action_laws.specs.Untouched.{Clear}
 use Rattle.action_laws.proofs.Runs.{every-up, every-first, every-within, every-rest}
 

@@ -4,8 +4,8 @@
 -- What builders and actions answer and leave in the lent tables, part by part. Assumes nothing.
 use mathlib.Core.Path.{_≡_, ap, _∙_}
 use Rattle.model.specs.Built.{Building}
-use Rattle.act.specs.Acts.{Acting}
-use Rattle.act.specs.Counts.{Counting}
+use Rattle.action.specs.Acts.{Acting}
+use Rattle.action.specs.Counts.{Counting}
 use Rattle.pebblelinen.specs.Models.{builtOf, Leaves}
 use Rattle.pebblelinen.specs.Actions.{listedOf, LeavesList, countedOf, LeavesCount}
 use Rattle.pebblelinen.specs.declared.actions.ListedWords.{ListedWords}

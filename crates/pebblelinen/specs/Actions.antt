@@ -8,12 +8,12 @@ use mathlib.Core.List.{List}
 use lib.Ieee.{Float}
 use Rattle.refusal.specs.Cause.{statusOf, answerStatus}
 use Rattle.refusal.specs.declared.Answer.the-variants.{Accepted}
-use Rattle.act.specs.Acts.{Acting}
-use Rattle.act.specs.Counts.{Counting}
-use Rattle.act.specs.declared.act.Acted.{Acted}
-use Rattle.act.specs.declared.act.Acted.the-variants.{Listed, Refused}
-use Rattle.act.specs.declared.count.Counted.{Counted}
-use Rattle.act.specs.declared.count.Counted.the-variants as Counts
+use Rattle.action.specs.Acts.{Acting}
+use Rattle.action.specs.Counts.{Counting}
+use Rattle.action.specs.declared.act.Acted.{Acted}
+use Rattle.action.specs.declared.act.Acted.the-variants.{Listed, Refused}
+use Rattle.action.specs.declared.count.Counted.{Counted}
+use Rattle.action.specs.declared.count.Counted.the-variants as Counts
 use Rattle.pebblelinen.specs.declared.actions.ListedWords.{ListedWords}
 use Rattle.pebblelinen.specs.declared.actions.CountedPlaces.{CountedPlaces}
 

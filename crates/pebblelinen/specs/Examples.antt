@@ -24,7 +24,7 @@ use Rattle.gksl.specs.Rules.{actionOver}
 use Rattle.gksl.specs.Words.{pauli}
 use Rattle.model.specs.Stored.{Tables}
 use Rattle.model.specs.declared.tables.Model.{Model}
-use Rattle.act.specs.Acts.{actionOf}
+use Rattle.action.specs.Acts.{actionOf}
 
 -- the bytes of the letters
 abbrev I : ℕ

@@ -3,11 +3,11 @@
 
 // The action of a lent model on words.
 ghost use mathlib.Core.Path.{_≡_};
-ghost use Rattle.act.specs.Acts.{act};
-ghost use Rattle.act.specs.Counts.{countPlaces};
+ghost use Rattle.action.specs.Acts.{act};
+ghost use Rattle.action.specs.Counts.{countPlaces};
 ghost use Rattle.pebblelinen.specs.Actions.{listedOf, LeavesList, countedOf, LeavesCount};
-use act::act::Acted;
-use act::count::Counted;
+use action::act::Acted;
+use action::count::Counted;
 use model::tables::Model;
 use refusal::Refusal;
 use refusal::Status;
@@ -56,7 +56,7 @@ pub extern "C" fn pebblelinen_compute_action_terms(
 ) -> ListedWords
     ensures { λ r. ⌜ LeavesList (act (now («out_words» .entry)) (now («out_values» .entry)) (now («work_words» .entry)) (now («work_sums» .entry)) model (record { hWords = now («h_words» .entry); hCoeffs = now («h_coeffs» .entry); jumps = now (jumps .entry); rates = now (rates .entry); tWords = now («t_words» .entry); tNumbers = now («t_numbers» .entry) }) p) r (now («out_words» .exit)) (now («out_values» .exit)) (now («work_words» .exit)) (now («work_sums» .exit)) ⌝ }
 {
-    listed_of(act::act::compute_action_terms(
+    listed_of(action::act::compute_action_terms(
         model,
         h_words,
         h_coeffs,
@@ -119,7 +119,7 @@ pub extern "C" fn pebblelinen_count_action_terms(
 ) -> CountedPlaces
     ensures { λ r. ⌜ LeavesCount (countPlaces (now («h_index» .entry)) (now («j_index» .entry)) (now (mask .entry)) (now («work_words» .entry)) (now («work_sums» .entry)) model (record { hWords = now («h_words» .entry); hCoeffs = now («h_coeffs» .entry); jumps = now (jumps .entry); rates = now (rates .entry); tWords = now («t_words» .entry); tNumbers = now («t_numbers» .entry) }) (now (words .entry))) r (now («h_index» .exit)) (now («j_index» .exit)) (now (mask .exit)) (now («work_words» .exit)) (now («work_sums» .exit)) ⌝ }
 {
-    counted_of(act::count::count_action_terms(
+    counted_of(action::count::count_action_terms(
         model,
         h_words,
         h_coeffs,
