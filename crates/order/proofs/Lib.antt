@@ -2,3 +2,7 @@
 -- SPDX-License-Identifier: Apache-2.0
 
 -- Laws of this crate.
+pub mod Members
+pub mod Fuel
+pub mod Runs
+pub mod Halves

@@ -2,3 +2,5 @@
 -- SPDX-License-Identifier: Apache-2.0
 
 -- Ordering positions.
+pub mod Merge
+pub mod Magnitudes
