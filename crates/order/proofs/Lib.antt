@@ -6,3 +6,7 @@ pub mod Members
 pub mod Fuel
 pub mod Runs
 pub mod Halves
+pub mod CountLaws
+pub mod OrderLaws
+pub mod StableLaws
+pub mod RankLaws
