@@ -10,3 +10,4 @@ pub mod CountLaws
 pub mod OrderLaws
 pub mod StableLaws
 pub mod RankLaws
+pub mod MagnitudeLaws
