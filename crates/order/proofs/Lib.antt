@@ -11,3 +11,4 @@ pub mod OrderLaws
 pub mod StableLaws
 pub mod RankLaws
 pub mod MagnitudeLaws
+pub mod PlaceLaws

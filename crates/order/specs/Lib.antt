@@ -4,3 +4,4 @@
 -- Ordering positions.
 pub mod Merge
 pub mod Magnitudes
+pub mod Places
