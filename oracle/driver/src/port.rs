@@ -6,6 +6,7 @@
 //! The structs and functions are those of `include/pebblelinen.h`, in its order. Nothing checks
 //! one against the other, so change both together. All sides of the driver answer in these structs.
 
+pub mod actions;
 pub mod matrices;
 pub mod models;
 
