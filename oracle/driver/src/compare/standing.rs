@@ -9,8 +9,7 @@ use crate::inputs::models::{self as inputs, Items};
 use crate::port::Status;
 use crate::port::matrices::add_kossakowski;
 use crate::port::models::{Lent, Model, Sizes, build_model, matrix_sizes, model_sizes};
-use crate::published::matrices::RustMatrix;
-use crate::published::models::{RustItems, RustModel};
+use crate::published::{self, models::RustModel};
 use crate::rules;
 use crate::rules::models::Magnitudes;
 
@@ -58,11 +57,7 @@ impl Standing {
     /// The same model in the Rust, where it can be asked.
     pub fn rust(&self) -> Option<RustModel> {
         let (items, matrices) = self.made_of.as_ref()?;
-        let mut model = RustItems::new(items)?.build().ok()?;
-        for matrix in matrices {
-            RustMatrix::new(matrix)?.add(&mut model).ok()?;
-        }
-        Some(model)
+        published::matrices::model(items, matrices)
     }
 
     /// The same by the rules with a hypot for each square, as the Rust has it.

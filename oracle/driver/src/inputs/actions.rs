@@ -205,6 +205,27 @@ pub fn model(rng: &mut Rng) -> (Items, Vec<Matrix>) {
     (items, matrices)
 }
 
+/// A matrix over a few operators, and its register.
+pub fn matrix(rng: &mut Rng) -> (usize, Matrix) {
+    let style = Style::new(rng);
+    (style.n_qubits, style.matrix(rng))
+}
+
+/// Many items on a few qubits.
+pub fn crowded(rng: &mut Rng) -> Items {
+    let style = Style {
+        n_qubits: 3 + rng.below(3),
+        ..Style::new(rng)
+    };
+    let hamiltonian = (0..8).flat_map(|_| style.hamiltonian(rng)).collect();
+    let jumps = (0..4).flat_map(|case| style.jumps(rng, case % 2 == 0));
+    Items {
+        n_qubits: style.n_qubits,
+        jumps: jumps.collect(),
+        hamiltonian,
+    }
+}
+
 /// The texts of a model, without `_`.
 fn texts(items: &Items, matrices: &[Matrix]) -> Vec<Vec<u8>> {
     let reals = items.hamiltonian.iter().map(|(text, _)| text);
