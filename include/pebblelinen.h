@@ -341,6 +341,45 @@ pebblelinen_listed pebblelinen_compute_action_terms(
     double *work_sums, size_t work_sums_len, uint64_t *out_words, size_t out_words_len,
     double *out_values, size_t out_values_len);
 
+/* The places that actions of a model on many words need. Where the status is a refusal, the counts
+ * are 0. */
+typedef struct {
+    pebblelinen_status status;
+    size_t touched;
+    size_t listed;
+} pebblelinen_counted;
+
+/* The most words of one list (4 lanes each). */
+#define PEBBLELINEN_MAX_WORDS 65536
+
+/* Acts on each word of a list, and counts: `touched` is the most words that the action of one of them
+ * touches, words whose sum is 0 among them, and `listed` the most that one lists. So work tables of
+ * `touched` places and out tables of `listed` places are enough for pebblelinen_compute_action_terms
+ * on each of them.
+ *
+ * The model is tested once. An index, made once in h_index and j_index, tells for each qubit which
+ * Hamiltonian terms and which jumps and pairs have a letter there; each action then visits only the
+ * items that share a qubit with its word. h_index and j_index are of 64 lanes for each qubit, mask of
+ * 64 lanes. Where the call was accepted, all five work tables are all zero; what they held before
+ * makes no difference. Refusals, in this order:
+ *
+ *       those of pebblelinen_test_model for the model
+ *    8  (count): more than 65,536 words
+ *    9  (lanes of whole words, lanes) where the last word is cut off; then (64 for each qubit, lanes
+ *       lent) for h_index and j_index, and (64, lanes lent) for mask
+ *   11  (position): the first word with a letter at or above the register
+ *   13  (1, places lent): work_words and work_sums have fewer places than one of the actions touches
+ *       words
+ *
+ * A refusal changes nothing that was lent, but for 13, after which the work tables are all zero. */
+pebblelinen_counted pebblelinen_count_action_terms(
+    pebblelinen_model model, const uint64_t *h_words, size_t h_words_len, const double *h_coeffs,
+    size_t h_coeffs_len, const uint64_t *jumps, size_t jumps_len, const double *rates,
+    size_t rates_len, const uint64_t *t_words, size_t t_words_len, const double *t_numbers,
+    size_t t_numbers_len, const uint64_t *words, size_t words_len, uint64_t *h_index,
+    size_t h_index_len, uint64_t *j_index, size_t j_index_len, uint64_t *mask, size_t mask_len,
+    uint64_t *work_words, size_t work_words_len, double *work_sums, size_t work_sums_len);
+
 #ifdef __cplusplus
 }
 #endif

@@ -2,12 +2,7 @@
 -- SPDX-License-Identifier: Apache-2.0
 
 -- Laws of this crate.
-pub mod AddLaws
-pub mod GatherLaws
-pub mod GeneralLaws
-pub mod ItemLaws
-pub mod PairAdds
-pub mod PairFactors
-pub mod PairItems
-pub mod PutsLaws
-pub mod RuleLaws
+pub mod ActLaws
+pub mod CountLaws
+pub mod ListLaws
+pub mod WordsLaws

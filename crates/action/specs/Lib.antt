@@ -1,7 +1,6 @@
 -- SPDX-FileCopyrightText: 2026 The PPVM Authors
 -- SPDX-License-Identifier: Apache-2.0
 
--- The action of a model on a word.
-pub mod Adds
-pub mod Steps
-pub mod Sums
+-- The action of a lent model on a word: what is listed, refused and left in the lent tables.
+pub mod Acts
+pub mod Counts

@@ -1,10 +1,8 @@
 // SPDX-FileCopyrightText: 2026 The PPVM Authors
 // SPDX-License-Identifier: Apache-2.0
 
-// The action of a model on a word: what each stored item adds, onto sums in word order.
-pub mod accumulate;
-pub mod general;
-pub mod items;
-pub mod pair;
-pub mod pairs;
-pub mod rules;
+// The action of a lent model on a word, with its tests and its list.
+pub mod act;
+pub mod count;
+pub mod list;
+pub mod words;

@@ -38,7 +38,7 @@ use Rattle.model_laws.proofs.Lists.{every-map}
 use Rattle.model_laws.proofs.LaidLaws.{set-other, set-here, words-other, words-here, entries-other, entries-here, jump-same}
 use Rattle.model_laws.proofs.JumpTests.{both}
 use Rattle.model_laws.proofs.CompiledLaws.{entries-length}
-use Rattle.action.specs.Adds.{upTo, realAt, realsIn, jumpsIn, jumpAdds, pairAdds, gatherJumps}
+use Rattle.rules.specs.Adds.{upTo, realAt, realsIn, jumpsIn, jumpAdds, pairAdds, gatherJumps}
 use Rattle.action_laws.proofs.LaidTerms.{terms-kept, word-kept}
 
 -- ---- a list by its places

@@ -23,7 +23,7 @@ use Rattle.model.specs.Given.{Term}
 use Rattle.model.specs.Compiled.{Compiled, compileJump, pauliJump, generalJump}
 use Rattle.model.specs.Built.{termsOf}
 use Rattle.model.specs.declared.tables.Jump.{Jump}
-use Rattle.action.specs.Adds.{sandwich, dampen, jumpAdds, pairAdds, gatherJumps}
+use Rattle.rules.specs.Adds.{sandwich, dampen, jumpAdds, pairAdds, gatherJumps}
 use Rattle.action_laws.proofs.LaidTerms.{Holds, holds-left, holds-right, holds-part, holds-word}
 use Rattle.action_laws.proofs.ExtendedItems.{jumpsFrom}
 

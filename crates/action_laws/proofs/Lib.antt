@@ -18,5 +18,10 @@ pub mod WholeRules
 pub mod WholeMatrices
 pub mod WholeAction
 pub mod WholeListed
+pub mod MadeExact
+pub mod Runs
 pub mod ReachedNothing
 pub mod ReachedNear
+pub mod ReachedMade
+pub mod ReachedListed
+pub mod FiniteSums

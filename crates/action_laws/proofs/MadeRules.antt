@@ -43,7 +43,7 @@ use Rattle.model_laws.proofs.ReadItems.{JumpGood, real-read, jump-read, each-ev
 use Rattle.model_laws.proofs.CompiledLaws.{TermGood, CompiledGood, compiled-good, entries-length, terms-good, entries-good}
 use Rattle.model_laws.proofs.BuiltLaws.{empty, built-passes}
 use Rattle.model_laws.proofs.AddedLaws.{added-passes}
-use Rattle.action.specs.Adds.{upTo, realsIn, jumpsIn, jumpAdds, pairAdds, gatherJumps, rulesStored}
+use Rattle.rules.specs.Adds.{upTo, realsIn, jumpsIn, jumpAdds, pairAdds, gatherJumps, rulesStored}
 use Rattle.action_laws.specs.Made.{Made, built, added, withMatrix}
 use Rattle.action_laws.proofs.LaidTerms.{holds-left, holds-right, laid-holds}
 use Rattle.action_laws.proofs.ExtendedItems.{Laying, jumpsFrom, reals-read, jumps-read, gathered-both, jumps-stay, pairs-stay}

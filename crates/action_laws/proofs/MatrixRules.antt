@@ -34,7 +34,7 @@ use Rattle.model_laws.specs.Every.{Every}
 use Rattle.model_laws.proofs.Lists.{every-both, every-weaken}
 use Rattle.model_laws.proofs.JumpTests.{both}
 use Rattle.model_laws.proofs.PairsGood.{passing-below}
-use Rattle.action.specs.Adds.{upTo, jumpAdds, pairAdds, gatherJumps}
+use Rattle.rules.specs.Adds.{upTo, jumpAdds, pairAdds, gatherJumps}
 use Rattle.action_laws.proofs.LaidTerms.{Holds, holds-left, holds-right, holds-part}
 use Rattle.action_laws.proofs.ExtendedItems.{upTo-parted, jumpsFrom}
 use Rattle.action_laws.proofs.JumpRules.{jumpOf}

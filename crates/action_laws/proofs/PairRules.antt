@@ -24,7 +24,7 @@ use Rattle.model.specs.Given.{Term}
 use Rattle.model.specs.declared.tables.Range.{Range}
 use Rattle.kossakowski.specs.Pairs.{factorOf, factorsOf, scaled, productAfter, compilePair}
 use Rattle.model_laws.proofs.RelatedLaws.{pairs-length}
-use Rattle.action.specs.Adds.{folded, doubled, eachFactor, diagonal, bothSides, oneSide, jumpAdds, pairAdds}
+use Rattle.rules.specs.Adds.{folded, doubled, eachFactor, diagonal, bothSides, oneSide, jumpAdds, pairAdds}
 use Rattle.action_laws.proofs.LaidTerms.{Holds, holds-left, holds-right, holds-part}
 use Rattle.action_laws.proofs.JumpRules.{jumpOf}
 

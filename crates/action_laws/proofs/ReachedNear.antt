@@ -40,36 +40,9 @@ use Rattle.model_laws.specs.Every.{Every}
 use Rattle.model_laws.proofs.Lists.{every-weaken, every-append, every-map}
 use Rattle.model_laws.proofs.JumpTests.{both}
 use Rattle.model_laws.proofs.StandsLaws.{tested-stands}
-use Rattle.action.specs.Adds.{upTo, realAt, realsIn, jumpsIn, op, sandwich, dampen, folded, doubled, eachFactor, diagonal, bothSides, oneSide, jumpAdds, pairAdds, gatherJumps, rulesStored}
-
--- ---- lists
-every-up : (P : ℕ → Type 0) (k n : ℕ) → ((i : ℕ) → k ≤ i → i < k + n → P i) → Every P (upTo k n)
-unfolding upTo
-every-up P k zero h = tt
-every-up P k (suc n) h = (h k (omega arith) (omega arith), every-up P (suc k) n (λ i l u. h i (omega arith) (omega arith)))
-
-module _ {A : Type 0} (P : A → Type 0) where
-  every-take : (n m : ℕ) (l : List A) → n ≤ m → Every P (take m l) → Every P (take n l)
-  every-take zero m l h e = tt
-  every-take (suc n) m [] h e = tt
-  every-take (suc n) zero (a ∷ l) h e = absurd (omega arith)
-  every-take (suc n) (suc m) (a ∷ l) h e = (e .0, every-take n m l (omega arith) (e .1))
-
-  every-first : (n : ℕ) (l : List A) → Every P l → Every P (take n l)
-  every-first zero l e = tt
-  every-first (suc n) [] e = tt
-  every-first (suc n) (a ∷ l) e = (e .0, every-first n l (e .1))
-
-  every-within : (s n m : ℕ) (l : List A) → s + n ≤ m → Every P (take m l) → Every P (take n (drop s l))
-  every-within zero n m l h e = every-take n m l (omega arith) e
-  every-within (suc s) n m [] h e = every-first n [] tt
-  every-within (suc s) n zero (a ∷ l) h e = absurd (omega arith)
-  every-within (suc s) n (suc m) (a ∷ l) h e = every-within s n m l (omega arith) (e .1)
-
-  every-rest : (n : ℕ) (l : List A) → Every P l → Every P (drop n l)
-  every-rest zero l e = e
-  every-rest (suc n) [] e = tt
-  every-rest (suc n) (a ∷ l) e = every-rest n l (e .1)
+use Rattle.rules.specs.Adds.{upTo, realAt, realsIn, jumpsIn, op, sandwich, dampen, folded, doubled, eachFactor, diagonal, bothSides, oneSide, jumpAdds, pairAdds, gatherJumps, rulesStored}
+use Rattle.action_laws.specs.Untouched.{Clear}
+use Rattle.action_laws.proofs.Runs.{every-up, every-first, every-within, every-rest}
 
 -- ---- I times a letter
 letter-one : (l : ℕ) → l < 4 → mulLetter 0 l ≡ l
@@ -81,126 +54,123 @@ letter-one (suc (suc (suc zero))) h = refl
 letter-one (suc (suc (suc (suc l)))) h = absurd (omega arith)
 
 -- words with the letter l at q
-record Near (q l : ℕ) (A : List Term) : Type 0 where
-  each : Every (λ c. letterAt (c .word) q ≡ l) A
+pub record Near (q l : ℕ) (A : List Term) : Type 0 where
+  pub each : Every (λ c. letterAt (c .word) q ≡ l) A
 
-none : {q l : ℕ} → Near q l []
+pub none : {q l : ℕ} → Near q l []
 none = record { each = tt }
 
 one : {q l : ℕ} {c : Term} → letterAt (c .word) q ≡ l → Near q l (c ∷ [])
 one h = record { each = (h, tt) }
 
-append : {q l : ℕ} {A B : List Term} → Near q l A → Near q l B → Near q l (A ++ B)
+pub append : {q l : ℕ} {A B : List Term} → Near q l A → Near q l B → Near q l (A ++ B)
 append {q} {l} {A} {B} h k = record { each = every-append (λ c. letterAt (c .word) q ≡ l) A B (h .each) (k .each) }
 
-choose : {q l : ℕ} (b : Bool) {A B : List Term} → Near q l A → Near q l B → Near q l (cond b A B)
+pub choose : {q l : ℕ} (b : Bool) {A B : List Term} → Near q l A → Near q l B → Near q l (cond b A B)
 choose true h k = h
 choose false h k = k
 
 module _ (q : ℕ) (low : q < maxQubits) (p : Word) where
-  abbrev Clear : Term → Type 0
-  Clear a = letterAt (a .word) q ≡ 0
-
   -- p's letter
   abbrev own : ℕ
   own = letterAt p q
 
-  keeps : (a w : Word) → letterAt a q ≡ 0 → letterAt (mul a w) q ≡ letterAt w q
+  pub keeps : (a w : Word) → letterAt a q ≡ 0 → letterAt (mul a w) q ≡ letterAt w q
   keeps a w h = letter-mul a w q low ∙ ap (λ (l : ℕ). mulLetter l (letterAt w q)) h ∙ letter-one (letterAt w q) (word-letter-lt w q)
 
-  through-near : (a b : Word) → letterAt a q ≡ 0 → letterAt b q ≡ 0 → letterAt (onto pauli a p b) q ≡ own
+  pub through-near : (a b : Word) → letterAt a q ≡ 0 → letterAt b q ≡ 0 → letterAt (onto pauli a p b) q ≡ own
   through-near a b h k = ap (λ (w : Word). letterAt w q) (mul-comm (mul a p) b) ∙ keeps b (mul a p) k ∙ keeps a p h
 
   -- ---- lists of what is added
-  map-near : (f : Term → Term) → ((c : Term) → Clear c → letterAt (f c .word) q ≡ own) → (A : List Term) → Every Clear A → Near q own (map f A)
-  map-near f make A h = record { each = every-map (λ c. letterAt (c .word) q ≡ own) f A (every-weaken Clear (λ c. letterAt (f c .word) q ≡ own) make A h) }
+  map-near : {l : ℕ} (f : Term → Term) → ((c : Term) → Clear q c → letterAt (f c .word) q ≡ l) → (A : List Term) → Every (Clear q) A → Near q l (map f A)
+  map-near {l} f make A h = record { each = every-map (λ c. letterAt (c .word) q ≡ l) f A (every-weaken (Clear q) (λ c. letterAt (f c .word) q ≡ l) make A h) }
 
-  pairs-near : (f : Term → Term → Term) → ((a b : Term) → Clear a → Clear b → letterAt (f a b .word) q ≡ own) → (A B : List Term) → Every Clear A → Every Clear B → Near q own (pairsOver floats pauli f A B)
+  pub pairs-near : {l : ℕ} (f : Term → Term → Term) → ((a b : Term) → Clear q a → Clear q b → letterAt (f a b .word) q ≡ l) → (A B : List Term) → Every (Clear q) A → Every (Clear q) B → Near q l (pairsOver floats pauli f A B)
   unfolding pairsOver
   pairs-near f make [] B h k = none
   pairs-near f make (a ∷ A) B h k = append (map-near (f a) (λ b l. make a b (h .0) l) B k) (pairs-near f make A B (h .1) k)
 
-  gather-near : (f : Term → List Term) → ((c : Term) → Clear c → Near q own (f c)) → (M : List Term) → Every Clear M → Near q own (gatherOver floats pauli f M)
+  pub gather-near : (f : Term → List Term) → ((c : Term) → Clear q c → Near q own (f c)) → (M : List Term) → Every (Clear q) M → Near q own (gatherOver floats pauli f M)
   unfolding gatherOver
   gather-near f make [] h = none
   gather-near f make (c ∷ M) h = append (make c (h .0)) (gather-near f make M (h .1))
 
   -- each left term with its own factors
-  factors-near : (f : Word → Term → Term) → ((a : Word) (c : Term) → letterAt a q ≡ 0 → Clear c → letterAt (f a c .word) q ≡ own) → (n : ℕ) (A F : List Term) → Every Clear A → Every Clear F
+  factors-near : (f : Word → Term → Term) → ((a : Word) (c : Term) → letterAt a q ≡ 0 → Clear q c → letterAt (f a c .word) q ≡ own) → (n : ℕ) (A F : List Term) → Every (Clear q) A → Every (Clear q) F
       → Near q own (eachFactor p f n A F)
   unfolding eachFactor
   factors-near f make n [] F h k = none
   factors-near f make n (a ∷ A) F h k =
-      append (map-near (f (a .word)) (λ c l. make (a .word) c (h .0) l) (take n F) (every-first Clear n F k)) (factors-near f make n A (drop n F) (h .1) (every-rest Clear n F k))
+      append (map-near (f (a .word)) (λ c l. make (a .word) c (h .0) l) (take n F) (every-first (Clear q) n F k)) (factors-near f make n A (drop n F) (h .1) (every-rest (Clear q) n F k))
 
   -- ---- by the phase
-  signed-near : (n : ℕ) (f : Float → Cx floats) (w : Word) → letterAt w q ≡ own → Near q own (signed floats pauli n f w)
+  pub signed-near : (n : ℕ) (f : Float → Cx floats) (w : Word) → letterAt w q ≡ own → Near q own (signed floats pauli n f w)
   unfolding signed
   signed-near zero f w h = one h
   signed-near (suc zero) f w h = none
   signed-near (suc (suc zero)) f w h = one h
   signed-near (suc (suc (suc n))) f w h = none
 
-  factored-near : (n : ℕ) (x : Float) (w : Word) → letterAt w q ≡ own → Near q own (factored floats pauli n x w)
+  pub factored-near : (n : ℕ) (x : Float) (w : Word) → letterAt w q ≡ own → Near q own (factored floats pauli n x w)
   unfolding factored
   factored-near zero x w h = none
   factored-near (suc zero) x w h = one h
   factored-near (suc (suc zero)) x w h = none
   factored-near (suc (suc (suc n))) x w h = one h
 
-  clash-near : (n : ℕ) (g : Float) → Near q own (clashOver floats pauli n g p)
+  pub clash-near : (n : ℕ) (g : Float) → Near q own (clashOver floats pauli n g p)
   unfolding clashOver
   clash-near zero g = none
   clash-near (suc n) g = one refl
 
-  terms-near : (H : List (RealTerm floats pauli)) → Every (λ h. letterAt (h .word) q ≡ 0) H → Near q own (termsOver floats pauli H p)
+  pub terms-near : (H : List (RealTerm floats pauli)) → Every (λ h. letterAt (h .word) q ≡ 0) H → Near q own (termsOver floats pauli H p)
   unfolding termsOver
   terms-near [] h = none
   terms-near (x ∷ H) h = append (choose (pauli .meets (x .word) p) (factored-near _ (x .num) (mul (x .word) p) (keeps (x .word) p (h .0))) none) (terms-near H (h .1))
 
   -- ---- what a stored term adds
-  dampen-near : (g : Float) (c : Term) → Clear c → Near q own (dampen p g c)
+  dampen-near : (g : Float) (c : Term) → Clear q c → Near q own (dampen p g c)
   unfolding dampen
   dampen-near g c h = signed-near _ _ (mul (c .word) p) (keeps (c .word) p h)
 
-  diagonal-near : (c : Term) → Clear c → Near q own (diagonal p c)
+  diagonal-near : (c : Term) → Clear q c → Near q own (diagonal p c)
   unfolding diagonal
   diagonal-near c h = signed-near _ _ (mul (c .word) p) (keeps (c .word) p h)
 
-  both-near : (c : Term) → Clear c → Near q own (bothSides p c)
+  both-near : (c : Term) → Clear q c → Near q own (bothSides p c)
   unfolding bothSides
   both-near c h = choose (floats .slight (c .num .re)) none (signed-near _ _ (mul (c .word) p) (keeps (c .word) p h))
 
-  one-near : (f : Float → Float) (c : Term) → Clear c → Near q own (oneSide p f c)
+  one-near : (f : Float → Float) (c : Term) → Clear q c → Near q own (oneSide p f c)
   unfolding oneSide
   one-near f c h = choose (floats .slight (c .num .im)) none (factored-near _ _ (mul (c .word) p) (keeps (c .word) p h))
 
-  folded-near : (a : Word) (c : Term) → letterAt a q ≡ 0 → Clear c → letterAt (folded p a c .word) q ≡ own
+  folded-near : (a : Word) (c : Term) → letterAt a q ≡ 0 → Clear q c → letterAt (folded p a c .word) q ≡ own
   unfolding folded
   folded-near a c h k = through-near a (c .word) h k
 
-  doubled-near : (a : Word) (c : Term) → letterAt a q ≡ 0 → Clear c → letterAt (doubled p a c .word) q ≡ own
+  doubled-near : (a : Word) (c : Term) → letterAt a q ≡ 0 → Clear q c → letterAt (doubled p a c .word) q ≡ own
   unfolding doubled folded
   doubled-near a c h k = through-near a (c .word) h k
 
-  sandwich-near : (g : Float) (a b : Term) → Clear a → Clear b → letterAt (sandwich p g a b .word) q ≡ own
+  sandwich-near : (g : Float) (a b : Term) → Clear q a → Clear q b → letterAt (sandwich p g a b .word) q ≡ own
   unfolding sandwich
   sandwich-near g a b h k = through-near (a .word) (b .word) h k
 
   -- ---- the items of a model
   module _ (places : ℕ) (t : Tables) (clear : (i : ℕ) → i < places → letterAt (getD (words (t .tWords)) i identity) q ≡ 0) where
-    rows-clear : (n : ℕ) (ws : List Word) (zs : List (Cx floats)) → ((i : ℕ) → i < n → letterAt (getD ws i identity) q ≡ 0) → Every Clear (take n (rows ws zs))
+    rows-clear : (n : ℕ) (ws : List Word) (zs : List (Cx floats)) → ((i : ℕ) → i < n → letterAt (getD ws i identity) q ≡ 0) → Every (Clear q) (take n (rows ws zs))
     unfolding rows
     rows-clear zero ws zs h = tt
     rows-clear (suc n) [] zs h = tt
     rows-clear (suc n) (w ∷ ws) [] h = tt
     rows-clear (suc n) (w ∷ ws) (z ∷ zs) h = (h 0 (omega arith), rows-clear n ws zs (λ i l. h (suc i) (omega arith)))
 
-    places-clear : (s e : ℕ) → s ≤ e → e ≤ places → Every Clear (termsIn (t .tWords) (t .tNumbers) s e)
+    places-clear : (s e : ℕ) → s ≤ e → e ≤ places → Every (Clear q) (termsIn (t .tWords) (t .tNumbers) s e)
     places-clear s e h l =
-        every-within Clear s (e - s) places (rows (words (t .tWords)) (complexes (t .tNumbers))) (omega arith) (rows-clear places (words (t .tWords)) (complexes (t .tNumbers)) clear)
+        every-within (Clear q) s (e - s) places (rows (words (t .tWords)) (complexes (t .tNumbers))) (omega arith) (rows-clear places (words (t .tWords)) (complexes (t .tNumbers)) clear)
 
-    range-clear : (r : Range) → inside places r ≡ true → Every Clear (op p t r)
+    range-clear : (r : Range) → inside places r ≡ true → Every (Clear q) (op p t r)
     range-clear r h = let e = both (leb (r .start) (r .end)) h in places-clear (r .start) (r .end) (leb-true (r .start) (r .end) (e .0)) (leb-true (r .end) places (e .1))
 
     jump-near : (j : Jump) → badJump places j ≡ false → Near q own (jumpAdds p t j)
@@ -209,7 +179,7 @@ module _ (q : ℕ) (low : q < maxQubits) (p : Word) where
     jump-near (General rate terms product) h =
         let e = both (inside places terms) (not-false _ h) in
         let f = both (inside places product) (e .1) in
-        let A : Every Clear (op p t terms) = range-clear terms (e .0) in
+        let A : Every (Clear q) (op p t terms) = range-clear terms (e .0) in
         choose (overlapsOver floats pauli (op p t terms) p)
         (append (pairs-near (sandwich p rate) (sandwich-near rate) (op p t terms) (op p t terms) A A) (gather-near (dampen p rate) (dampen-near rate) (op p t product) (range-clear product (f .0)))) none
     jump-near (Pair left right factors product) h = none
@@ -226,9 +196,9 @@ module _ (q : ℕ) (low : q < maxQubits) (p : Word) where
         let A : List Term = op p t left in
         let M : List Term = op p t product in
         let F : List Term = termsIn (t .tWords) (t .tNumbers) factors (factors + n) in
-        let a : Every Clear A = range-clear left (e .0) in
-        let m : Every Clear M = range-clear product (g .0) in
-        let c : Every Clear F = places-clear factors (factors + n) (omega arith) (leb-true (factors + n) places (g .1)) in
+        let a : Every (Clear q) A = range-clear left (e .0) in
+        let m : Every (Clear q) M = range-clear product (g .0) in
+        let c : Every (Clear q) F = places-clear factors (factors + n) (omega arith) (leb-true (factors + n) places (g .1)) in
         choose (eqb (left .start) (right .start) && eqb (left .end) (right .end))
         (choose (overlapsOver floats pauli A p) (append (factors-near (folded p) folded-near (width right) A F a c) (gather-near (diagonal p) diagonal-near M m)) none)
         (choose (overlapsOver floats pauli A p)
@@ -258,7 +228,7 @@ module _ (q l : ℕ) where
       go false true i = (h, k)
       go false false i = (k .0, i)
 
-  put-all-near : (A T : List Term) → Every Has A → Every Has T → Every Has (putAllOver floats pauli A T)
+  pub put-all-near : (A T : List Term) → Every Has A → Every Has T → Every Has (putAllOver floats pauli A T)
   unfolding putAllOver
   put-all-near [] T h k = k
   put-all-near (c ∷ A) T h k = put-all-near A (putOver floats pauli c T) (h .1) (put-near c T (h .0) k)

@@ -21,7 +21,7 @@ use Rattle.model.specs.Stored.{Tables}
 use Rattle.model.specs.declared.tables.Model.{Model}
 use Rattle.model.specs.declared.tables.Jump.{Jump}
 use Rattle.model.specs.declared.tables.Jump.the-variants.{Pauli, General, Pair}
-use Rattle.action.specs.Adds.{op, realsIn, jumpsIn, jumpAdds, pairAdds, gatherJumps, rulesStored}
+use Rattle.rules.specs.Adds.{op, realsIn, jumpsIn, jumpAdds, pairAdds, gatherJumps, rulesStored}
 
 shares-none : (w : Word) → share w identity ≡ false
 unfolding share

@@ -2,3 +2,6 @@
 -- SPDX-License-Identifier: Apache-2.0
 
 -- Which items share a qubit with a word, the index that finds them, and the order in which they are visited.
+pub mod Index
+pub mod Lanes
+pub mod Visit

@@ -37,31 +37,31 @@ pub record Added (A : List Term) : Type 0 where
   pub each : Every (Small 822) A
 
 -- ---- lists of what is added
-none : Added []
+pub none : Added []
 none = record { each = tt }
 
 one : {z : Cx floats} {w : Word} → AtMostC 822 z → Added (record { num = z; word = w } ∷ [])
 one h = record { each = (h, tt) }
 
-append : {A B : List Term} → Added A → Added B → Added (A ++ B)
+pub append : {A B : List Term} → Added A → Added B → Added (A ++ B)
 append {A} {B} h k = record { each = every-append (Small 822) A B (h .each) (k .each) }
 
-choose : (b : Bool) {A B : List Term} → Added A → Added B → Added (cond b A B)
+pub choose : (b : Bool) {A B : List Term} → Added A → Added B → Added (cond b A B)
 choose true h k = h
 choose false h k = k
 
-pairs : (f : Term → Term → Term) (A B : List Term) → Every (Small 200) A → Every (Small 200) B → ((a b : Term) → Small 200 a → Small 200 b → Small 822 (f a b)) → Added (pairsOver floats pauli f A B)
+pub pairs : (f : Term → Term → Term) (A B : List Term) → Every (Small 200) A → Every (Small 200) B → ((a b : Term) → Small 200 a → Small 200 b → Small 822 (f a b)) → Added (pairsOver floats pauli f A B)
 unfolding pairsOver
 pairs f [] B h k make = none
 pairs f (a ∷ A) B h k make =
     append {A = map (f a) B} (record { each = every-map (Small 822) (f a) B (every-weaken (Small 200) (λ b. Small 822 (f a b)) (λ b q. make a b (h .0) q) B k) }) (pairs f A B (h .1) k make)
 
-gather : (f : Term → List Term) (M : List Term) → Every (Small 410) M → ((c : Term) → Small 410 c → Added (f c)) → Added (gatherOver floats pauli f M)
+pub gather : (k : ℕ) (f : Term → List Term) (M : List Term) → Every (Small k) M → ((c : Term) → Small k c → Added (f c)) → Added (gatherOver floats pauli f M)
 unfolding gatherOver
-gather f [] h make = none
-gather f (c ∷ M) h make = append (make c (h .0)) (gather f M (h .1) make)
+gather k f [] h make = none
+gather k f (c ∷ M) h make = append (make c (h .0)) (gather k f M (h .1) make)
 
-every-without : (P : Term → Type 0) (drop : Term → Bool) (A : List Term) → Every P A → Every P (withoutOver floats pauli drop A)
+pub every-without : (P : Term → Type 0) (drop : Term → Bool) (A : List Term) → Every P A → Every P (withoutOver floats pauli drop A)
 unfolding withoutOver
 every-without P drop [] h = tt
 every-without P drop (a ∷ A) h = go (drop a) (every-without P drop A (h .1))
@@ -70,14 +70,14 @@ every-without P drop (a ∷ A) h = go (drop a) (every-without P drop A (h .1))
     go true k = k
     go false k = (h .0, k)
 
-signed-small : (n : ℕ) (f : Float → Cx floats) (w : Word) → ((s : Float) → AtMost 0 s → AtMostC 822 (f s)) → Added (signed floats pauli n f w)
+pub signed-small : (n : ℕ) (f : Float → Cx floats) (w : Word) → ((s : Float) → AtMost 0 s → AtMostC 822 (f s)) → Added (signed floats pauli n f w)
 unfolding signed
 signed-small zero f w h = one (h (floats .unit) atMost-unit)
 signed-small (suc zero) f w h = none
 signed-small (suc (suc zero)) f w h = one (h (floats .opposite (floats .unit)) sign-minus)
 signed-small (suc (suc (suc n))) f w h = none
 
-factored-small : (n : ℕ) (x : Float) (w : Word) → AtMost 620 x → Added (factored floats pauli n x w)
+pub factored-small : (n : ℕ) (x : Float) (w : Word) → AtMost 620 x → Added (factored floats pauli n x w)
 unfolding factored
 factored-small zero x w h = none
 factored-small (suc zero) x w h = one (factored-value h two-minus)
@@ -93,7 +93,7 @@ formed-small A B a b =
     plain A a = every-weaken (Small 200) (λ z. Unit {0} × AtMostC 200 (z .num)) (λ z s. (tt, s)) A (a .terms)
 
 -- ---- each rule
-terms-small : (H : List (RealTerm floats pauli)) (p : Word) → Every (λ h. AtMost 200 (h .num)) H → Added (termsOver floats pauli H p)
+pub terms-small : (H : List (RealTerm floats pauli)) (p : Word) → Every (λ h. AtMost 200 (h .num)) H → Added (termsOver floats pauli H p)
 unfolding termsOver
 terms-small [] p h = none
 terms-small (x ∷ H) p h = append (choose (pauli .meets (x .word) p) (factored-small _ _ _ (atMost-mono (lit≤ tt) (h .0))) none) (terms-small H p (h .1))
@@ -103,9 +103,9 @@ unfolding generalOver
 general-small g A p h a =
     append
     (pairs _ A A (a .terms) (a .terms) (λ x y q r. sandwich-value _ q r h))
-    (gather _ (formedOver floats pauli A A) (formed-small A A a a) (λ c s. signed-small _ _ _ (λ _ k. product-value (atMostC-mono (lit≤ tt) s) h k)))
+    (gather 410 _ (formedOver floats pauli A A) (formed-small A A a a) (λ c s. signed-small _ _ _ (λ _ k. product-value (atMostC-mono (lit≤ tt) s) h k)))
 
-clash-small : (n : ℕ) (g : Float) (p : Word) → AtMost 620 g → Added (clashOver floats pauli n g p)
+pub clash-small : (n : ℕ) (g : Float) (p : Word) → AtMost 620 g → Added (clashOver floats pauli n g p)
 unfolding clashOver
 clash-small zero g p h = none
 clash-small (suc n) g p h = one (pauli-value two-minus h)
@@ -139,11 +139,11 @@ module _ (k : Cx floats) (h : AtMostC 200 k) where
     both-small =
         append
         (pairs _ A B (a .terms) (b .terms) (λ x y q r. twice-value _ atMost-two (stored-factor q r)))
-        (gather _ (formedOver floats pauli A B) (formed-small A B a b) (λ c s. choose (floats .slight ((mulC floats k (c .num)) .re)) none (signed-small _ _ _ (λ _ t. both-value atMost-two (stored-product s) t))))
+        (gather 410 _ (formedOver floats pauli A B) (formed-small A B a b) (λ c s. choose (floats .slight ((mulC floats k (c .num)) .re)) none (signed-small _ _ _ (λ _ t. both-value atMost-two (stored-product s) t))))
 
     one-small : (f : Float → Float) → ((x : Float) → AtMost 620 x → AtMost 620 (f x)) → Added (oneOver floats pauli f k A B p)
     unfolding oneOver
-    one-small f keeps = gather _ (formedOver floats pauli A B) (formed-small A B a b) (λ c s. choose (floats .slight ((mulC floats k (c .num)) .im)) none (factored-small _ _ _ (keeps _ (stored-product s .im))))
+    one-small f keeps = gather 410 _ (formedOver floats pauli A B) (formed-small A B a b) (λ c s. choose (floats .slight ((mulC floats k (c .num)) .im)) none (factored-small _ _ _ (keeps _ (stored-product s .im))))
 
     pair-small : (big : Float) → Added (pairOver floats pauli big k A B p)
     unfolding pairOver
@@ -160,7 +160,7 @@ module _ (k : Cx floats) (h : AtMostC 200 k) where
       (choose (overlapsOver floats pauli A p)
       (append
       (pairs _ A A (a .terms) (a .terms) (λ x y q r. factor-value _ (stored-factor q r)))
-      (gather _ (formedOver floats pauli A A) (formed-small A A a a) (λ c s. signed-small _ _ _ (λ _ t. diagonal-value (stored-product s) t))))
+      (gather 410 _ (formedOver floats pauli A A) (formed-small A A a a) (λ c s. signed-small _ _ _ (λ _ t. diagonal-value (stored-product s) t))))
       none)
 
 -- ---- a matrix

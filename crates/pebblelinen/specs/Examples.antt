@@ -3,9 +3,11 @@
 
 -- The examples of document 01 that are proved, as one table: what each says of the definitions.
 use Prim.Native.Nat.{ℕ}
-use mathlib.Core.Bool.{Bool, true, _&&_}
+use mathlib.Core.Path.{_≡_}
+use mathlib.Core.Bool.{Bool, true, false, _&&_}
 use mathlib.Core.List.{List, [], _∷_}
 use lib.Dec.{eqb}
+use lib.Ieee.{Float, binary64, ofBits, eq}
 use lib.ListN.{length}
 use Rattle.word.specs.Text.{parse}
 use Rattle.word.specs.Word.{identity, unpack}
@@ -14,8 +16,20 @@ use Rattle.word.specs.Order.{same}
 use Rattle.word.specs.declared.word.Word.{Word}
 use Rattle.word.specs.declared.word.ParsedWord.{ParsedWord}
 use Rattle.word.specs.declared.word.ParsedWord.the-variants.{Parsed, Refused}
+use Rattle.number.specs.Numbers.{Cx}
+use Rattle.number.specs.Floats.{floats, float0, float1}
+use Rattle.gksl.specs.Operator.{Onto}
+use Rattle.gksl.specs.Model.{ModelOver}
+use Rattle.gksl.specs.Rules.{actionOver}
+use Rattle.gksl.specs.Words.{pauli}
+use Rattle.model.specs.Stored.{Tables}
+use Rattle.model.specs.declared.tables.Model.{Model}
+use Rattle.action.specs.Acts.{actionOf}
 
 -- the bytes of the letters
+abbrev I : ℕ
+I = 73
+
 abbrev X : ℕ
 X = 88
 
@@ -25,10 +39,21 @@ Y = 89
 abbrev Z : ℕ
 Z = 90
 
--- an example, with words as texts, qubit 0 first
-pub data Example : Type 0 where
-  -- left · right is a word with a phase
-  product : (left right word : List ℕ) (phase : ℕ) → Example
+-- numbers by their bits: 0.25, 0.5, −0.5, −1 and −2
+abbrev quarter : Float
+quarter = ofBits binary64 0x3fd0_0000_0000_0000
+
+abbrev half : Float
+half = ofBits binary64 0x3fe0_0000_0000_0000
+
+abbrev minusHalf : Float
+minusHalf = ofBits binary64 0xbfe0_0000_0000_0000
+
+abbrev minusOne : Float
+minusOne = ofBits binary64 0xbff0_0000_0000_0000
+
+abbrev minusTwo : Float
+minusTwo = ofBits binary64 0xc000_0000_0000_0000
 
 -- the word of a text of as many letters as it has
 abbrev wordOr : ParsedWord → Word
@@ -38,19 +63,63 @@ wordOr (Refused r) = identity
 abbrev read : List ℕ → Word
 read text = wordOr (parse (length text) text)
 
--- does an example hold
-unfoldable pub holds : Example → Bool
-holds (product left right word k) =
-    same (mul (read left) (read right)) (read word) && eqb (phase (read left) (read right)) k
+abbrev complex : Float → Float → Cx floats
+complex x y = record { re = x; im = y }
 
-unfoldable pub allHold : List Example → Bool
-allHold [] = true
-allHold (e ∷ es) = holds e && allHold es
+abbrev term : Float → Float → List ℕ → Onto floats pauli
+term x y text = record { num = complex x y; word = read text }
 
--- P1 to P4
+-- a word that is listed, with its number
+pub record Entry : Type 0 where
+  pub word : Word
+  pub value : Float
+
+abbrev entry : List ℕ → Float → Entry
+entry text x = record { word = read text; value = x }
+
+-- an example, with words as texts, qubit 0 first
+pub data Example : Type 0 where
+  -- left · right is a word with a phase
+  product : (left right word : List ℕ) (phase : ℕ) → Example
+  -- the action of a model on a word lists these
+  action : (model : ModelOver floats pauli) (word : List ℕ) (listed : List Entry) → Example
+  -- any model on the identity: nothing
+  onIdentity : Example
+
+-- the same words in the same order, with equal numbers
+unfoldable pub lists : List (Onto floats pauli) → List Entry → Bool
+lists [] [] = true
+lists [] (e ∷ es) = false
+lists (c ∷ L) [] = false
+lists (c ∷ L) (e ∷ es) = same (c .word) (e .word) && (eq (c .num .re) (e .value) && lists L es)
+
+-- what an example says
+unfoldable pub Holds : Example → Type 0
+Holds (product left right word k) = (same (mul (read left) (read right)) (read word) && eqb (phase (read left) (read right)) k) ≡ true
+Holds (action model word listed) = lists (actionOver floats pauli model (read word)) listed ≡ true
+Holds onIdentity = (m : Model) (t : Tables) → actionOf m t identity ≡ []
+
+abbrev pub AllHold : List Example → Type 0
+AllHold [] = Unit {0}
+AllHold (e ∷ es) = Holds e × AllHold es
+
+-- P1 to P9
 abbrev pub table : List Example
 table =
     product (X ∷ []) (Z ∷ []) (Y ∷ []) 3 ∷
     product (Z ∷ []) (X ∷ []) (Y ∷ []) 1 ∷
     product (X ∷ []) (Y ∷ []) (Z ∷ []) 1 ∷
-    product (X ∷ X ∷ []) (Z ∷ Z ∷ []) (Y ∷ Y ∷ []) 2 ∷ []
+    product (X ∷ X ∷ []) (Z ∷ Z ∷ []) (Y ∷ Y ∷ []) 2 ∷
+    action (record { terms = record { num = half; word = read (Z ∷ []) } ∷ []; jumps = []; matrices = [] }) (X ∷ []) (entry (Y ∷ []) minusOne ∷ []) ∷
+    action (record { terms = []; jumps = record { rate = quarter; op = term float1 float0 (Z ∷ []) ∷ [] } ∷ []; matrices = [] }) (X ∷ []) (entry (X ∷ []) minusHalf ∷ []) ∷
+    action (record { terms = []; jumps = record { rate = float1; op = term half float0 (X ∷ []) ∷ term float0 half (Y ∷ []) ∷ [] } ∷ []; matrices = [] }) (Z ∷ []) (entry (I ∷ []) float1 ∷ entry (Z ∷ []) minusOne ∷ []) ∷
+    onIdentity ∷
+    action (record {
+      terms = [];
+      jumps = [];
+      matrices =
+          record {
+            ops = (term float1 float0 (X ∷ I ∷ []) ∷ []) ∷ (term float1 float0 (I ∷ X ∷ []) ∷ []) ∷ [];
+            entries = complex float1 float0 ∷ complex float0 float1 ∷ complex float0 minusOne ∷ complex float1 float0 ∷ [];
+          } ∷ [];
+    }) (I ∷ Z ∷ []) (entry (I ∷ Z ∷ []) minusTwo ∷ entry (X ∷ Y ∷ []) minusTwo ∷ []) ∷ []

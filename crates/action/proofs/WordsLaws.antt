@@ -1,0 +1,109 @@
+-- SPDX-FileCopyrightText: 2026 The PPVM Authors
+-- SPDX-License-Identifier: Apache-2.0
+
+-- The tests of a lent list of words, answer by answer. Assumes nothing.
+use mathlib.Core.Path.{_≡_, sym, ap, _∙_}
+use mathlib.Core.Bool.{Bool, true, false}
+use mathlib.Core.List.{List}
+use Prim.Native.Nat.{ℕ, _*_, _/_, _≤_, _<_}
+use native.Mathlib.Omega.{arith}
+use borrow.Author.Tests.{lt-ltb, le-ltb, ltb-false}
+use lib.Dec.{eqb, ltb}
+use lib.ListN.{length, getD}
+use Rattle.refusal.specs.declared.Refusal.{Refusal}
+use Rattle.refusal.specs.declared.Refusal.the-variants.{CountAboveLimit, LengthMismatch, WordOutsideRegister}
+use Rattle.refusal.specs.declared.Answer.{Answer}
+use Rattle.refusal.specs.declared.Answer.the-variants.{Accepted, Refused}
+use Rattle.word.specs.Word.{identity}
+use Rattle.word.specs.Flat as Flat
+use Rattle.word.specs.Register.{reaches}
+use Rattle.word.specs.declared.word.Word.{Word}
+use Rattle.model.specs.Stored.{Tables}
+use Rattle.model.specs.Tested.{firstTo, testModel}
+use Rattle.model.specs.declared.tables.Model.{Model}
+use Rattle.model.proofs.Firsts.{first-before}
+use Rattle.model.proofs.BuildLaws.{passed, both, equal-passed, lent-passed, counted-passed}
+use Rattle.action.specs.Counts.{maxWords, rowLanes, outsideAt, allInside, wordsTests, AllInside}
+
+module _ (m : Model) (t : Tables) (lanes : List ℕ) (h j k : ℕ) where
+  abbrev tests : Answer
+  tests = wordsTests m t lanes h j k
+
+  abbrev words : ℕ
+  words = length lanes / 4
+
+  pub model-refused : (r : Refusal) → testModel m t ≡ Refused r → Refused r ≡ tests
+  unfolding wordsTests
+  model-refused r e = rw e
+
+  module _ (ok : testModel m t ≡ Accepted) where
+    pub words-many : maxWords < words → Refused (CountAboveLimit words) ≡ tests
+    unfolding wordsTests
+    words-many l = rw (ok, lt-ltb maxWords words l)
+
+    module _ (few : words ≤ maxWords) where
+      pub lanes-over : eqb (length lanes) (words * 4) ≡ false → Refused (LengthMismatch (words * 4) (length lanes)) ≡ tests
+      unfolding wordsTests
+      lanes-over e = rw (ok, le-ltb maxWords words few, e)
+
+      module _ (four : eqb (length lanes) (words * 4) ≡ true) where
+        pub h-index-short : h < rowLanes * m .qubits → Refused (LengthMismatch (rowLanes * m .qubits) h) ≡ tests
+        unfolding wordsTests
+        h-index-short l = rw (ok, le-ltb maxWords words few, four, lt-ltb h (rowLanes * m .qubits) l)
+
+        module _ (h-long : rowLanes * m .qubits ≤ h) where
+          pub j-index-short : j < rowLanes * m .qubits → Refused (LengthMismatch (rowLanes * m .qubits) j) ≡ tests
+          unfolding wordsTests
+          j-index-short l = rw (ok, le-ltb maxWords words few, four, le-ltb h (rowLanes * m .qubits) h-long, lt-ltb j (rowLanes * m .qubits) l)
+
+          module _ (j-long : rowLanes * m .qubits ≤ j) where
+            pub mask-short : k < rowLanes → Refused (LengthMismatch rowLanes k) ≡ tests
+            unfolding wordsTests
+            mask-short l = rw (ok, le-ltb maxWords words few, four, le-ltb h (rowLanes * m .qubits) h-long, le-ltb j (rowLanes * m .qubits) j-long, lt-ltb k rowLanes l)
+
+            module _ (mask-long : rowLanes ≤ k) (first : ℕ) (is : first ≡ firstTo words (outsideAt lanes (m .qubits))) where
+              reached : allInside lanes (m .qubits) Accepted ≡ tests
+              unfolding wordsTests
+              reached = rw (ok, le-ltb maxWords words few, four, le-ltb h (rowLanes * m .qubits) h-long, le-ltb j (rowLanes * m .qubits) j-long, le-ltb k rowLanes mask-long)
+
+              pub word-outside : first < words → Refused (WordOutsideRegister first) ≡ tests
+              unfolding allInside
+              word-outside l = (rw (sym is, lt-ltb first words l)) ∙ reached
+
+              pub words-accepted : words ≤ first → Accepted ≡ tests
+              unfolding allInside
+              words-accepted l = (rw (sym is, le-ltb first words l)) ∙ reached
+
+-- a word that was read and tested
+pub outside-at : (lanes : List ℕ) (n k : ℕ) {w : Word} {b : Bool} → w ≡ getD (Flat.words lanes) k identity → b ≡ reaches w n → b ≡ outsideAt lanes n k
+unfolding outsideAt
+outside-at lanes n k e f = f ∙ ap (λ (v : Word). reaches v n) e
+
+-- ---- what is known where all tests are passed
+pub record Passed (m : Model) (t : Tables) (lanes : List ℕ) (h j k : ℕ) : Type 0 where
+  pub model : testModel m t ≡ Accepted
+  pub h-long : rowLanes * m .qubits ≤ h
+  pub j-long : rowLanes * m .qubits ≤ j
+  pub mask-long : rowLanes ≤ k
+  pub inside : AllInside lanes (m .qubits)
+
+pub words-passed : (m : Model) (t : Tables) (lanes : List ℕ) (h j k : ℕ) → wordsTests m t lanes h j k ≡ Accepted → Passed m t lanes h j k
+unfolding wordsTests allInside
+words-passed m t lanes h j k e =
+    let words : ℕ = length lanes / 4 in
+    let first : ℕ = firstTo words (outsideAt lanes (m .qubits)) in
+    let e0 = both (testModel m t) _ e in
+    let e1 = counted-passed maxWords words _ (e0 .1) in
+    let e2 = equal-passed (words * 4) (length lanes) _ (e1 .1) in
+    let e3 = lent-passed (rowLanes * m .qubits) h _ (e2 .1) in
+    let e4 = lent-passed (rowLanes * m .qubits) j _ (e3 .1) in
+    let e5 = lent-passed rowLanes k _ (e4 .1) in
+    let e6 = passed (ltb first words) (WordOutsideRegister first) _ (e5 .1) in
+    let l = ltb-false first words (e6 .0) in
+    record {
+      model = e0 .0;
+      h-long = e3 .0;
+      j-long = e4 .0;
+      mask-long = e5 .0;
+      inside = λ i a. first-before words (outsideAt lanes (m .qubits)) i (omega arith);
+    }

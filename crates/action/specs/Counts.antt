@@ -1,0 +1,112 @@
+-- SPDX-FileCopyrightText: 2026 The PPVM Authors
+-- SPDX-License-Identifier: Apache-2.0
+
+-- How many places the actions of a lent model on many words need: the model's refusals, 8, 9, 11, 13; the answer, and every lent
+-- table afterwards.
+use Prim.Native.Nat.{ℕ, _*_, _/_, _<_, max}
+use mathlib.Core.Path.{_≡_}
+use mathlib.Core.Bool.{Bool, false, cond}
+use mathlib.Core.List.{List, [], _∷_}
+use lib.Dec.{ltb}
+use lib.Ieee.{Float}
+use lib.ListN.{length, getD, replicate}
+use Rattle.refusal.specs.declared.Refusal.{Refusal}
+use Rattle.refusal.specs.declared.Refusal.the-variants.{WordOutsideRegister, TableFull}
+use Rattle.refusal.specs.declared.Answer.{Answer}
+use Rattle.refusal.specs.declared.Answer.the-variants as Tests
+use Rattle.word.specs.Word.{identity}
+use Rattle.word.specs.Flat.{words}
+use Rattle.word.specs.Register.{reaches}
+use Rattle.word.specs.declared.word.Word.{Word}
+use Rattle.number.specs.Floats.{float0}
+use Rattle.model.specs.Stored.{Tables}
+use Rattle.model.specs.Tested.{counted, lent, firstTo, testModel}
+use Rattle.model.specs.Built.{andThen, equal}
+use Rattle.model.specs.declared.tables.Model.{Model}
+use Rattle.action.specs.Acts.{sumsOf, actionOf, sumPlaces}
+use Rattle.action.specs.declared.count.Counted.{Counted}
+use Rattle.action.specs.declared.count.Counted.the-variants.{Places, Refused}
+
+-- the largest of a number for each word
+unfoldable pub most : (Word → ℕ) → List Word → ℕ
+most f [] = 0
+most f (p ∷ ps) = max (f p) (most f ps)
+
+-- the words that one action touches, zero sums included, and those that it lists
+abbrev pub touchedBy : Model → Tables → Word → ℕ
+touchedBy m t p = length (sumsOf m t p)
+
+abbrev pub listedBy : Model → Tables → Word → ℕ
+listedBy m t p = length (actionOf m t p)
+
+-- 13 where one action touches more words than there is room for
+unfoldable pub mostPlaces : ℕ → (Word → ℕ) → (Word → ℕ) → List Word → Counted
+mostPlaces room touched listed ps = cond (ltb room (most touched ps)) (Refused (TableFull 1 room)) (Places (most touched ps) (most listed ps))
+
+-- Limit: 65,536 words
+abbrev pub maxWords : ℕ
+maxWords = 65536
+
+-- the lanes of an index for each qubit, and of a mask
+abbrev pub rowLanes : ℕ
+rowLanes = 64
+
+-- is the word at a position outside the register
+unfoldable pub outsideAt : List ℕ → ℕ → ℕ → Bool
+outsideAt lanes n k = reaches (getD (words lanes) k identity) n
+
+-- 11 at the first position whose word has a bit at or above n
+unfoldable pub allInside : List ℕ → ℕ → Answer → Answer
+allInside lanes n after =
+    let first : ℕ = firstTo (length lanes / 4) (outsideAt lanes n) in
+    cond (ltb first (length lanes / 4)) (Tests.Refused (WordOutsideRegister first)) after
+
+-- the model, 8, 9, 11
+unfoldable pub wordsTests : Model → Tables → List ℕ → ℕ → ℕ → ℕ → Answer
+wordsTests m t lanes hIndex jIndex mask =
+    andThen (testModel m t)
+    (counted maxWords (length lanes / 4)
+    (equal (length lanes / 4 * 4) (length lanes)
+    (lent (rowLanes * m .qubits) hIndex
+    (lent (rowLanes * m .qubits) jIndex
+    (lent rowLanes mask
+    (allInside lanes (m .qubits)
+    Tests.Accepted))))))
+
+-- ---- what the call answers, and the lent tables afterwards
+pub record Counting : Type 0 where
+  pub answer : Counted
+  pub hIndex : List ℕ
+  pub jIndex : List ℕ
+  pub mask : List ℕ
+  pub workWords : List ℕ
+  pub workSums : List Float
+
+module _ (hIndex jIndex mask workWords : List ℕ) (workSums : List Float) where
+  -- a refusal changes nothing
+  abbrev pub unchanged : Refusal → Counting
+  unchanged r = record { answer = Refused r; hIndex = hIndex; jIndex = jIndex; mask = mask; workWords = workWords; workSums = workSums }
+
+  -- work tables are zero after acceptance and 13
+  abbrev pub zeroed : Counted → Counting
+  zeroed r = record {
+    answer = r;
+    hIndex = replicate (length hIndex) 0;
+    jIndex = replicate (length jIndex) 0;
+    mask = replicate (length mask) 0;
+    workWords = replicate (length workWords) 0;
+    workSums = replicate (length workSums) float0;
+  }
+
+  abbrev pub testedWords : Answer → Counting → Counting
+  testedWords Tests.Accepted after = after
+  testedWords (Tests.Refused r) after = unchanged r
+
+  unfoldable pub countPlaces : Model → Tables → List ℕ → Counting
+  countPlaces m t lanes =
+      testedWords (wordsTests m t lanes (length hIndex) (length jIndex) (length mask))
+      (zeroed (mostPlaces (sumPlaces workWords workSums) (touchedBy m t) (listedBy m t) (words lanes)))
+
+-- every word has its letters below n
+abbrev pub AllInside : List ℕ → ℕ → Type 0
+AllInside lanes n = (k : ℕ) → k < length lanes / 4 → outsideAt lanes n k ≡ false

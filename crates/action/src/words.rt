@@ -1,0 +1,84 @@
+// SPDX-FileCopyrightText: 2026 The PPVM Authors
+// SPDX-License-Identifier: Apache-2.0
+
+// A lent list of words beside a lent model and its index: the model, 8, 9, 11.
+ghost use mathlib.Core.Path.{_≡_};
+ghost use Prim.Native.Nat.{_*_, _≤_};
+ghost use lib.ListN.{length};
+ghost use Rattle.model.specs.Stored.{tables};
+ghost use Rattle.model.specs.Tested.{firstTo};
+ghost use Rattle.action.specs.Counts.{outsideAt, wordsTests};
+use model::lengths::mismatch;
+use model::tables::Model;
+use model::test::test_model;
+use refusal::Answer;
+use refusal::Refusal;
+use word::flat::WORD_LANES;
+use word::flat::word_at;
+use word::word::reaches_beyond;
+
+pub const MAX_WORDS: usize = 65_536;
+
+// The lanes of an index for each qubit, and of a mask.
+pub const ROW_LANES: usize = 64;
+
+// The first of so many positions whose word has a bit at or above qubit n; their number where there is
+// none.
+fn first_outside(words: &[u64], count: usize, n: usize) -> usize
+    requires { ⌜ 4 * count ≤ length (now words) ⌝ }
+    ensures { λ r. ⌜ r ≡ firstTo count (outsideAt (now (words .entry)) n) ⌝ }
+{
+    let mut k = 0;
+    while k < count {
+        let w = word_at(words, k);
+        if reaches_beyond(w, n) {
+            return k;
+        }
+        k += 1;
+    }
+    count
+}
+
+pub fn check_words(
+    m: Model,
+    h_words: &[u64],
+    h_coeffs: &[f64],
+    jumps: &[u64],
+    rates: &[f64],
+    t_words: &[u64],
+    t_numbers: &[f64],
+    words: &[u64],
+    h_index: usize,
+    j_index: usize,
+    mask: usize,
+) -> Answer
+    ensures { λ r. ⌜ r ≡ wordsTests m (tables (now («h_words» .entry)) (now («h_coeffs» .entry)) (now (jumps .entry)) (now (rates .entry)) (now («t_words» .entry)) (now («t_numbers» .entry))) (now (words .entry)) «h_index» «j_index» mask ⌝ }
+{
+    let model = test_model(m, h_words, h_coeffs, jumps, rates, t_words, t_numbers);
+    let Answer::Accepted = model else {
+        return model;
+    };
+    let count = words.len() / WORD_LANES;
+    if MAX_WORDS < count {
+        return Answer::Refused(Refusal::CountAboveLimit { count });
+    }
+    if words.len() != count * WORD_LANES {
+        return mismatch(count * WORD_LANES, words.len());
+    }
+    let rows = ROW_LANES * m.qubits;
+    if h_index < rows {
+        return mismatch(rows, h_index);
+    }
+    if j_index < rows {
+        return mismatch(rows, j_index);
+    }
+    if mask < ROW_LANES {
+        return mismatch(ROW_LANES, mask);
+    }
+    let n = m.qubits;
+    let first = first_outside(words, count, n);
+    if first < count {
+        return Answer::Refused(Refusal::WordOutsideRegister { position: first });
+    }
+    Answer::Accepted
+}
