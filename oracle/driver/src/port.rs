@@ -27,6 +27,13 @@ pub struct Word {
     pub z: [u64; 2],
 }
 
+impl Word {
+    /// The lanes in the order of tables.
+    pub fn lanes(self) -> [u64; 4] {
+        [self.x[0], self.x[1], self.z[0], self.z[1]]
+    }
+}
+
 /// Lanes are read as bits.
 impl Debug for Word {
     fn fmt(&self, f: &mut Formatter) -> std::fmt::Result {

@@ -15,11 +15,12 @@ use crate::inputs::Rng;
 use crate::inputs::actions as inputs;
 use crate::inputs::matrices::{Matrix, full};
 use crate::inputs::models::{Items, largest, spoil_model};
-use crate::port::actions::{self as port, Listed, Room};
+use crate::port::actions::{self as port, CountRoom, Counted, Listed, Room};
 use crate::port::models::{Lent, Model};
 use crate::port::{Status, Word};
 use crate::published::actions as published;
 use crate::published::models::RustModel;
+use crate::rules::actions::MAX_WORDS;
 use crate::rules::models::{Complex, MAX_OPERATORS};
 use crate::rules::{MAX_QUBITS, actions as rules, letters_of, word_of};
 
@@ -33,6 +34,7 @@ pub fn compare(seed: u64, cases: usize) -> Vec<Tally> {
     let rng = &mut Rng::new(seed);
     let mut tallies = Tallies {
         acted: by_answer("action"),
+        counted: by_answer("places counted"),
         untouched: Tally::new("model after it"),
     };
     known(rng, &mut tallies);
@@ -40,13 +42,19 @@ pub fn compare(seed: u64, cases: usize) -> Vec<Tally> {
     for _ in 0..cases.div_ceil(WORDS) {
         random(rng, &mut tallies);
     }
-    let Tallies { acted, untouched } = tallies;
-    let all = acted.into_iter().chain([untouched]);
+    let Tallies {
+        acted,
+        counted,
+        untouched,
+    } = tallies;
+    let all = acted.into_iter().chain(counted).chain([untouched]);
     all.filter(|tally| tally.cases > 0).collect()
 }
 
 struct Tallies {
     acted: Vec<Tally>,
+    /// The places for actions on many words.
+    counted: Vec<Tally>,
     /// Whether the tables of a model are as they were.
     untouched: Tally,
 }
@@ -103,10 +111,7 @@ fn laid(list: &[(Word, f64)], room: &Room) -> Outcome {
     let mut room = room.clone();
     room.work_words.fill(0);
     room.work_sums.fill(0.0);
-    let lanes: Vec<u64> = list
-        .iter()
-        .flat_map(|(word, _)| [word.x, word.z].concat())
-        .collect();
+    let lanes: Vec<u64> = list.iter().flat_map(|(word, _)| word.lanes()).collect();
     let values: Vec<f64> = list.iter().map(|(_, value)| *value).collect();
     room.out_words
         .splice(..lanes.len().min(room.out_words.len()), lanes);
@@ -170,6 +175,51 @@ fn act(rng: &mut Rng, tallies: &mut Tallies, asked: &Asked, p: Word, room: &Room
     tallies.acted[refusal as usize].count(standing.size(), input, answers);
 }
 
+/// The port and the rules count the places for actions on many words, given by their lanes.
+fn count(tallies: &mut Tallies, standing: &Standing, words: &[u64], room: &CountRoom) {
+    let answer = |count: fn(Model, &Lent, &[u64], &mut CountRoom) -> Counted| {
+        let mut room = room.clone();
+        let counted = count(standing.model, &standing.lent, words, &mut room);
+        (counted, room)
+    };
+    let answers = Answers {
+        rust: None,
+        port: answer(port::count_action_terms),
+        rules: answer(rules::count_action_terms),
+        listed: false,
+    };
+    let refusal = answers.rules.0.status.refusal;
+    let input = || {
+        let places = room.work_words.len() / 4;
+        format!("{:?} on {words:x?}, places {places}", standing.made_of)
+    };
+    tallies.counted[refusal as usize].count(standing.size() + words.len(), input, answers);
+}
+
+/// The same on a list of words in tables with just enough places and with one too few, with one of
+/// the other tables too short, with a word cut off, and with one outside of the register.
+fn count_all(rng: &mut Rng, tallies: &mut Tallies, standing: &Standing, words: &[Word]) {
+    let Standing { model, lent, .. } = standing;
+    let touched = |&p: &Word| rules::places(*model, lent, p).map(|(sums, _)| sums);
+    let most = words.iter().filter_map(touched).max().unwrap_or(0);
+    let n_qubits = model.qubits.min(MAX_QUBITS);
+    let mut lanes: Vec<u64> = words.iter().flat_map(|p| p.lanes()).collect();
+    for places in [Some(most), most.checked_sub(1)].into_iter().flatten() {
+        let room = inputs::count_room(rng, n_qubits, places, false);
+        count(tallies, standing, &lanes, &room);
+    }
+    let short = inputs::count_room(rng, n_qubits, most, true);
+    count(tallies, standing, &lanes, &short);
+    let room = inputs::count_room(rng, n_qubits, most, false);
+    count(tallies, standing, &lanes[..rng.below(lanes.len())], &room);
+    if n_qubits < MAX_QUBITS {
+        let position = rng.below(words.len());
+        let p = inputs::outside(rng, n_qubits);
+        lanes[4 * position..4 * position + 4].copy_from_slice(&p.lanes());
+        count(tallies, standing, &lanes, &room);
+    }
+}
+
 /// The tables of the model afterwards.
 fn untouched(tallies: &mut Tallies, asked: &Asked, before: Lent) {
     let answers = Answers {
@@ -220,6 +270,7 @@ fn random(rng: &mut Rng, tallies: &mut Tallies) {
         let p = inputs::outside(rng, n_qubits);
         act(rng, tallies, &asked, p, &room);
     }
+    count_all(rng, tallies, &asked.standing, &words);
     untouched(tallies, &asked, before);
 
     asked.rust = None;
@@ -238,6 +289,7 @@ fn random(rng: &mut Rng, tallies: &mut Tallies) {
         let room = inputs::room(rng, sums, list);
         act(rng, tallies, &asked, p, &room);
     }
+    count_all(rng, tallies, &asked.standing, &words[..2]);
 }
 
 /// The largest models of Hamiltonian items and jumps, and one with the most pairs.
@@ -253,12 +305,23 @@ fn large(rng: &mut Rng, tallies: &mut Tallies) {
     for (items, matrices) in [near, any, (empty, vec![full])] {
         let words = inputs::words(rng, &items, &matrices, WORDS);
         let asked = Asked::new(rng, items, matrices);
-        for p in words {
+        for &p in &words {
             let Standing { model, lent, .. } = &asked.standing;
             let (sums, list) = rules::places(*model, lent, p).expect("the model is sound");
             let room = inputs::room(rng, sums, list);
             act(rng, tallies, &asked, p, &room);
         }
+        count_all(rng, tallies, &asked.standing, &words);
+    }
+
+    // As many words as there may be, and one more.
+    let items = inputs::crowded(rng);
+    let standing = Standing::built(rng, items);
+    let n_qubits = standing.model.qubits;
+    for words in [MAX_WORDS, MAX_WORDS + 1] {
+        let lanes = vec![0; 4 * words];
+        let room = inputs::count_room(rng, n_qubits, 0, false);
+        count(tallies, &standing, &lanes, &room);
     }
 }
 

@@ -7,7 +7,8 @@ use super::matrices::{Matrix, set};
 use super::models::{Items, number};
 use super::{EDGES, LANE_ENDS, Rng, letters, neighbour, word};
 use crate::port::Word;
-use crate::port::actions::Room;
+use crate::port::actions::{CountRoom, Room};
+use crate::rules::actions::ROW_LANES;
 use crate::rules::models::{Complex, MAX_TERMS};
 use crate::rules::{MAX_QUBITS, letters_of, word_of};
 
@@ -291,14 +292,43 @@ pub fn room(rng: &mut Rng, sums: usize, list: usize) -> Room {
     lengths[rng.below(2)] += rng.below(9);
     lengths[2 + rng.below(2)] += rng.below(9);
     let [work_words, work_sums, out_words, out_values] = lengths;
-    let seed = rng.next();
-    let lanes = |length: usize| (0..length).map(|i| seed ^ i as u64).collect();
-    let filler = [f64::NAN, -0.0, 1.5, f64::INFINITY];
-    let numbers = |length: usize| (0..length).map(|i| filler[i % 4]).collect();
     Room {
-        work_words: lanes(work_words),
+        work_words: lanes(rng, work_words),
         work_sums: numbers(work_sums),
-        out_words: lanes(out_words),
+        out_words: lanes(rng, out_words),
         out_values: numbers(out_values),
+    }
+}
+
+/// Lanes and numbers that a table may hold already.
+fn lanes(rng: &mut Rng, length: usize) -> Vec<u64> {
+    let seed = rng.next();
+    (0..length).map(|i| seed ^ i as u64).collect()
+}
+
+fn numbers(length: usize) -> Vec<f64> {
+    let filler = [f64::NAN, -0.0, 1.5, f64::INFINITY];
+    (0..length).map(|i| filler[i % 4]).collect()
+}
+
+/// Tables for counting on so many qubits with so many places for sums, one slice of them perhaps
+/// longer and, where `short`, one too short, with something in them already.
+pub fn count_room(rng: &mut Rng, n_qubits: usize, sums: usize, short: bool) -> CountRoom {
+    let index = ROW_LANES * n_qubits;
+    let mut lengths = [index, index, ROW_LANES, 4 * sums, 2 * sums];
+    lengths[3 + rng.below(2)] += rng.below(9);
+    let table = rng.below(3);
+    lengths[table] = match (short, rng.below(3)) {
+        (true, 0) => rng.below(lengths[table] + 1),
+        (true, _) => lengths[table].saturating_sub(1),
+        (false, spare) => lengths[table] + spare,
+    };
+    let [h_index, j_index, mask, work_words, work_sums] = lengths;
+    CountRoom {
+        h_index: lanes(rng, h_index),
+        j_index: lanes(rng, j_index),
+        mask: lanes(rng, mask),
+        work_words: lanes(rng, work_words),
+        work_sums: numbers(work_sums),
     }
 }

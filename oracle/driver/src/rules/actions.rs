@@ -4,10 +4,11 @@
 //! The action of a lent model on a word: the rules over what is stored.
 
 use super::models::{
-    Answer, Complex, Sums, Term, conjugate, lay_word, phase_factor, refuse, tested, times, word_at,
+    Answer, Complex, Sums, Term, at_most, conjugate, equal, lay_word, lent_places, phase_factor,
+    refuse, tested, times, word_at,
 };
 use super::{comm_product, fits_register, pauli_mul, refusal, shares_qubit};
-use crate::port::actions::{Listed, Room};
+use crate::port::actions::{CountRoom, Counted, Listed, Room};
 use crate::port::models::{Lent, Model};
 use crate::port::{Status, Word};
 use std::ops::Range;
@@ -15,6 +16,10 @@ use std::ops::Range;
 /// The tables of words touched and of entries listed, as 13 names them.
 const SUMS_TABLE: usize = 1;
 const LIST_TABLE: usize = 3;
+
+/// The most words of one list, and the lanes of an index for each qubit.
+pub const MAX_WORDS: usize = 65_536;
+pub const ROW_LANES: usize = 64;
 
 /// Real and imaginary parts of at most this are left out of an off-diagonal pair's product.
 const SLIGHT: f64 = 1e-14;
@@ -187,12 +192,17 @@ fn add_pair(sums: &mut Sums, jump: &Jump, p: Word) {
     }
 }
 
-/// The sums of an action, zero ones included, of a model that passes the test.
+/// The sums of an action, zero ones included.
 fn sums(model: Model, lent: &Lent, p: Word) -> Answer<Vec<Term>> {
     tested(model, lent)?;
     if !fits_register(p, model.qubits) {
         return refuse(11, 0, 0);
     }
+    Ok(tested_sums(model, lent, p))
+}
+
+/// The same of a model that passed the test.
+fn tested_sums(model: Model, lent: &Lent, p: Word) -> Vec<Term> {
     let mut sums = Sums::default();
     for i in 0..model.hamiltonian {
         add_hamiltonian(&mut sums, word_at(&lent.h_words, i), lent.h_coeffs[i], p);
@@ -203,18 +213,26 @@ fn sums(model: Model, lent: &Lent, p: Word) -> Answer<Vec<Term>> {
             add(&mut sums, jump, p);
         }
     }
-    Ok(sums.terms())
+    sums.terms()
 }
 
 fn is_listed(term: &Term) -> bool {
     term.number.0 != 0.0
 }
 
+/// How many words there are, and how many of them are listed.
+fn counts(sums: &[Term]) -> (usize, usize) {
+    let listed = sums.iter().filter(|term| is_listed(term)).count();
+    (sums.len(), listed)
+}
+
 /// How many words an action touches, and how many it lists.
 pub fn places(model: Model, lent: &Lent, p: Word) -> Option<(usize, usize)> {
-    let sums = sums(model, lent, p).ok()?;
-    let listed = sums.iter().filter(|term| is_listed(term)).count();
-    Some((sums.len(), listed))
+    Some(counts(&sums(model, lent, p).ok()?))
+}
+
+fn sum_places(words: &[u64], sums: &[f64]) -> usize {
+    (words.len() / 4).min(sums.len() / 2)
 }
 
 pub fn compute_action_terms(model: Model, lent: &Lent, p: Word, room: &mut Room) -> Listed {
@@ -223,7 +241,7 @@ pub fn compute_action_terms(model: Model, lent: &Lent, p: Word, room: &mut Room)
         Ok(sums) => sums,
         Err(status) => return refused(status),
     };
-    let sum_places = (room.work_words.len() / 4).min(room.work_sums.len() / 2);
+    let sum_places = sum_places(&room.work_words, &room.work_sums);
     let list_places = (room.out_words.len() / 4).min(room.out_values.len());
     room.work_words.fill(0);
     room.work_sums.fill(0.0);
@@ -241,5 +259,62 @@ pub fn compute_action_terms(model: Model, lent: &Lent, p: Word, room: &mut Room)
     Listed {
         status: Status::default(),
         count: listed.len(),
+    }
+}
+
+/// All tests of counting but 13.
+fn counted(model: Model, lent: &Lent, words: &[u64], room: &CountRoom) -> Answer<Vec<Word>> {
+    tested(model, lent)?;
+    let count = words.len() / 4;
+    at_most(MAX_WORDS, count)?;
+    equal(4 * count, words.len())?;
+    lent_places(ROW_LANES * model.qubits, room.h_index.len())?;
+    lent_places(ROW_LANES * model.qubits, room.j_index.len())?;
+    lent_places(ROW_LANES, room.mask.len())?;
+    let words: Vec<Word> = (0..count).map(|i| word_at(words, i)).collect();
+    let outside = |p: &Word| !fits_register(*p, model.qubits);
+    match words.iter().position(outside) {
+        Some(position) => refuse(11, position, 0),
+        None => Ok(words),
+    }
+}
+
+/// The most words that one of the actions touches, and the most that one lists.
+pub fn count_action_terms(
+    model: Model,
+    lent: &Lent,
+    words: &[u64],
+    room: &mut CountRoom,
+) -> Counted {
+    let refused = |status| Counted {
+        status,
+        ..Counted::default()
+    };
+    let words = match counted(model, lent, words, room) {
+        Ok(words) => words,
+        Err(status) => return refused(status),
+    };
+    for table in [
+        &mut room.h_index,
+        &mut room.j_index,
+        &mut room.mask,
+        &mut room.work_words,
+    ] {
+        table.fill(0);
+    }
+    room.work_sums.fill(0.0);
+    let (mut touched, mut listed) = (0, 0);
+    for p in words {
+        let counts = counts(&tested_sums(model, lent, p));
+        (touched, listed) = (touched.max(counts.0), listed.max(counts.1));
+    }
+    let places = sum_places(&room.work_words, &room.work_sums);
+    if touched > places {
+        return refused(refusal(13, SUMS_TABLE, places));
+    }
+    Counted {
+        status: Status::default(),
+        touched,
+        listed,
     }
 }
