@@ -11,6 +11,7 @@ use crate::port::actions::{CountRoom, Room};
 use crate::rules::actions::ROW_LANES;
 use crate::rules::models::{Complex, MAX_TERMS};
 use crate::rules::{MAX_QUBITS, letters_of, word_of};
+use std::collections::BTreeSet;
 
 /// The most operators of a matrix here.
 const OPERATORS: usize = 8;
@@ -225,6 +226,59 @@ pub fn crowded(rng: &mut Rng) -> Items {
         jumps: jumps.collect(),
         hamiltonian,
     }
+}
+
+/// A chain of at least two qubits: XX, YY and ZZ on neighbours, Z on each qubit, jumps (X + iY)/2 and
+/// Z on each qubit. Numbers vary by a little. All of it comes again until there are so many items of
+/// each sort, or once.
+pub fn chain(rng: &mut Rng, n_qubits: usize, items: Option<usize>) -> Items {
+    let text = |letters: &[(usize, u8)]| {
+        let mut text = vec![b'I'; n_qubits];
+        for &(qubit, letter) in letters {
+            text[qubit] = letter;
+        }
+        text
+    };
+    let neighbours = |qubit: usize| b"XYZ".map(|letter| [(qubit, letter), (qubit + 1, letter)]);
+    let couplings = (0..n_qubits - 1).flat_map(neighbours);
+    let mut words: Vec<Vec<u8>> = couplings.map(|letters| text(&letters)).collect();
+    words.extend((0..n_qubits).map(|qubit| text(&[(qubit, b'Z')])));
+    let one = |qubit: usize, letter: u8, number: Complex| (text(&[(qubit, letter)]), number);
+    let jumps: Vec<Vec<(Vec<u8>, Complex)>> = (0..n_qubits)
+        .flat_map(|qubit| {
+            let lowering = vec![one(qubit, b'X', (0.5, 0.0)), one(qubit, b'Y', (0.0, 0.5))];
+            [lowering, vec![one(qubit, b'Z', (1.0, 0.0))]]
+        })
+        .collect();
+    let mut number = || 1.0 + rng.below(1000) as f64 / 1024.0;
+    let count = |once: usize| items.unwrap_or(once);
+    Items {
+        n_qubits,
+        hamiltonian: (0..count(words.len()))
+            .map(|i| (words[i % words.len()].clone(), number()))
+            .collect(),
+        jumps: (0..count(jumps.len()))
+            .map(|i| (number(), jumps[i % jumps.len()].clone()))
+            .collect(),
+    }
+}
+
+/// So many different words, each with one to four letters on six neighbouring qubits.
+pub fn local_words(rng: &mut Rng, n_qubits: usize, count: usize) -> Vec<Word> {
+    let mut found = BTreeSet::new();
+    let mut words = Vec::new();
+    while words.len() < count {
+        let first = rng.below(n_qubits - 5);
+        let mut letters = vec![b'I'; n_qubits];
+        for _ in 0..=rng.below(4) {
+            letters[first + rng.below(6)] = rng.pick(b"XYZ");
+        }
+        let word = word_of(&letters);
+        if found.insert(word.lanes()) {
+            words.push(word);
+        }
+    }
+    words
 }
 
 /// The texts of a model, without `_`.
