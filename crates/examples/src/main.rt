@@ -1,8 +1,9 @@
 // SPDX-FileCopyrightText: 2026 The PPVM Authors
 // SPDX-License-Identifier: Apache-2.0
 
-// Runs the examples of document 01, a small model and a matrix through the exported functions and
-// prints a line for each. Each section has its module.
+// Runs the examples of document 01, a small model, a matrix and their actions through the exported
+// functions and prints a line for each. Each section has its module.
+mod actions;
 mod matrices;
 mod models;
 mod print;

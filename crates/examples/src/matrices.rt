@@ -2,6 +2,7 @@
 // SPDX-License-Identifier: Apache-2.0
 
 // A matrix over two operators, added to a model without items, and one that is refused.
+use crate::actions::print_action;
 use crate::models;
 use crate::print;
 use model::tables::Model;
@@ -46,16 +47,16 @@ fn add(
     )
 }
 
-pub fn run() {
+// The matrix with these entries, and the action of the model on a word where it was added.
+fn print_matrix(k: &[f64]) {
     let mut jumps = [0u64; 24];
     let mut rates = [0f64; 3];
     let mut t_words = [0u64; 32];
     let mut t_numbers = [0f64; 16];
     let mut work_words = [0u64; 1032];
     let mut work_numbers = [0f64; 516];
-    let hermitian = [1.0, 0.0, 0.0, 1.0, 0.0, -1.0, 1.0, 0.0];
     let added = add(
-        &hermitian,
+        k,
         &mut jumps,
         &mut rates,
         &mut t_words,
@@ -63,18 +64,24 @@ pub fn run() {
         &mut work_words,
         &mut work_numbers,
     );
-    print::text(b"operators XI, IX with K rows (1, i), (-i, 1): ");
     models::print_built(added);
-    let other = [1.0, 0.0, 0.0, 1.0, 0.0, 1.0, 1.0, 0.0];
-    let refused = add(
-        &other,
-        &mut jumps,
-        &mut rates,
-        &mut t_words,
-        &mut t_numbers,
-        &mut work_words,
-        &mut work_numbers,
-    );
+    if added.status.refusal == 0 {
+        print_action(
+            added.model,
+            &[0u64; 0],
+            &[0f64; 0],
+            &jumps,
+            &rates,
+            &t_words,
+            &t_numbers,
+            b"IZ",
+        );
+    }
+}
+
+pub fn run() {
+    print::text(b"operators XI, IX with K rows (1, i), (-i, 1): ");
+    print_matrix(&[1.0, 0.0, 0.0, 1.0, 0.0, -1.0, 1.0, 0.0]);
     print::text(b"the same with K rows (1, i), (i, 1): ");
-    models::print_built(refused);
+    print_matrix(&[1.0, 0.0, 0.0, 1.0, 0.0, 1.0, 1.0, 0.0]);
 }

@@ -2,6 +2,7 @@
 // SPDX-License-Identifier: Apache-2.0
 
 // Models built in lent tables, tested there, and refused.
+use crate::actions::print_action;
 use crate::print;
 use pebblelinen::models::BuiltModel;
 use refusal::Status;
@@ -78,8 +79,8 @@ fn print_sizes() {
     print::end_line();
 }
 
-pub fn run() {
-    print_sizes();
+// The model, tested, and its action on a word.
+fn accepted() {
     let mut h_words = [0u64; 4];
     let mut h_coeffs = [0f64; 1];
     let mut jumps = [0u64; 16];
@@ -88,9 +89,8 @@ pub fn run() {
     let mut t_numbers = [0f64; 24];
     let mut work_words = [0u64; 1088];
     let mut work_numbers = [0f64; 544];
-    let sound = [0.25, 1.0];
     let built = build(
-        &sound,
+        &[0.25, 1.0],
         &mut h_words,
         &mut h_coeffs,
         &mut jumps,
@@ -112,31 +112,48 @@ pub fn run() {
         &t_words,
         &t_numbers,
     ));
-    let wrong = [0.25, -1.0];
-    let refused = build(
-        &wrong,
-        &mut h_words,
-        &mut h_coeffs,
-        &mut jumps,
-        &mut rates,
-        &mut t_words,
-        &mut t_numbers,
-        &mut work_words,
-        &mut work_numbers,
+    print_action(
+        built.model,
+        &h_words,
+        &h_coeffs,
+        &jumps,
+        &rates,
+        &t_words,
+        &t_numbers,
+        b"XI",
     );
+}
+
+// The same with these rates, in so many lanes of a terms table.
+fn print_refused(given: &[f64], lanes: usize) {
+    let mut h_words = [0u64; 4];
+    let mut h_coeffs = [0f64; 1];
+    let mut jumps = [0u64; 16];
+    let mut rates = [0f64; 2];
+    let mut t_words = [0u64; 48];
+    let mut t_numbers = [0f64; 24];
+    let mut work_words = [0u64; 1088];
+    let mut work_numbers = [0f64; 544];
+    if lanes <= 48 {
+        print_built(build(
+            given,
+            &mut h_words,
+            &mut h_coeffs,
+            &mut jumps,
+            &mut rates,
+            &mut t_words[0..lanes],
+            &mut t_numbers,
+            &mut work_words,
+            &mut work_numbers,
+        ));
+    }
+}
+
+pub fn run() {
+    print_sizes();
+    accepted();
     print::text(b"the second jump at -1: ");
-    print_built(refused);
-    let full = build(
-        &sound,
-        &mut h_words,
-        &mut h_coeffs,
-        &mut jumps,
-        &mut rates,
-        &mut t_words[0..16],
-        &mut t_numbers,
-        &mut work_words,
-        &mut work_numbers,
-    );
+    print_refused(&[0.25, -1.0], 48);
     print::text(b"the first in 4 places for terms: ");
-    print_built(full);
+    print_refused(&[0.25, 1.0], 16);
 }

@@ -9,10 +9,11 @@ ghost use mathlib.Core.List.{_∷_, []};
 ghost use Prim.Native.Nat.{ℕ, _+_, _*_, _<_, _≤_, max};
 ghost use lib.Bits.{bitOr};
 ghost use lib.Dec.{eqb};
-ghost use lib.ListN.{length, getD, replicate};
+ghost use lib.ListN.{length, getD};
 ghost use Rattle.index.specs.Index.{Marks, United, mark, flag};
 ghost use Rattle.index.specs.Lanes.{laneActs, laneUnites};
 ghost use Rattle.index.specs.Visit.{flagged, left, Steps};
+use table::clear::clear_lanes;
 use word::word::Word;
 
 // The set bits left to visit: those of rest, in lane `lane`, and those of the lanes after it.
@@ -24,17 +25,6 @@ pub struct Cursor {
 pub enum Next {
     Item(usize, Cursor),
     Done,
-}
-
-// Sets all lanes to zero: an index of no items, or an empty mask.
-pub fn clear(t: &mut [u64])
-    ensures { λ _. ⌜ now (t .exit) ≡ replicate (length (now (t .entry))) 0 ⌝ }
-{
-    let mut i = 0;
-    while i < t.len() {
-        t[i] = 0;
-        i += 1;
-    }
 }
 
 // Marks item j in the rows base + k, below n, of the set bits k of lane.
@@ -100,7 +90,7 @@ pub fn union_rows(p: Word, n: usize, index: &[u64], mask: &mut [u64])
 {
     let low = p.x[0] | p.z[0];
     let high = p.x[1] | p.z[1];
-    clear(mask);
+    clear_lanes(mask);
     unite_lane(mask, index, n, 0, low);
     unite_lane(mask, index, n, 64, high);
 }

@@ -11,12 +11,12 @@ ghost use Rattle.index.specs.Index.{Indexed, Marks};
 ghost use Rattle.model.specs.Stored.{Tables, jumpAt};
 ghost use Rattle.model.specs.Tested.{badJump};
 ghost use Rattle.kernel.specs.Near.{wordsOf, jumpWords, realItems, jumpItems, ModelIndexed};
-use index::clear;
 use index::mark_word;
 use model::tables::Jump;
 use model::tables::Model;
 use model::tables::Range;
 use model::tables::jump_at;
+use table::clear::clear_lanes;
 use word::flat::word_at;
 
 // Adds the words of a range of the terms table to item j.
@@ -67,7 +67,7 @@ pub fn index_reals(index: &mut [u64], n: usize, h_words: &[u64], count: usize)
     requires { ⌜ (64 * n ≤ length (now index)) × (count ≤ 4096) × (4 * count ≤ length (now «h_words»)) ⌝ }
     ensures { λ _. ⌜ Indexed n (realItems (now («h_words» .entry)) count) (now (index .exit)) ⌝ }
 {
-    clear(index);
+    clear_lanes(index);
     let mut i = 0;
     while i < count {
         let h = word_at(h_words, i);
@@ -89,7 +89,7 @@ pub fn index_jumps(
     requires { ⌜ (64 * n ≤ length (now index)) × (count ≤ 4096) × (8 * count ≤ length (now jumps)) × (count ≤ length (now rates)) × (4 * places ≤ length (now «t_words»)) × ((j : ℕ) → j < count → badJump places (jumpAt (now jumps) (now rates) j) ≡ false) ⌝ }
     ensures { λ _. ⌜ Indexed n (jumpItems (now (jumps .entry)) (now (rates .entry)) (now («t_words» .entry)) count) (now (index .exit)) ⌝ }
 {
-    clear(index);
+    clear_lanes(index);
     let mut j = 0;
     while j < count {
         let jump = jump_at(jumps, rates, j);

@@ -17,7 +17,7 @@ returns c =
     let s = c .before .before .before .before .before .before .before .before .before .before .before .before .before .before .before .before .before .before in
     let hx : (i : ℕ) → Fits w64 (getD (s .args .t1 .x) i 0) = λ i. search needs in
     let hz : (i : ℕ) → Fits w64 (getD (s .args .t1 .z) i 0) = λ i. search needs in
-    both-lanes (s .args .n) (s .args .t1) (sound (s .args .t1) (search needs) (search needs) hx hz) (s .args .index .now) _ _ _ (length (s .args .mask .now)) (c .before .before .before .before .before .before .before .before .before .before .clear .ensures)
+    both-lanes (s .args .n) (s .args .t1) (sound (s .args .t1) (search needs) (search needs) hx hz) (s .args .index .now) _ _ _ (length (s .args .mask .now)) (c .before .before .before .before .before .before .before .before .before .before .clear-lanes .ensures)
     (c .before .before .before .before .before .before .unite-lane .ensures) (c .before .before .unite-lane2 .ensures)
 
 pub union-rows-spec : {M : Type 1} → statement M

@@ -26,7 +26,7 @@ abbrev μ-loop : tie.MeasureT-loop
 loop-holds : tie.Need-loop-holds Inv-loop μ-loop
 loop-holds c =
     let a = c .before .before .before .before .before .before .before .before .args in
-    (omega arith, refl, rw (c .before .before .clear .ensures) (items-start (a .n) (λ (k : ℕ). jumpWords (a .t-words .now) (jumpAt (a .jumps .now) (a .rates .now) k)) (length (a .index .now))))
+    (omega arith, refl, rw (c .before .before .clear-lanes .ensures) (items-start (a .n) (λ (k : ℕ). jumpWords (a .t-words .now) (jumpAt (a .jumps .now) (a .rates .now) k)) (length (a .index .now))))
 
 jump-at-requires : tie.Need-jump-at-requires Inv-loop μ-loop
 jump-at-requires c κs =
@@ -38,7 +38,7 @@ mark-jump-requires c κs =
     let s = c .before .before .before .before .before .before .before .before .before .before .before .before in
     let a = s .args in
     let l = c .before .before .before .loop in (
-      omega (arith, s .pre .0, c .before .before .before .before .before .before .clear .kept .0, l .inv .1),
+      omega (arith, s .pre .0, c .before .before .before .before .before .before .clear-lanes .kept .0, l .inv .1),
       omega (arith, s .pre .1, c .before .before .loop-test .taken),
       ap (badJump (a .places)) (c .before .jump-at .ensures) ∙ s .pre .5 (l .j) (c .before .before .loop-test .taken),
       s .pre .4,
@@ -54,7 +54,7 @@ loop-again c =
     )
 
 same-length : tie.Need-same-length Inv-loop μ-loop
-same-length c = c .before .loop .inv .1 ∙ c .before .before .before .before .clear .kept .0
+same-length c = c .before .loop .inv .1 ∙ c .before .before .before .before .clear-lanes .kept .0
 
 returns : tie.Need-returns Inv-loop μ-loop
 returns c =

@@ -26,7 +26,7 @@ abbrev μ-loop : tie.MeasureT-loop
 loop-holds : tie.Need-loop-holds Inv-loop μ-loop
 loop-holds c =
     let a = c .before .before .before .before .before .before .args in
-    (omega arith, refl, rw (c .before .before .clear .ensures) (items-start (a .n) (λ (k : ℕ). getD (words (a .h-words .now)) k identity ∷ []) (length (a .index .now))))
+    (omega arith, refl, rw (c .before .before .clear-lanes .ensures) (items-start (a .n) (λ (k : ℕ). getD (words (a .h-words .now)) k identity ∷ []) (length (a .index .now))))
 
 word-at-requires : tie.Need-word-at-requires Inv-loop μ-loop
 word-at-requires c κs = omega (arith, c .before .before .before .before .before .before .before .before .pre .2, c .loop-test .taken)
@@ -34,7 +34,7 @@ word-at-requires c κs = omega (arith, c .before .before .before .before .before
 mark-word-requires : tie.Need-mark-word-requires Inv-loop μ-loop
 mark-word-requires c κs =
     let s = c .before .before .before .before .before .before .before .before .before .before in
-    (omega (arith, s .pre .0, c .before .before .before .before .before .before .clear .kept .0, c .before .before .before .loop .inv .1), omega (arith, s .pre .1, c .before .before .loop-test .taken))
+    (omega (arith, s .pre .0, c .before .before .before .before .before .before .clear-lanes .kept .0, c .before .before .before .loop .inv .1), omega (arith, s .pre .1, c .before .before .loop-test .taken))
 
 loop-again : tie.Need-loop-again Inv-loop μ-loop
 loop-again c =
@@ -46,7 +46,7 @@ loop-again c =
     )
 
 same-length : tie.Need-same-length Inv-loop μ-loop
-same-length c = c .before .loop .inv .1 ∙ c .before .before .before .before .clear .kept .0
+same-length c = c .before .loop .inv .1 ∙ c .before .before .before .before .clear-lanes .kept .0
 
 returns : tie.Need-returns Inv-loop μ-loop
 returns c =
