@@ -11,7 +11,7 @@
 //     the rates, and operators for the jumps
 //   8 as 7, for refusals that the Rust does not have
 // Numbers are recorded by their bits. Where the Rust or document 01 refused, the recorded counts are 0.
-ghost use Prim.Native.Nat.{_≤_};
+use crate::actions;
 use crate::read;
 use crate::read::Cursor;
 use crate::read::Filled;
@@ -23,7 +23,7 @@ use model::tables::Model;
 use pebblelinen::models::BuiltModel;
 
 // The places that there are for a slice of a case, and for a work table.
-const PLACES: usize = 288;
+const PLACES: usize = 1024;
 
 const WORK_PLACES: usize = 1184;
 
@@ -53,6 +53,42 @@ fn judged_build(line: &[u8], c: Cursor, answer: BuiltModel) -> Verdict {
     tally::judged(agrees)
 }
 
+// The same, or, for the kinds about actions, those of what was built against the recorded ones.
+fn judged(
+    line: &[u8],
+    c: Cursor,
+    kind: u64,
+    built: BuiltModel,
+    h_words: &[u64],
+    h_coeffs: &[f64],
+    jumps: &[u64],
+    rates: &[f64],
+    t_words: &[u64],
+    t_numbers: &[f64],
+) -> Verdict {
+    if kind < 9 {
+        return judged_build(line, c, built);
+    }
+    actions::act(
+        line,
+        c,
+        built,
+        h_words,
+        h_coeffs,
+        jumps,
+        rates,
+        t_words,
+        t_numbers,
+    )
+}
+
+fn is_matrix(kind: u64) -> bool {
+    match kind {
+        7 | 8 | 10 => true,
+        _ => false,
+    }
+}
+
 // A model is built, or a matrix added, from what was read in these tables, and the answer is judged.
 // All tables are zero, so that the words of the Hamiltonian terms before a matrix are I.
 fn build_in(
@@ -75,17 +111,22 @@ fn build_in(
     work_words: &mut [u64],
     work_numbers: &mut [f64],
 ) -> Verdict {
-    if kind < 7 {
-        let built = pebblelinen::models::pebblelinen_build_model(
+    if is_matrix(kind) {
+        let before = Model {
+            qubits: n_qubits,
+            hamiltonian: h_numbers.len(),
+            jumps: 0,
+            terms: 0,
+        };
+        let added = pebblelinen::models::pebblelinen_add_kossakowski(
+            before,
             texts,
             lengths,
-            h_numbers,
-            given,
             counts,
             numbers,
-            n_qubits,
+            given,
             h_words,
-            h_coeffs,
+            h_numbers,
             jumps,
             rates,
             t_words,
@@ -93,23 +134,29 @@ fn build_in(
             work_words,
             work_numbers,
         );
-        return judged_build(line, c, built);
+        return judged(
+            line,
+            c,
+            kind,
+            added,
+            h_words,
+            h_numbers,
+            jumps,
+            rates,
+            t_words,
+            t_numbers,
+        );
     }
-    let before = Model {
-        qubits: n_qubits,
-        hamiltonian: h_numbers.len(),
-        jumps: 0,
-        terms: 0,
-    };
-    let added = pebblelinen::models::pebblelinen_add_kossakowski(
-        before,
+    let built = pebblelinen::models::pebblelinen_build_model(
         texts,
         lengths,
+        h_numbers,
+        given,
         counts,
         numbers,
-        given,
+        n_qubits,
         h_words,
-        h_numbers,
+        h_coeffs,
         jumps,
         rates,
         t_words,
@@ -117,18 +164,18 @@ fn build_in(
         work_words,
         work_numbers,
     );
-    judged_build(line, c, added)
-}
-
-// A recorded length, or all places where it is more.
-fn at_most(length: u64, places: usize) -> usize
-    ensures { λ r. ⌜ r ≤ places ⌝ }
-{
-    let n = length as usize;
-    if places < n {
-        return places;
-    }
-    n
+    judged(
+        line,
+        c,
+        kind,
+        built,
+        h_words,
+        h_coeffs,
+        jumps,
+        rates,
+        t_words,
+        t_numbers,
+    )
 }
 
 // The lengths of the lent slices come next.
@@ -148,14 +195,14 @@ fn build_given(
     let Filled::Whole(c1) = read::numbers(line, c, &mut lent) else {
         return Verdict::Malformed;
     };
-    let h_len = at_most(lent[0], PLACES);
-    let coeffs_len = at_most(lent[1], PLACES);
-    let jumps_len = at_most(lent[2], PLACES);
-    let rates_len = at_most(lent[3], PLACES);
-    let t_len = at_most(lent[4], PLACES);
-    let numbers_len = at_most(lent[5], PLACES);
-    let work_len = at_most(lent[6], WORK_PLACES);
-    let sums_len = at_most(lent[7], WORK_PLACES);
+    let h_len = read::at_most(lent[0], PLACES);
+    let coeffs_len = read::at_most(lent[1], PLACES);
+    let jumps_len = read::at_most(lent[2], PLACES);
+    let rates_len = read::at_most(lent[3], PLACES);
+    let t_len = read::at_most(lent[4], PLACES);
+    let numbers_len = read::at_most(lent[5], PLACES);
+    let work_len = read::at_most(lent[6], WORK_PLACES);
+    let sums_len = read::at_most(lent[7], WORK_PLACES);
     let tables = (lent[0] ^ h_len as u64)
         | (lent[1] ^ coeffs_len as u64)
         | (lent[2] ^ jumps_len as u64)
@@ -366,7 +413,7 @@ fn build_texts(line: &[u8], c: Cursor, kind: u64, n_qubits: usize, texts: &mut [
     build_lengths(line, c2, kind, n_qubits, texts, &mut room[0..n])
 }
 
-// Kinds 5 to 8.
+// Kinds 5 to 11.
 pub fn build(line: &[u8], c: Cursor, kind: u64) -> Verdict {
     let Read::Number(n_qubits, c1) = read::number(line, c) else {
         return Verdict::Malformed;

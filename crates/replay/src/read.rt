@@ -195,3 +195,14 @@ pub fn status(line: &[u8], c: Cursor) -> ReadStatus {
         c3,
     )
 }
+
+// A recorded length, or all places where it is more.
+pub fn at_most(length: u64, places: usize) -> usize
+    ensures { λ r. ⌜ r ≤ places ⌝ }
+{
+    let n = length as usize;
+    if places < n {
+        return places;
+    }
+    n
+}

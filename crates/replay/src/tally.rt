@@ -27,7 +27,7 @@ pub fn same_status(a: Status, b: Status) -> bool {
 }
 
 // Kinds are counted from 1; place 0 stays empty.
-const KINDS: usize = 9;
+const KINDS: usize = 12;
 
 // The lines that are named before the counts; more would hide them.
 const NAMED: u64 = 10;
@@ -86,14 +86,14 @@ impl Tally {
     }
 
     fn with_case(mut self, k: usize) -> Tally
-        requires { ⌜ k < 9 ⌝ }
+        requires { ⌜ k < 12 ⌝ }
     {
         self.cases[k] = one_more(self.cases[k]);
         self
     }
 
     fn with_disagreement(mut self, k: usize, line_number: u64) -> Tally
-        requires { ⌜ k < 9 ⌝ }
+        requires { ⌜ k < 12 ⌝ }
     {
         self.disagreements[k] = one_more(self.disagreements[k]);
         self.naming(line_number, b" disagrees\n")
@@ -124,6 +124,13 @@ impl Tally {
         print_kind(b"models refused", self.cases[6], self.disagreements[6]);
         print_kind(b"matrices", self.cases[7], self.disagreements[7]);
         print_kind(b"matrices refused", self.cases[8], self.disagreements[8]);
+        print_kind(b"actions", self.cases[9], self.disagreements[9]);
+        print_kind(
+            b"actions of matrices",
+            self.cases[10],
+            self.disagreements[10],
+        );
+        print_kind(b"actions refused", self.cases[11], self.disagreements[11]);
         text(b"malformed lines: ");
         number(self.malformed);
         text(b"\n");

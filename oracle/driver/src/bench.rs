@@ -5,6 +5,7 @@
 //!
 //! The sides take turns, so that a busy machine slows them alike, and the best round counts.
 
+mod actions;
 mod matrices;
 mod models;
 mod words;
@@ -35,6 +36,14 @@ impl Side {
         let start = Instant::now();
         self.checksum = inputs.iter().fold(0, add);
         let each = start.elapsed().as_secs_f64() * 1e9 / inputs.len() as f64;
+        self.nanoseconds = self.nanoseconds.min(each);
+    }
+
+    /// Answers so many inputs at once, or one after another. The time is that for each of them.
+    fn all(&mut self, inputs: usize, answer: impl FnOnce() -> u64) {
+        let start = Instant::now();
+        self.checksum = black_box(answer());
+        let each = start.elapsed().as_secs_f64() * 1e9 / inputs as f64;
         self.nanoseconds = self.nanoseconds.min(each);
     }
 
@@ -72,6 +81,7 @@ pub fn run(seed: u64) -> ExitCode {
         words::bench(seed),
         models::bench(seed),
         matrices::bench(seed),
+        actions::bench(seed),
     ];
     if alike.iter().all(|&alike| alike) {
         ExitCode::SUCCESS

@@ -6,8 +6,10 @@
 //! The port must give document 01's answer to every case. The Rust must give it too, but where the
 //! document lists a difference.
 
+mod actions;
 mod matrices;
 mod models;
+mod standing;
 mod words;
 
 use std::fmt::Debug;
@@ -117,11 +119,25 @@ impl Tally {
     }
 }
 
-/// Compares all operations and prints what was found. Fails on a disagreement.
-pub fn run(seed: u64, cases: usize) -> ExitCode {
-    let mut tallies = words::compare(seed, cases);
-    tallies.extend(models::compare(seed, cases));
-    tallies.extend(matrices::compare(seed, cases));
+/// The parts of the port, each with its comparison.
+const PARTS: [(&str, fn(u64, usize) -> Vec<Tally>); 4] = [
+    ("words", words::compare),
+    ("models", models::compare),
+    ("matrices", matrices::compare),
+    ("actions", actions::compare),
+];
+
+/// Compares all operations, or those of one part, and prints what was found. Fails on a
+/// disagreement.
+pub fn run(seed: u64, cases: usize, only: Option<&str>) -> ExitCode {
+    let asked = |part: &&(&str, _)| only.is_none_or(|only| only == part.0);
+    let parts: Vec<_> = PARTS.iter().filter(asked).collect();
+    if parts.is_empty() {
+        eprintln!("the parts are words, models, matrices, actions");
+        return ExitCode::from(2);
+    }
+    let compare = |(_, compare): &&(&str, fn(u64, usize) -> Vec<Tally>)| compare(seed, cases);
+    let tallies: Vec<Tally> = parts.iter().flat_map(compare).collect();
 
     println!("operation            cases disagreements  expected port alone");
     tallies.iter().for_each(Tally::print);

@@ -6,6 +6,7 @@
 //! Every generator leans towards the limits: registers around the ends of the lanes, letters on the
 //! first and last qubit of a lane, inputs with nothing or one thing wrong.
 
+pub mod actions;
 pub mod matrices;
 pub mod models;
 

@@ -3,9 +3,10 @@
 
 //! Runs the published Rust and the port on the same inputs.
 //!
-//!     driver compare [--seed S] [--cases N]   both answer N random cases of each operation
-//!     driver record  [--seed S] [--cases N]   prints answers of the Rust, for replay
-//!     driver bench   [--seed S]               times both
+//!     driver compare [--seed S] [--cases N] [--only PART]   both answer N random cases of each
+//!                                                           operation
+//!     driver record  [--seed S] [--cases N]                 prints answers of the Rust, for replay
+//!     driver bench   [--seed S]                             times both
 //!
 //! Each part of the port has a module in `compare`, one in `record` and one in `bench`.
 
@@ -19,23 +20,26 @@ mod rules;
 
 use std::process::ExitCode;
 
-const USAGE: &str = "usage: driver compare|record|bench [--seed S] [--cases N]";
+const USAGE: &str = "usage: driver compare|record|bench [--seed S] [--cases N] [--only PART]";
 
 struct Options {
     seed: u64,
     cases: Option<usize>,
+    only: Option<String>,
 }
 
 fn options(mut words: impl Iterator<Item = String>) -> Option<Options> {
     let mut options = Options {
         seed: 1,
         cases: None,
+        only: None,
     };
     while let Some(word) = words.next() {
         let value = words.next()?;
         match word.as_str() {
             "--seed" => options.seed = value.parse().ok()?,
             "--cases" => options.cases = Some(value.parse().ok()?),
+            "--only" => options.only = Some(value),
             _ => return None,
         }
     }
@@ -46,7 +50,7 @@ fn main() -> ExitCode {
     let mut words = std::env::args().skip(1);
     let command = words.next().unwrap_or_default();
     match (command.as_str(), options(words)) {
-        ("compare", Some(o)) => compare::run(o.seed, o.cases.unwrap_or(100_000)),
+        ("compare", Some(o)) => compare::run(o.seed, o.cases.unwrap_or(100_000), o.only.as_deref()),
         ("record", Some(o)) => record::run(o.seed, o.cases.unwrap_or(400)),
         ("bench", Some(o)) => bench::run(o.seed),
         _ => {

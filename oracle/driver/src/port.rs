@@ -6,6 +6,7 @@
 //! The structs and functions are those of `include/pebblelinen.h`, in its order. Nothing checks
 //! one against the other, so change both together. All sides of the driver answer in these structs.
 
+pub mod actions;
 pub mod matrices;
 pub mod models;
 
@@ -24,6 +25,13 @@ pub struct Status {
 pub struct Word {
     pub x: [u64; 2],
     pub z: [u64; 2],
+}
+
+impl Word {
+    /// The lanes in the order of tables.
+    pub fn lanes(self) -> [u64; 4] {
+        [self.x[0], self.x[1], self.z[0], self.z[1]]
+    }
 }
 
 /// Lanes are read as bits.

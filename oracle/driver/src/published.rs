@@ -3,6 +3,7 @@
 
 //! The published Rust, asked and answering in the port's structs.
 
+pub mod actions;
 pub mod matrices;
 pub mod models;
 

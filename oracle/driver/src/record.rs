@@ -7,11 +7,12 @@
 //! Only cases are recorded to which document 01 and the Rust have one answer, but for kinds that say
 //! otherwise.
 
+mod actions;
 mod matrices;
 mod models;
 mod words;
 
-use crate::port::Word;
+use crate::port::{Status, Word};
 use std::process::ExitCode;
 
 /// The numbers of one case.
@@ -48,6 +49,10 @@ impl Line {
         self
     }
 
+    fn status(self, status: Status) -> Self {
+        self.numbers(&[status.refusal, status.first, status.second])
+    }
+
     fn print(&self) {
         let numbers: Vec<String> = self.0.iter().map(|number| format!("{number:x}")).collect();
         println!("{}", numbers.join(" "));
@@ -62,5 +67,6 @@ pub fn run(seed: u64, cases: usize) -> ExitCode {
     words::record(seed, cases);
     models::record(seed, cases / 4);
     matrices::record(seed, cases * 3 / 40);
+    actions::record(seed, cases / 8);
     ExitCode::SUCCESS
 }

@@ -7,6 +7,7 @@
 //! the Rust cannot be asked. A word is taken apart into its letters first; only `order` looks at
 //! lanes.
 
+pub mod actions;
 pub mod matrices;
 pub mod models;
 

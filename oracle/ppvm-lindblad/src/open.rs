@@ -9,6 +9,7 @@
 use crate::word::Word;
 use crate::{LindbladSpec, algebra, expm, mf_expm, truncate, word};
 use fxhash::FxHashMap;
+use num::Complex;
 use ppvm_traits::PauliWordTrait;
 pub use quspin_expm::Degree;
 
@@ -51,13 +52,27 @@ pub fn comm_product<const C: usize>(h: &Word<C>, p: &Word<C>) -> (Word<C>, f64) 
 
 // ── spec ─────────────────────────────────────────────────────────────
 
+/// What the published callers keep from one word to the next.
+#[derive(Default)]
+pub struct ActionScratch<const C: usize> {
+    support: Vec<u32>,
+    candidates: Vec<u32>,
+    sums: FxHashMap<Word<C>, Complex<f64>>,
+}
+
 /// The action of a model on a word, in the order of the published code (by hash).
+#[inline(always)]
 pub fn compute_action_terms<const C: usize>(
     spec: &LindbladSpec<C>,
     p: &Word<C>,
+    scratch: &mut ActionScratch<C>,
 ) -> Vec<(Word<C>, f64)> {
-    let mut sums = FxHashMap::default();
-    spec.compute_action_terms(p, &mut Vec::new(), &mut Vec::new(), &mut sums)
+    let ActionScratch {
+        support,
+        candidates,
+        sums,
+    } = scratch;
+    spec.compute_action_terms(p, support, candidates, sums)
 }
 
 // ── truncate ─────────────────────────────────────────────────────────

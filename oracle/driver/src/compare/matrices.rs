@@ -9,15 +9,15 @@
 //! with a hypot; and only if the Rust answers as the rest of the rules do.
 
 use super::models::{Outcome, by_answer, refused_text, test};
+use super::standing::Standing;
 use super::{Answers, Tally};
 use crate::inputs::Rng;
 use crate::inputs::matrices::{self as inputs, Matrix};
 use crate::inputs::models::{self as model_inputs, Items};
 use crate::port::Status;
 use crate::port::matrices::{self as port, Given};
-use crate::port::models::{Built, Lent, Model, Sizes, build_model, matrix_sizes, model_sizes};
+use crate::port::models::{Built, Lent, Model, Sizes, matrix_sizes};
 use crate::published::matrices::RustMatrix;
-use crate::published::models::{RustItems, RustModel};
 use crate::rules::models::{Complex, MAX_JUMPS, MAX_OPERATORS, MAX_TERMS};
 use crate::rules::{matrices as rules, refusal};
 
@@ -47,46 +47,6 @@ struct Tallies {
     tested: Vec<Tally>,
     /// Whether the lengths that the port names are enough.
     enough: Tally,
-}
-
-/// A model in lent tables, with what it was made of where that is known.
-struct Standing {
-    made_of: Option<(Items, Vec<Matrix>)>,
-    model: Model,
-    lent: Lent,
-}
-
-impl Standing {
-    fn built(rng: &mut Rng, items: Items) -> Self {
-        let sizes = model_sizes(items.hamiltonian.len(), items.jumps.len(), items.longest());
-        let mut lent = model_inputs::lent(rng, sizes);
-        let built = build_model(&items.flat(), items.n_qubits, &mut lent);
-        assert_eq!(built.status, Status::default(), "sound items are accepted");
-        Self {
-            made_of: Some((items, Vec::new())),
-            model: built.model,
-            lent,
-        }
-    }
-
-    /// The same with tables for what is added.
-    fn with_room(&self, rng: &mut Rng, sizes: Sizes) -> Self {
-        Self {
-            made_of: self.made_of.clone(),
-            model: self.model,
-            lent: inputs::relent(rng, &self.lent, sizes),
-        }
-    }
-
-    /// The same model in the Rust, where it can be asked.
-    fn rust(&self) -> Option<RustModel> {
-        let (items, matrices) = self.made_of.as_ref()?;
-        let mut model = RustItems::new(items)?.build().ok()?;
-        for matrix in matrices {
-            RustMatrix::new(matrix)?.add(&mut model).ok()?;
-        }
-        Some(model)
-    }
 }
 
 /// What the Rust is known to answer, and how many pairs it makes: the rules without ranges, limits

@@ -59,7 +59,7 @@ fn entry(rng: &mut Rng) -> Complex {
 }
 
 /// Sets an entry and its mirror. One on the diagonal keeps its real part alone.
-fn set(k: &mut [Vec<Complex>], n: usize, m: usize, (re, im): Complex) {
+pub(super) fn set(k: &mut [Vec<Complex>], n: usize, m: usize, (re, im): Complex) {
     k[m][n] = (re, -im);
     k[n][m] = if n == m { (re, 0.0) } else { (re, im) };
 }

@@ -3,9 +3,10 @@
 
 //! Matrices over operators, added to models.
 
-use super::models::RustModel;
+use super::models::{RustItems, RustModel};
 use super::{parse_pauli_string, status};
 use crate::inputs::matrices::Matrix;
+use crate::inputs::models::Items;
 use crate::port::Status;
 use num::Complex;
 use ppvm_lindblad::Error;
@@ -14,6 +15,15 @@ use ppvm_lindblad::Error;
 pub struct RustMatrix {
     operators: Vec<Vec<(String, Complex<f64>)>>,
     k: Vec<Vec<Complex<f64>>>,
+}
+
+/// A model of items and matrices. Nothing where it cannot be asked for, or is refused.
+pub fn model(items: &Items, matrices: &[Matrix]) -> Option<RustModel> {
+    let mut model = RustItems::new(items)?.build().ok()?;
+    for matrix in matrices {
+        RustMatrix::new(matrix)?.add(&mut model).ok()?;
+    }
+    Some(model)
 }
 
 impl RustMatrix {

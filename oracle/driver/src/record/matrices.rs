@@ -41,9 +41,9 @@ pub fn record(seed: u64, cases: usize) {
 }
 
 /// A matrix and the model that it is added to.
-struct Case {
-    before: Items,
-    matrix: Matrix,
+pub(super) struct Case {
+    pub before: Items,
+    pub matrix: Matrix,
 }
 
 impl Case {
@@ -57,18 +57,22 @@ impl Case {
             }
             let terms = matrix.operators.iter().map(Vec::len).sum::<usize>();
             if matrix.size() <= LARGEST && matrix.operators.len() <= OPERATORS && terms <= TERMS {
-                let identity = vec![b'I'; n_qubits];
-                let count = rng.below(4);
-                let number = |_| (identity.clone(), rng.below(5) as f64);
-                let hamiltonian = (0..count).map(number).collect();
-                let before = Items {
-                    n_qubits,
-                    hamiltonian,
-                    jumps: Vec::new(),
-                };
-                return Self { before, matrix };
+                return Self::of(rng, n_qubits, matrix);
             }
         }
+    }
+
+    /// A matrix that is added to a few Hamiltonian terms I.
+    pub fn of(rng: &mut Rng, n_qubits: usize, matrix: Matrix) -> Self {
+        let identity = vec![b'I'; n_qubits];
+        let count = rng.below(4);
+        let number = |_| (identity.clone(), rng.below(5) as f64);
+        let before = Items {
+            n_qubits,
+            hamiltonian: (0..count).map(number).collect(),
+            jumps: Vec::new(),
+        };
+        Self { before, matrix }
     }
 
     fn h_numbers(&self) -> Vec<f64> {
@@ -76,7 +80,7 @@ impl Case {
     }
 
     /// Lengths that are enough, or what replaying has room for.
-    fn sizes(&self) -> Sizes {
+    pub fn sizes(&self, term_places: usize) -> Sizes {
         let model = Model {
             hamiltonian: self.before.hamiltonian.len(),
             ..Model::default()
@@ -85,16 +89,17 @@ impl Case {
         let sizes = inputs::enough(model, added);
         let work = 256 + TERMS;
         Sizes {
-            t_words: sizes.t_words.min(4 * TERM_PLACES),
-            t_numbers: sizes.t_numbers.min(2 * TERM_PLACES),
+            t_words: sizes.t_words.min(4 * term_places),
+            t_numbers: sizes.t_numbers.min(2 * term_places),
             work_words: 4 * work,
             work_numbers: 2 * work,
             ..sizes
         }
     }
 
-    /// The answer of the rules in tables that are all zero but for the Hamiltonian's numbers.
-    fn add(&self, given: &Given, sizes: Sizes) -> Built {
+    /// The answer of the rules in tables that are all zero but for the Hamiltonian's numbers, and the
+    /// tables.
+    pub fn add(&self, given: &Given, sizes: Sizes) -> (Built, Lent) {
         let h_numbers = self.h_numbers();
         let model = Model {
             qubits: self.before.n_qubits,
@@ -111,7 +116,7 @@ impl Case {
             work_words: vec![0; sizes.work_words],
             work_numbers: vec![0.0; sizes.work_numbers],
         };
-        rules::add_kossakowski(model, given, &mut lent)
+        (rules::add_kossakowski(model, given, &mut lent), lent)
     }
 
     /// The answer of the Rust: its status, and how many jumps and pairs its model has.
@@ -131,16 +136,21 @@ impl Case {
         Some(Built { status, model })
     }
 
-    fn line(&self, kind: u64, given: Given, sizes: Sizes, built: Built) -> Line {
-        let given = port::Given {
+    /// What is given as a model's line has it.
+    pub fn given(&self, given: Given) -> port::Given {
+        port::Given {
             texts: given.texts,
             lengths: given.lengths,
             h_numbers: self.h_numbers(),
             rates: given.k,
             counts: given.counts,
             numbers: given.numbers,
-        };
-        line(kind, self.before.n_qubits, &given, sizes, built)
+        }
+    }
+
+    fn line(&self, kind: u64, given: Given, sizes: Sizes, built: Built) -> Line {
+        let n_qubits = self.before.n_qubits;
+        line(kind, n_qubits, &self.given(given), sizes, built)
     }
 }
 
@@ -149,8 +159,8 @@ fn answered(rng: &mut Rng, refusal: u64) -> Line {
     loop {
         let case = Case::new(rng);
         let given = case.matrix.flat();
-        let sizes = case.sizes();
-        let built = case.add(&given, sizes);
+        let sizes = case.sizes(TERM_PLACES);
+        let (built, _) = case.add(&given, sizes);
         let alike =
             |rust: Built| rust.status == built.status && rust.model.jumps == built.model.jumps;
         if built.status.refusal == refusal && case.rust().is_some_and(alike) {
@@ -170,12 +180,12 @@ fn refused(rng: &mut Rng, refusal: u64) -> Line {
         if rng.one_in(4) {
             inputs::spoil_lengths(rng, &mut given);
         }
-        let mut sizes = case.sizes();
+        let mut sizes = case.sizes(TERM_PLACES);
         if rng.one_in(4) {
             model_inputs::other_length(rng, &mut sizes);
             sizes.h_coeffs = case.before.hamiltonian.len();
         }
-        let built = case.add(&given, sizes);
+        let (built, _) = case.add(&given, sizes);
         if built.status.refusal == refusal {
             return case.line(8, given, sizes, built);
         }

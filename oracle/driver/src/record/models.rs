@@ -6,7 +6,6 @@
 use super::Line;
 use crate::inputs::Rng;
 use crate::inputs::models::{self as inputs, Items};
-use crate::port::Status;
 use crate::port::models::{self as port, Built, Given, Lent, Sizes};
 use crate::published::models::RustItems;
 use crate::rules::models as rules;
@@ -97,11 +96,18 @@ fn refused(rng: &mut Rng, refusal: u64) -> Line {
 }
 
 pub(super) fn line(kind: u64, n_qubits: usize, given: &Given, sizes: Sizes, built: Built) -> Line {
-    let Status {
-        refusal,
-        first,
-        second,
-    } = built.status;
+    let counts = [
+        built.model.hamiltonian,
+        built.model.jumps,
+        built.model.terms,
+    ];
+    given_line(kind, n_qubits, given, sizes)
+        .status(built.status)
+        .numbers(&counts.map(|count| count as u64))
+}
+
+/// The same without the answer.
+pub(super) fn given_line(kind: u64, n_qubits: usize, given: &Given, sizes: Sizes) -> Line {
     let lengths = [
         sizes.h_words,
         sizes.h_coeffs,
@@ -111,11 +117,6 @@ pub(super) fn line(kind: u64, n_qubits: usize, given: &Given, sizes: Sizes, buil
         sizes.t_numbers,
         sizes.work_words,
         sizes.work_numbers,
-    ];
-    let counts = [
-        built.model.hamiltonian,
-        built.model.jumps,
-        built.model.terms,
     ];
     Line::new(kind)
         .number(n_qubits as u64)
@@ -132,6 +133,4 @@ pub(super) fn line(kind: u64, n_qubits: usize, given: &Given, sizes: Sizes, buil
         .number(given.numbers.len() as u64)
         .floats(&given.numbers)
         .numbers(&lengths.map(|length| length as u64))
-        .numbers(&[refusal, first, second])
-        .numbers(&counts.map(|count| count as u64))
 }

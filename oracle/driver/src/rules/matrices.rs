@@ -4,8 +4,9 @@
 //! Matrices over operators, added to models.
 
 use super::models::{
-    Answer, Complex, MAX_JUMPS, MAX_OPERATORS, TERMS_TABLE, Term, at_most, equal, in_range,
-    lay_terms, lent_places, operator, parts, product, refuse, term_places, tested, texts, times,
+    Answer, Complex, MAX_JUMPS, MAX_OPERATORS, Magnitudes, TERMS_TABLE, Term, at_most, conjugate,
+    equal, in_range, lay_terms, lent_places, operator, parts, product, refuse, term_places, tested,
+    texts, times,
 };
 use super::refusal;
 use crate::port::Status;
@@ -37,23 +38,24 @@ impl Stored {
     }
 }
 
-fn square((re, im): Complex) -> f64 {
-    re * re + im * im
-}
-
 /// The first place, in row order and not below the diagonal, where K is not its mirror's conjugate.
-fn not_hermitian(k: &[Vec<Complex>], largest: f64) -> Option<(usize, usize)> {
-    let limit = 1e-10 * 1e-10 * largest.max(1.0);
+fn not_hermitian(by: Magnitudes, k: &[Vec<Complex>], largest: f64) -> Option<(usize, usize)> {
+    let limit = by.tolerance(1e-10) * largest.max(1.0);
     let less = |n: usize, m: usize| (k[n][m].0 - k[m][n].0, k[n][m].1 + k[m][n].1);
     (0..k.len())
         .flat_map(|n| (n..k.len()).map(move |m| (n, m)))
-        .find(|&(n, m)| square(less(n, m)) > limit)
+        .find(|&(n, m)| by.of(less(n, m)) > limit)
 }
 
-fn pair(k: Complex, (n, left): (usize, &[Term]), (m, right): (usize, &[Term])) -> Pair {
+fn pair(
+    by: Magnitudes,
+    k: Complex,
+    (n, left): (usize, &[Term]),
+    (m, right): (usize, &[Term]),
+) -> Pair {
     let factor = |a: &Term, b: &Term| Term {
         word: b.word,
-        number: times(times((a.number.0, -a.number.1), b.number), k),
+        number: times(times(conjugate(a.number), b.number), k),
     };
     Pair {
         left: n,
@@ -62,7 +64,7 @@ fn pair(k: Complex, (n, left): (usize, &[Term]), (m, right): (usize, &[Term])) -
             .iter()
             .flat_map(|a| right.iter().map(move |b| factor(a, b)))
             .collect(),
-        product: product(left, right)
+        product: product(by, left, right)
             .into_iter()
             .map(|Term { word, number }| Term {
                 word,
@@ -73,7 +75,7 @@ fn pair(k: Complex, (n, left): (usize, &[Term]), (m, right): (usize, &[Term])) -
 }
 
 /// All tests but 13.
-fn stored(model: Model, given: &Given, lent: &Lent) -> Answer<Stored> {
+fn stored(by: Magnitudes, model: Model, given: &Given, lent: &Lent) -> Answer<Stored> {
     tested(model, lent)?;
     let count = given.counts.len();
     at_most(MAX_OPERATORS, count)?;
@@ -98,8 +100,8 @@ fn stored(model: Model, given: &Given, lent: &Lent) -> Answer<Stored> {
     let k: Vec<Vec<Complex>> = (0..count)
         .map(|row| flat[row * count..][..count].to_vec())
         .collect();
-    let largest = flat.iter().map(|&k| square(k)).fold(0.0, f64::max);
-    if let Some((n, m)) = not_hermitian(&k, largest) {
+    let largest = flat.iter().map(|&k| by.of(k)).fold(0.0, f64::max);
+    if let Some((n, m)) = not_hermitian(by, &k, largest) {
         return refuse(10, n, m);
     }
     let mut operators = Vec::new();
@@ -113,23 +115,27 @@ fn stored(model: Model, given: &Given, lent: &Lent) -> Answer<Stored> {
     }
     let kept: Vec<(usize, usize)> = (0..count)
         .flat_map(|n| (n..count).map(move |m| (n, m)))
-        .filter(|&(n, m)| square(k[n][m]) > 1e-14 * 1e-14 * largest)
+        .filter(|&(n, m)| by.of(k[n][m]) > by.tolerance(1e-14) * largest)
         .collect();
     at_most(MAX_JUMPS, model.jumps + kept.len())?;
     let pairs = kept
         .into_iter()
-        .map(|(n, m)| pair(k[n][m], (n, &operators[n]), (m, &operators[m])))
+        .map(|(n, m)| pair(by, k[n][m], (n, &operators[n]), (m, &operators[m])))
         .collect();
     Ok(Stored { operators, pairs })
 }
 
 /// Adds a matrix to the model in what is lent.
 pub fn add_kossakowski(model: Model, given: &Given, lent: &mut Lent) -> Built {
+    add_kossakowski_by(Magnitudes::Squares, model, given, lent)
+}
+
+pub fn add_kossakowski_by(by: Magnitudes, model: Model, given: &Given, lent: &mut Lent) -> Built {
     let refused = |status| Built {
         status,
         model: Model::default(),
     };
-    let stored = match stored(model, given, lent) {
+    let stored = match stored(by, model, given, lent) {
         Ok(stored) => stored,
         Err(status) => return refused(status),
     };

@@ -29,6 +29,31 @@ pub fn in_range(x: f64) -> bool {
     x == 0.0 || (2f64.powi(-200)..=2f64.powi(200)).contains(&x.abs())
 }
 
+/// How magnitudes are measured: by squares, as document 01 does, or by hypots, as the Rust does. The
+/// two decide differently only where rounding decides.
+#[derive(Clone, Copy)]
+pub enum Magnitudes {
+    Squares,
+    Hypots,
+}
+
+impl Magnitudes {
+    pub(super) fn of(self, (re, im): Complex) -> f64 {
+        match self {
+            Self::Squares => re * re + im * im,
+            Self::Hypots => re.hypot(im),
+        }
+    }
+
+    /// What a magnitude is compared with.
+    pub(super) fn tolerance(self, tolerance: f64) -> f64 {
+        match self {
+            Self::Squares => tolerance * tolerance,
+            Self::Hypots => tolerance,
+        }
+    }
+}
+
 /// A compiled number: at most 2^620 in magnitude.
 fn bounded(x: f64) -> bool {
     x.abs() <= 2f64.powi(620)
@@ -84,6 +109,28 @@ pub(super) struct Term {
     pub number: Complex,
 }
 
+/// Sums that start at 0, in word order.
+#[derive(Default)]
+pub(super) struct Sums(BTreeMap<[u64; 4], Complex>);
+
+impl Sums {
+    pub fn add(&mut self, Word { x, z }: Word, number: Complex) {
+        let sum = self.0.entry([x[0], x[1], z[0], z[1]]).or_default();
+        *sum = (sum.0 + number.0, sum.1 + number.1);
+    }
+
+    pub fn terms(self) -> Vec<Term> {
+        let term = |([x0, x1, z0, z1], number): ([u64; 4], Complex)| Term {
+            word: Word {
+                x: [x0, x1],
+                z: [z0, z1],
+            },
+            number,
+        };
+        self.0.into_iter().map(term).collect()
+    }
+}
+
 /// What a jump is compiled to.
 struct Compiled {
     rate: f64,
@@ -93,11 +140,15 @@ struct Compiled {
     terms: Vec<Term>,
 }
 
+pub(super) fn conjugate((re, im): Complex) -> Complex {
+    (re, -im)
+}
+
 pub(super) fn times(a: Complex, b: Complex) -> Complex {
     (a.0 * b.0 - a.1 * b.1, a.0 * b.1 + a.1 * b.0)
 }
 
-fn phase_factor(phase: u32) -> Complex {
+pub(super) fn phase_factor(phase: u32) -> Complex {
     match phase % 4 {
         0 => (1.0, 0.0),
         1 => (0.0, 1.0),
@@ -107,32 +158,24 @@ fn phase_factor(phase: u32) -> Complex {
 }
 
 /// The adjoint of an operator times another, in word order, thinned.
-pub(super) fn product(left: &[Term], right: &[Term]) -> Vec<Term> {
-    let mut sums: BTreeMap<[u64; 4], Complex> = BTreeMap::new();
+pub(super) fn product(by: Magnitudes, left: &[Term], right: &[Term]) -> Vec<Term> {
+    let mut sums = Sums::default();
     for a in left {
         for b in right {
             let onto = pauli_mul(a.word, b.word);
-            let conjugate = (a.number.0, -a.number.1);
-            let number = times(times(conjugate, b.number), phase_factor(onto.phase));
-            let Word { x, z } = onto.word;
-            let sum = sums.entry([x[0], x[1], z[0], z[1]]).or_insert((0.0, 0.0));
-            *sum = (sum.0 + number.0, sum.1 + number.1);
+            let number = times(
+                times(conjugate(a.number), b.number),
+                phase_factor(onto.phase),
+            );
+            sums.add(onto.word, number);
         }
     }
-    let kept = |(re, im): Complex| re * re + im * im > 1e-14 * 1e-14;
-    sums.into_iter()
-        .filter(|&(_, number)| kept(number))
-        .map(|([x0, x1, z0, z1], number)| Term {
-            word: Word {
-                x: [x0, x1],
-                z: [z0, z1],
-            },
-            number,
-        })
-        .collect()
+    let mut terms = sums.terms();
+    terms.retain(|term| by.of(term.number) > by.tolerance(1e-14));
+    terms
 }
 
-fn compile(rate: f64, operator: &[Term]) -> Compiled {
+fn compile(by: Magnitudes, rate: f64, operator: &[Term]) -> Compiled {
     match operator {
         [term] if term.number.1 == 0.0 => {
             return Compiled {
@@ -145,7 +188,7 @@ fn compile(rate: f64, operator: &[Term]) -> Compiled {
         _ => {}
     }
     let mut terms = operator.to_vec();
-    terms.extend(product(operator, operator));
+    terms.extend(product(by, operator, operator));
     Compiled {
         rate,
         kind: 1,
@@ -199,7 +242,7 @@ struct Items {
 }
 
 /// All tests but 13.
-fn items(given: &Given, n_qubits: usize, lent: &Lent) -> Answer<Items> {
+fn items(by: Magnitudes, given: &Given, n_qubits: usize, lent: &Lent) -> Answer<Items> {
     if n_qubits > MAX_QUBITS {
         return refuse(1, n_qubits, MAX_QUBITS);
     }
@@ -245,12 +288,12 @@ fn items(given: &Given, n_qubits: usize, lent: &Lent) -> Answer<Items> {
             &given.numbers[2 * first..],
             n_qubits,
         )?;
-        items.jumps.push(compile(rate, &operator));
+        items.jumps.push(compile(by, rate, &operator));
     }
     Ok(items)
 }
 
-fn lay_word(words: &mut [u64], place: usize, word: Word) {
+pub(super) fn lay_word(words: &mut [u64], place: usize, word: Word) {
     words[4 * place..4 * place + 2].copy_from_slice(&word.x);
     words[4 * place + 2..4 * place + 4].copy_from_slice(&word.z);
 }
@@ -264,7 +307,7 @@ pub(super) fn lay_terms(lent: &mut Lent, at: usize, terms: &[Term]) {
     }
 }
 
-fn word_at(words: &[u64], place: usize) -> Word {
+pub(super) fn word_at(words: &[u64], place: usize) -> Word {
     Word {
         x: [words[4 * place], words[4 * place + 1]],
         z: [words[4 * place + 2], words[4 * place + 3]],
@@ -278,11 +321,15 @@ pub(super) fn term_places(lent: &Lent) -> usize {
 
 /// Builds a model in what is lent.
 pub fn build_model(given: &Given, n_qubits: usize, lent: &mut Lent) -> Built {
+    build_model_by(Magnitudes::Squares, given, n_qubits, lent)
+}
+
+pub fn build_model_by(by: Magnitudes, given: &Given, n_qubits: usize, lent: &mut Lent) -> Built {
     let refused = |status| Built {
         status,
         model: Model::default(),
     };
-    let items = match items(given, n_qubits, lent) {
+    let items = match items(by, given, n_qubits, lent) {
         Ok(items) => items,
         Err(status) => return refused(status),
     };

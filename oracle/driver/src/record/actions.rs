@@ -1,0 +1,202 @@
+// SPDX-FileCopyrightText: 2026 The PPVM Authors
+// SPDX-License-Identifier: Apache-2.0
+
+//! Actions of models, and of matrices, on a few words each.
+//!
+//! A case stands in a line like that of a model or a matrix, without the answer to building.
+
+use super::models::given_line;
+use super::{Line, matrices};
+use crate::inputs::Rng;
+use crate::inputs::actions as inputs;
+use crate::inputs::matrices::Matrix;
+use crate::inputs::models::{self as model_inputs, Items};
+use crate::port::Word;
+use crate::port::actions::{Listed, Room};
+use crate::port::models::{Lent, Model, Sizes, model_sizes};
+use crate::published::actions as published;
+use crate::published::matrices::model as rust_model;
+use crate::rules::MAX_QUBITS;
+use crate::rules::actions as rules;
+use crate::rules::models::build_model;
+
+/// The words of a case, and those that they are chosen from.
+const WORDS: usize = 5;
+const CHOSEN_FROM: usize = 16;
+
+/// The numbers of a line; the bytes of a model's texts, its terms, and the words that an action
+/// touches and lists, which replaying has room for.
+const LONGEST: usize = 900;
+const BYTES: usize = 800;
+const TERM_PLACES: usize = 256;
+const SUM_PLACES: usize = 256;
+const LIST_PLACES: usize = 24;
+
+pub fn record(seed: u64, cases: usize) {
+    let rng = &mut Rng::new(seed);
+    println!("# 9, as 5 to the lengths of the lent slices, then those of work_words work_sums");
+    println!(
+        "#   out_words out_values, then words_len and for each word x0 x1 z0 z1 refusal first"
+    );
+    println!("#   second count, the lanes of the words listed and their values");
+    (0..cases).for_each(|case| answered(rng, |rng| of_model(rng, 9, case)).print());
+    println!("# a, as 9: actions of a matrix, given as in 7");
+    (0..cases).for_each(|_| answered(rng, of_matrix).print());
+    println!("# b, as 9: refusals of document 01 that the Rust does not have");
+    (0..cases).for_each(|case| refused(rng, case).print());
+}
+
+/// A model that was built, with what it was built from and the line so far.
+struct Standing {
+    items: Items,
+    matrices: Vec<Matrix>,
+    line: Line,
+    model: Model,
+    lent: Lent,
+}
+
+/// A small model, or now and then one of many items. Nothing where there is no room for it.
+fn of_model(rng: &mut Rng, kind: u64, case: usize) -> Option<Standing> {
+    let items = match case % 8 {
+        0 => inputs::crowded(rng),
+        _ => inputs::model(rng).0,
+    };
+    let given = items.flat();
+    let sizes = model_sizes(items.hamiltonian.len(), items.jumps.len(), items.longest());
+    let sizes = Sizes {
+        t_words: sizes.t_words.min(4 * TERM_PLACES),
+        t_numbers: sizes.t_numbers.min(2 * TERM_PLACES),
+        ..sizes
+    };
+    let mut lent = model_inputs::lent(rng, sizes);
+    let built = build_model(&given, items.n_qubits, &mut lent);
+    (built.status.refusal == 0 && given.texts.len() <= BYTES).then(|| Standing {
+        line: given_line(kind, items.n_qubits, &given, sizes),
+        items,
+        matrices: Vec::new(),
+        model: built.model,
+        lent,
+    })
+}
+
+/// A small matrix. Nothing where there is no room for it.
+fn of_matrix(rng: &mut Rng) -> Option<Standing> {
+    let (n_qubits, matrix) = inputs::matrix(rng);
+    let case = matrices::Case::of(rng, n_qubits, matrix);
+    let given = case.matrix.flat();
+    let sizes = case.sizes(TERM_PLACES);
+    let (built, lent) = case.add(&given, sizes);
+    (built.status.refusal == 0 && given.texts.len() <= BYTES).then(|| Standing {
+        line: given_line(10, n_qubits, &case.given(given), sizes),
+        items: case.before,
+        matrices: vec![case.matrix],
+        model: built.model,
+        lent,
+    })
+}
+
+impl Standing {
+    fn words(&self, rng: &mut Rng) -> Vec<Word> {
+        let words = inputs::words(rng, &self.items, &self.matrices, CHOSEN_FROM);
+        (0..WORDS).map(|_| rng.pick(&words)).collect()
+    }
+
+    /// The most places that actions on these words need. Nothing where replaying has too few.
+    fn places(&self, words: &[Word]) -> Option<(usize, usize)> {
+        let mut most = (0, 0);
+        for &p in words {
+            let (sums, list) = rules::places(self.model, &self.lent, p)?;
+            most = (most.0.max(sums), most.1.max(list));
+        }
+        (most.0 <= SUM_PLACES && most.1 <= LIST_PLACES).then_some(most)
+    }
+
+    /// The line with the answers of the rules in tables of so many places, and the lists.
+    fn acted(
+        &self,
+        rng: &mut Rng,
+        words: &[Word],
+        (sums, list): (usize, usize),
+    ) -> (Line, Vec<(Listed, Vec<(Word, f64)>)>) {
+        let room = inputs::room(rng, sums, list);
+        let lengths = [
+            room.work_words.len(),
+            room.work_sums.len(),
+            room.out_words.len(),
+            room.out_values.len(),
+            words.len(),
+        ];
+        let line = Line(self.line.0.clone()).numbers(&lengths.map(|length| length as u64));
+        let act = |&p: &Word| {
+            let mut room: Room = room.clone();
+            let listed = rules::compute_action_terms(self.model, &self.lent, p, &mut room);
+            (listed, room.list(listed.count))
+        };
+        let answers: Vec<(Listed, Vec<(Word, f64)>)> = words.iter().map(act).collect();
+        let answered = |line: Line, (&p, (listed, list)): (&Word, &(Listed, Vec<(Word, f64)>))| {
+            let line = line.word(p).status(listed.status);
+            let line = line.number(listed.count as u64);
+            let line = list.iter().fold(line, |line, (word, _)| line.word(*word));
+            let values: Vec<f64> = list.iter().map(|(_, value)| *value).collect();
+            line.floats(&values)
+        };
+        (words.iter().zip(&answers).fold(line, answered), answers)
+    }
+}
+
+/// A case whose answers the Rust gives too.
+fn answered(rng: &mut Rng, mut standing: impl FnMut(&mut Rng) -> Option<Standing>) -> Line {
+    loop {
+        let Some(standing) = standing(rng) else {
+            continue;
+        };
+        let words = standing.words(rng);
+        let Some(places) = standing.places(&words) else {
+            continue;
+        };
+        let (line, answers) = standing.acted(rng, &words, places);
+        let Some(model) = rust_model(&standing.items, &standing.matrices) else {
+            continue;
+        };
+        let bits = |list: &[(Word, f64)]| -> Vec<(Word, u64)> {
+            list.iter().map(|(w, x)| (*w, x.to_bits())).collect()
+        };
+        let alike = words
+            .iter()
+            .zip(&answers)
+            .all(|(&p, (_, list))| bits(&published::compute_action_terms(&model, p)) == bits(list));
+        let some = answers.iter().any(|(_, list)| !list.is_empty());
+        if alike && some && line.0.len() <= LONGEST {
+            return line;
+        }
+    }
+}
+
+/// A case with a word outside of the register, or with too few places for some word.
+fn refused(rng: &mut Rng, case: usize) -> Line {
+    loop {
+        let Some(standing) = of_model(rng, 11, 1 + case % 7) else {
+            continue;
+        };
+        let mut words = standing.words(rng);
+        let Some((sums, list)) = standing.places(&words) else {
+            continue;
+        };
+        let n_qubits = standing.items.n_qubits;
+        let (refusal, places) = match case % 3 {
+            0 if n_qubits < MAX_QUBITS => {
+                let place = rng.below(WORDS);
+                words[place] = inputs::outside(rng, n_qubits);
+                ((11, 0), (sums, list))
+            }
+            1 if sums > 0 => ((13, 1), (sums - 1, list)),
+            2 if list > 0 => ((13, 3), (sums, list - 1)),
+            _ => continue,
+        };
+        let (line, answers) = standing.acted(rng, &words, places);
+        let given = |listed: &Listed| (listed.status.refusal, listed.status.first) == refusal;
+        if answers.iter().any(|(listed, _)| given(listed)) && line.0.len() <= LONGEST {
+            return line;
+        }
+    }
+}
