@@ -10,7 +10,7 @@
 use super::Side;
 use crate::inputs::Rng;
 use crate::inputs::actions as inputs;
-use crate::inputs::models as model_inputs;
+use crate::inputs::models::{self as model_inputs, Items};
 use crate::port::Word;
 use crate::port::actions::{self as port, CountRoom, Room};
 use crate::port::models::{build_model, model_sizes};
@@ -28,22 +28,31 @@ const SINGLE: usize = 128;
 /// Places that are enough for the sums of an action here.
 const PLACES: usize = 4096;
 
-/// Whether both sides listed as many words.
+/// Whether both sides listed as many words. The chains with the most items have more near each word; in the
+/// last model these lie on the half of the qubits that no word has letters on.
 pub fn bench(seed: u64) -> bool {
     let rng = &mut Rng::new(seed);
-    let alike = [
-        act(rng, MAX_QUBITS / 2, None, 4096),
-        act(rng, MAX_QUBITS, None, 4096),
-        act(rng, MAX_QUBITS, None, 65_536),
-        act(rng, MAX_QUBITS, Some(MAX_JUMPS), 4096),
-        act(rng, MAX_QUBITS, Some(MAX_JUMPS), 65_536),
-    ];
-    alike.iter().all(|&alike| alike)
+    let half = MAX_QUBITS / 2;
+    let mut alike = true;
+    for (n_qubits, most, count) in [
+        (half, None, 4096),
+        (MAX_QUBITS, None, 4096),
+        (MAX_QUBITS, None, 65_536),
+        (MAX_QUBITS, Some(MAX_JUMPS), 4096),
+        (MAX_QUBITS, Some(MAX_JUMPS), 65_536),
+    ] {
+        let items = inputs::chain(rng, n_qubits, most);
+        let words = inputs::local_words(rng, n_qubits, count);
+        alike &= act(rng, items, &words);
+    }
+    let items = inputs::chain_beside(rng, MAX_QUBITS, MAX_JUMPS);
+    let words = inputs::local_words(rng, half, 4096);
+    alike & act(rng, items, &words)
 }
 
-fn act(rng: &mut Rng, n_qubits: usize, items: Option<usize>, count: usize) -> bool {
-    let items = inputs::chain(rng, n_qubits, items);
-    let words = inputs::local_words(rng, n_qubits, count);
+fn act(rng: &mut Rng, items: Items, words: &[Word]) -> bool {
+    let n_qubits = items.n_qubits;
+    let count = words.len();
     let rust_items = RustItems::new(&items).expect("texts are ASCII");
     let rust_model = rust_items.build().expect("it is accepted");
     let rust_words: Vec<RustWord> = words.iter().map(|&p| rust_word(n_qubits, p)).collect();

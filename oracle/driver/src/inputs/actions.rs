@@ -263,6 +263,38 @@ pub fn chain(rng: &mut Rng, n_qubits: usize, items: Option<usize>) -> Items {
     }
 }
 
+/// A chain on the first half of the qubits, and then, up to so many items of each sort, items of a chain on
+/// the other half.
+pub fn chain_beside(rng: &mut Rng, n_qubits: usize, items: usize) -> Items {
+    let half = n_qubits / 2;
+    let Items {
+        mut hamiltonian,
+        mut jumps,
+        ..
+    } = chain(rng, half, None);
+    let beside = chain(rng, half, Some(items));
+    let first = |text: &mut Vec<u8>| text.extend(vec![b'I'; half]);
+    let second = |text: &mut Vec<u8>| drop(text.splice(0..0, vec![b'I'; half]));
+    hamiltonian.iter_mut().for_each(|(text, _)| first(text));
+    let terms = jumps.iter_mut().flat_map(|(_, terms)| terms);
+    terms.for_each(|(text, _)| first(text));
+    for (mut text, number) in beside.hamiltonian {
+        second(&mut text);
+        hamiltonian.push((text, number));
+    }
+    for (rate, mut terms) in beside.jumps {
+        terms.iter_mut().for_each(|(text, _)| second(text));
+        jumps.push((rate, terms));
+    }
+    hamiltonian.truncate(items);
+    jumps.truncate(items);
+    Items {
+        n_qubits,
+        hamiltonian,
+        jumps,
+    }
+}
+
 /// So many different words, each with one to four letters on six neighbouring qubits.
 pub fn local_words(rng: &mut Rng, n_qubits: usize, count: usize) -> Vec<Word> {
     let mut found = BTreeSet::new();
