@@ -1,0 +1,4 @@
+// SPDX-FileCopyrightText: 2026 The PPVM Authors
+// SPDX-License-Identifier: Apache-2.0
+
+// What a basis forgets and takes in: entries kept in their order, by flags.
