@@ -2,3 +2,8 @@
 -- SPDX-License-Identifier: Apache-2.0
 
 -- Laws of this crate.
+pub mod PickLaws
+pub mod MoveLaws
+pub mod LaneLaws
+pub mod FillLaws
+pub mod RetainLaws

@@ -2,3 +2,4 @@
 -- SPDX-License-Identifier: Apache-2.0
 
 -- Entries that are kept.
+pub mod Retained

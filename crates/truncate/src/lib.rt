@@ -2,3 +2,4 @@
 // SPDX-License-Identifier: Apache-2.0
 
 // What a basis forgets and takes in: entries kept in their order, by flags.
+pub mod retain;
