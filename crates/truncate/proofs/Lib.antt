@@ -7,3 +7,8 @@ pub mod MoveLaws
 pub mod LaneLaws
 pub mod FillLaws
 pub mod RetainLaws
+pub mod WriteLaws
+pub mod WalkLaws
+pub mod FlagLaws
+pub mod Listed
+pub mod ChosenLaws

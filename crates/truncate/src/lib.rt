@@ -2,4 +2,5 @@
 // SPDX-License-Identifier: Apache-2.0
 
 // What a basis forgets and takes in: entries kept in their order, by flags.
+pub mod choose;
 pub mod retain;
