@@ -5,10 +5,10 @@
 use mathlib.Core.Path.{_≡_, refl, ap, ap₂}
 use mathlib.Core.Bool.{Bool, true, false, cond}
 use mathlib.Core.List.{List, [], _∷_, _++_}
-use Prim.Native.Nat.{ℕ, zero, suc, _*_, _/_, _≤_}
+use Prim.Native.Nat.{ℕ, zero, suc, _+_, _*_, _/_, _≤_}
 use native.Mathlib.Omega.{arith}
 use lib.Dec.{eqb}
-use lib.ListN.{length, getD, take, replicate}
+use lib.ListN.{length, getD, take, drop, replicate}
 use Rattle.word.specs.Word.{identity, pack, unpack}
 use Rattle.word.specs.Flat.{words}
 use Rattle.word.specs.declared.word.Word.{Word}
@@ -24,11 +24,6 @@ lanes-front (a ∷ b ∷ c ∷ []) (suc n) p e h = absurd (omega arith)
 lanes-front (a ∷ b ∷ c ∷ d ∷ r) (suc n) p e h =
     let z : p ≡ suc (suc (suc (suc (n * 4)))) = omega arith in
     rw z (ap (λ (t : List ℕ). a ∷ b ∷ c ∷ d ∷ t) (lanes-front r n (n * 4) refl (omega arith)))
-
-pub lanes-length : (ws : List Word) → length (flatLanes ws) ≡ 4 * length ws
-unfolding flatLanes
-lanes-length [] = refl
-lanes-length (w ∷ ws) = omega (arith, lanes-length ws)
 
 pub lanes-append : (v w : List Word) → flatLanes (v ++ w) ≡ flatLanes v ++ flatLanes w
 unfolding flatLanes
@@ -70,6 +65,16 @@ pub words-lanes : (ws : List Word) (r : List ℕ) → Whole ws → words (flatLa
 unfolding Whole words flatLanes
 words-lanes [] r h = refl
 words-lanes (w ∷ ws) r h = ap₂ (λ (v : Word) (t : List Word). v ∷ t) (h .0) (words-lanes ws r (h .1))
+
+-- whole words are passed over
+pub words-drop : (l : List ℕ) (n p : ℕ) → p ≡ 4 * n → words (drop p l) ≡ drop n (words l)
+unfolding words
+words-drop l zero p e = let z : p ≡ 0 = omega arith in rw z
+words-drop [] (suc n) p e = let z : p ≡ suc (3 + 4 * n) = omega arith in rw z
+words-drop (a ∷ []) (suc n) p e = let z : p ≡ suc (suc (2 + 4 * n)) = omega arith in rw z
+words-drop (a ∷ b ∷ []) (suc n) p e = let z : p ≡ suc (suc (suc (1 + 4 * n))) = omega arith in rw z
+words-drop (a ∷ b ∷ c ∷ []) (suc n) p e = let z : p ≡ suc (suc (suc (suc (4 * n)))) = omega arith in rw z
+words-drop (a ∷ b ∷ c ∷ d ∷ r) (suc n) p e = let z : p ≡ suc (suc (suc (suc (4 * n)))) = omega arith in rw z (words-drop r n (4 * n) refl)
 
 pub words-zero : (n : ℕ) → words (replicate n 0) ≡ replicate (n / 4) identity
 unfolding words

@@ -12,3 +12,5 @@ pub mod WalkLaws
 pub mod FlagLaws
 pub mod Listed
 pub mod ChosenLaws
+pub mod AdmitLaws
+pub mod PruneLaws

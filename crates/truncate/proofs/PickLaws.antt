@@ -35,6 +35,17 @@ flagged-skips ks i h e = rw add-one (flagged-skip ks i h e)
 pub flagged-takes : (ks : List ℕ) (i : ℕ) → i < length ks → eqb (getD ks i 0) 0 ≡ false → flagged (take (i + 1) ks) ≡ flagged (take i ks) + 1
 flagged-takes ks i h e = rw (add-one i, add-one (flagged (take i ks))) (flagged-take ks i h e)
 
+pub flagged-below : (ks : List ℕ) (i n : ℕ) → i < n → i < length ks → eqb (getD ks i 0) 0 ≡ false → flagged (take i ks) < flagged (take n ks)
+unfolding flagged
+flagged-below [] i n g h e = absurd (omega arith)
+flagged-below (k ∷ ks) i zero g h e = absurd (omega arith)
+flagged-below (k ∷ ks) zero (suc n) g h e = rw e (omega arith)
+flagged-below (k ∷ ks) (suc i) (suc n) g h e = go (eqb k 0) (flagged (take i ks)) (flagged (take n ks)) (flagged-below ks i n (omega arith) (omega arith) e)
+  where
+    go : (b : Bool) (m n : ℕ) → m < n → cond b m (suc m) < cond b n (suc n)
+    go true m n h = h
+    go false m n h = omega arith
+
 -- ---- what they pick
 module _ {A : Type 0} where
   pick-nil : (ks : List ℕ) → _≡_ {A = List A} (pick ks []) []
