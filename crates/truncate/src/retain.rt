@@ -1,0 +1,63 @@
+// SPDX-FileCopyrightText: 2026 The PPVM Authors
+// SPDX-License-Identifier: Apache-2.0
+
+// Entries of a lent basis kept by flags, in their order. The kept ones move down, and every place past
+// them becomes 0.
+ghost use mathlib.Core.Path.{_≡_};
+ghost use Prim.Native.Nat.{_*_, _≤_};
+ghost use lib.ListN.{length, take};
+ghost use Rattle.truncate.specs.Retained.{flagged, retainedLanes, retainedNumbers, Retains};
+use table::clear::clear_lanes;
+use table::clear::clear_numbers;
+use word::flat::WORD_LANES;
+use word::flat::set_word;
+use word::flat::word_at;
+
+fn retain_words(words: &mut [u64], len: usize, kept: &[u64]) -> usize
+    requires { ⌜ (4 * len ≤ length (now words)) × (len ≤ length (now kept)) ⌝ }
+    ensures { λ r. ⌜ (r ≡ flagged (take len (now (kept .entry)))) × (now (words .exit) ≡ retainedLanes len (now (kept .entry)) (now (words .entry))) ⌝ }
+{
+    let mut held = 0;
+    let mut i = 0;
+    while i < len {
+        if kept[i] == 0 {
+            i += 1;
+        } else {
+            let w = word_at(words, i);
+            set_word(words, held, w);
+            held += 1;
+            i += 1;
+        }
+    }
+    let end = held * WORD_LANES;
+    clear_lanes(&mut words[end..]);
+    held
+}
+
+fn retain_numbers(coeffs: &mut [f64], len: usize, kept: &[u64]) -> usize
+    requires { ⌜ (len ≤ length (now coeffs)) × (len ≤ length (now kept)) ⌝ }
+    ensures { λ r. ⌜ (r ≡ flagged (take len (now (kept .entry)))) × (now (coeffs .exit) ≡ retainedNumbers len (now (kept .entry)) (now (coeffs .entry))) ⌝ }
+{
+    let mut held = 0;
+    let mut i = 0;
+    while i < len {
+        if kept[i] == 0 {
+            i += 1;
+        } else {
+            coeffs[held] = coeffs[i];
+            held += 1;
+            i += 1;
+        }
+    }
+    clear_numbers(&mut coeffs[held..]);
+    held
+}
+
+// Of the first `len` entries those stay whose flag is not 0: how many.
+pub fn retain_in_place(words: &mut [u64], coeffs: &mut [f64], len: usize, kept: &[u64]) -> usize
+    requires { ⌜ (4 * len ≤ length (now words)) × (len ≤ length (now coeffs)) × (len ≤ length (now kept)) ⌝ }
+    ensures { λ r. ⌜ Retains len (now (kept .entry)) (now (words .entry)) (now (coeffs .entry)) r (now (words .exit)) (now (coeffs .exit)) ⌝ }
+{
+    retain_words(words, len, kept);
+    retain_numbers(coeffs, len, kept)
+}
