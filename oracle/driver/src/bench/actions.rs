@@ -46,7 +46,7 @@ pub fn bench(seed: u64) -> bool {
         alike &= act(rng, items, &words);
     }
     let items = inputs::chain_beside(rng, MAX_QUBITS, MAX_JUMPS);
-    let words = inputs::local_words(rng, half, 4096);
+    let words = inputs::local_words(rng, half, 32_768);
     alike & act(rng, items, &words)
 }
 
