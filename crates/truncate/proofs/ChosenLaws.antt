@@ -8,13 +8,18 @@ use mathlib.Core.List.{List, [], _∷_, map}
 use Prim.Native.Nat.{ℕ, zero, suc, _+_, _-_, _≤_, _<_, min, max}
 use native.Mathlib.Omega.{arith}
 use lib.Dec.{eqb, ltb}
-use lib.ListN.{length, getD, set, length-set, length-map, List·getD-map}
+use lib.ListN.{length, getD, set, replicate, length-set, length-map, length-replicate, List·getD-map}
 use lib.Seq.{getD-set-same, getD-set-other}
 use borrow.Author.Tests.{ltb-true, ltb-false, eqb-true, eqb-false, eq-eqb, ne-eqb}
 use Rattle.truncate.specs.Retained.{flagged}
 use Rattle.truncate.specs.Chosen.{flagOf, walked, chosen, Below, occurrences, EachOnce}
-use Rattle.truncate.proofs.FlagLaws.{Kept, flagged-set, flagged-all, flagged-same}
+use Rattle.truncate.proofs.FlagLaws.{Kept, flagged-set, flagged-all, flagged-same, flagged-none}
 use Rattle.truncate.proofs.Listed.{AtMostOnce, occurs-at, occurs-not, once-rest, gone}
+
+-- what holds of both lists holds of the one that a test takes
+either : (P : List ℕ → List ℕ → Type 0) (b : Bool) (s t s′ t′ : List ℕ) → P s s′ → P t t′ → P (cond b s t) (cond b s′ t′)
+either P true s t s′ t′ x y = x
+either P false s t s′ t′ x y = y
 
 -- ---- raised flags stay raised
 set-kept : (l : List ℕ) (q p : ℕ) → Kept l p → Kept (set l q 1) p
@@ -29,11 +34,9 @@ unfolding walked
 walked-keeps fixed [] s flags p k = k
 walked-keeps fixed (q ∷ order) zero flags p k = k
 walked-keeps fixed (q ∷ order) (suc s) flags p k =
-    go (eqb (getD fixed q 0) 0) (walked-keeps fixed order s (set flags q 1) p (set-kept flags q p k)) (walked-keeps fixed order (suc s) flags p k)
-  where
-    go : (b : Bool) → Kept (walked fixed order s (set flags q 1)) p → Kept (walked fixed order (suc s) flags) p → Kept (cond b (walked fixed order s (set flags q 1)) (walked fixed order (suc s) flags)) p
-    go true a b = a
-    go false a b = b
+    let taken : List ℕ = walked fixed order s (set flags q 1) in
+    let passed : List ℕ = walked fixed order (suc s) flags in
+    either (λ l _. Kept l p) (eqb (getD fixed q 0) 0) taken passed taken passed (walked-keeps fixed order s (set flags q 1) p (set-kept flags q p k)) (walked-keeps fixed order (suc s) flags p k)
 
 -- ---- more slots keep at least the same
 set-more : (l l′ : List ℕ) (q : ℕ) → length l ≡ length l′ → ((p : ℕ) → Kept l p → Kept l′ p) → (p : ℕ) → Kept (set l q 1) p → Kept (set l′ q 1) p
@@ -52,14 +55,10 @@ walked-more fixed [] s s′ flags flags′ h e m p k = m p k
 walked-more fixed (q ∷ order) zero s′ flags flags′ h e m p k = walked-keeps fixed (q ∷ order) s′ flags′ p (m p k)
 walked-more fixed (q ∷ order) (suc s) zero flags flags′ h e m p k = absurd (omega arith)
 walked-more fixed (q ∷ order) (suc s) (suc s′) flags flags′ h e m p k =
-    go (eqb (getD fixed q 0) 0)
+    either (λ l l′. Kept l p → Kept l′ p) (eqb (getD fixed q 0) 0)
+    (walked fixed order s (set flags q 1)) (walked fixed order (suc s) flags) (walked fixed order s′ (set flags′ q 1)) (walked fixed order (suc s′) flags′)
     (walked-more fixed order s s′ (set flags q 1) (set flags′ q 1) (omega arith) (omega (arith, e, length-set flags q 1, length-set flags′ q 1)) (set-more flags flags′ q e m) p)
     (walked-more fixed order (suc s) (suc s′) flags flags′ h e m p) k
-  where
-    go : (b : Bool) → (Kept (walked fixed order s (set flags q 1)) p → Kept (walked fixed order s′ (set flags′ q 1)) p) → (Kept (walked fixed order (suc s) flags) p → Kept (walked fixed order (suc s′) flags′) p)
-        → Kept (cond b (walked fixed order s (set flags q 1)) (walked fixed order (suc s) flags)) p → Kept (cond b (walked fixed order s′ (set flags′ q 1)) (walked fixed order (suc s′) flags′)) p
-    go true a b = a
-    go false a b = b
 
 -- a fixed position is kept
 pub chosen-fixed : (order fixed : List ℕ) (slots p : ℕ) → Kept fixed p → Kept (chosen order fixed slots) p
@@ -99,16 +98,14 @@ walked-earlier fixed (q ∷ order) (suc s) flags o f e b i zero h g x y k =
 walked-earlier fixed (q ∷ order) (suc s) flags o f e b zero (suc j) h g x y k = absurd (omega arith)
 walked-earlier fixed (q ∷ order) (suc s) flags o f e b (suc i) (suc j) h g x y k =
     let rest : Below (length fixed) order = record { below = λ l m. b .below (suc l) (omega arith) } in
-    go (eqb (getD fixed q 0) 0)
+    let taken : List ℕ = walked fixed order s (set flags q 1) in
+    let passed : List ℕ = walked fixed order (suc s) flags in
+    either (λ l l′. Kept l (getD order i 0) → Kept l′ (getD order j 0)) (eqb (getD fixed q 0) 0) taken passed taken passed
     (walked-earlier fixed order s (set flags q 1) (once-rest q order o) (fresh-set q order o fixed flags f) (length-set flags q 1 ∙ e) rest i j (omega arith) (omega arith) x y)
     (walked-earlier fixed order (suc s) flags (once-rest q order o) (fresh-rest q order o fixed flags f) e rest i j (omega arith) (omega arith) x y) k
-  where
-    go : (c : Bool) → (Kept (walked fixed order s (set flags q 1)) (getD order i 0) → Kept (walked fixed order s (set flags q 1)) (getD order j 0)) → (Kept (walked fixed order (suc s) flags) (getD order i 0) → Kept (walked fixed order (suc s) flags) (getD order j 0))
-        → Kept (cond c (walked fixed order s (set flags q 1)) (walked fixed order (suc s) flags)) (getD order i 0) → Kept (cond c (walked fixed order s (set flags q 1)) (walked fixed order (suc s) flags)) (getD order j 0)
-    go true a b = a
-    go false a b = b
 
 -- ---- how many are kept
+
 -- how many of the listed are not fixed
 unfoldable free : List ℕ → List ℕ → ℕ
 free fixed [] = 0
@@ -163,12 +160,9 @@ unfolding walked
 walked-length fixed [] s flags = refl
 walked-length fixed (q ∷ order) zero flags = refl
 walked-length fixed (q ∷ order) (suc s) flags =
-    go (eqb (getD fixed q 0) 0) (walked-length fixed order s (set flags q 1) ∙ length-set flags q 1) (walked-length fixed order (suc s) flags)
-  where
-    go : (b : Bool) → length (walked fixed order s (set flags q 1)) ≡ length flags → length (walked fixed order (suc s) flags) ≡ length flags
-        → length (cond b (walked fixed order s (set flags q 1)) (walked fixed order (suc s) flags)) ≡ length flags
-    go true x y = x
-    go false x y = y
+    let taken : List ℕ = walked fixed order s (set flags q 1) in
+    let passed : List ℕ = walked fixed order (suc s) flags in
+    either (λ l _. length l ≡ length flags) (eqb (getD fixed q 0) 0) taken passed taken passed (walked-length fixed order s (set flags q 1) ∙ length-set flags q 1) (walked-length fixed order (suc s) flags)
 
 -- ---- an order that lists each position below n once
 module _ (n : ℕ) (order fixed : List ℕ) (each : EachOnce n order) (long : length fixed ≡ n) where
@@ -239,3 +233,7 @@ module _ (n : ℕ) (order fixed : List ℕ) (each : EachOnce n order) (long : le
       go : (b : Bool) → ltb i j ≡ b → i < j
       go true t = ltb-true i j t
       go false t = absurd (walked-earlier fixed order slots start at-most-once fresh-start start-long below-fixed i j h (ltb-false i j t) x y k z)
+
+-- where no position is fixed, as many as there are slots, or all
+pub chosen-unfixed : (n : ℕ) (order : List ℕ) → EachOnce n order → (slots : ℕ) → flagged (chosen order (replicate n 0) slots) ≡ min slots n
+chosen-unfixed n order each slots = omega (arith, chosen-count n order (replicate n 0) each (length-replicate n 0) slots, flagged-none n)

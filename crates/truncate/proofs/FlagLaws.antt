@@ -1,14 +1,14 @@
 -- SPDX-FileCopyrightText: 2026 The PPVM Authors
 -- SPDX-License-Identifier: Apache-2.0
 
--- How many flags are not 0: once one is raised, where all are, and where each is made 0 or 1. Assumes nothing.
+-- How many flags are not 0: once one is raised, where all or none are, and where each is made 0 or 1. Assumes nothing.
 use mathlib.Core.Path.{_≡_, refl, ap}
 use mathlib.Core.Bool.{Bool, true, false, cond}
 use mathlib.Core.List.{List, [], _∷_, map}
 use Prim.Native.Nat.{ℕ, zero, suc, _<_}
 use native.Mathlib.Omega.{arith}
 use lib.Dec.{eqb}
-use lib.ListN.{length, getD, set}
+use lib.ListN.{length, getD, set, replicate}
 use borrow.Author.Tests.{ne-eqb}
 use Rattle.truncate.specs.Retained.{flagged}
 use Rattle.truncate.specs.Chosen.{flagOf}
@@ -42,3 +42,8 @@ flagged-same (x ∷ l) = go (eqb x 0) (flagged (map flagOf l)) (flagged l) (flag
     go : (b : Bool) (m n : ℕ) → m ≡ n → cond (eqb (cond b 0 1) 0) m (suc m) ≡ cond b n (suc n)
     go true m n e = e
     go false m n e = ap suc e
+
+pub flagged-none : (n : ℕ) → flagged (replicate n 0) ≡ 0
+unfolding flagged
+flagged-none zero = refl
+flagged-none (suc n) = flagged-none n

@@ -2,7 +2,7 @@
 -- SPDX-License-Identifier: Apache-2.0
 
 -- What is left once all entries have been looked at, and the words in it. Assumes nothing.
-use mathlib.Core.Path.{_≡_, ap, ap₂, _∙_}
+use mathlib.Core.Path.{_≡_, refl, ap, _∙_}
 use mathlib.Core.List.{List, _++_}
 use Prim.Native.Nat.{ℕ, _-_, _*_, _/_, _≤_}
 use native.Mathlib.Omega.{arith}
@@ -26,20 +26,15 @@ module _ (ks : List ℕ) (n i len : ℕ) (all : i ≡ len) (count : n ≡ flagge
       → y ≡ replicate (length (take (length lanes - n * 4) (drop (n * 4) lanes))) 0 → putMid (n * 4) (length lanes - n * 4) lanes y ≡ retainedLanes len ks lanes₀
   lanes-done lanes₀ lanes y m long room e =
       let in-lanes : n * 4 ≤ length lanes = omega (arith, m .few, all, long, room) in
+      let front : take (n * 4) lanes ≡ flatLanes (pick ks (take i (words lanes₀))) = lanes-front lanes n (n * 4) refl in-lanes ∙ ap flatLanes (m .front) in
       let rest : length lanes - n * 4 ≡ length lanes₀ - 4 * flagged (take len ks) = omega (arith, long, retained-count) in
-      rest-filled 0 (n * 4) lanes y in-lanes e
-      ∙ ap₂ (λ (s t : List ℕ). s ++ t)
-      (lanes-front lanes n (n * 4) (omega arith) in-lanes ∙ ap flatLanes (m .front ∙ ap (λ (j : ℕ). pick ks (take j (words lanes₀))) all))
-      (ap (λ (k : ℕ). replicate k 0) rest)
+      rest-filled 0 (n * 4) lanes y in-lanes e ∙ rw (front, rest, all)
 
   pub numbers-done : (l₀ l y : List Float) → Moved ks l₀ l n i → len ≤ length l₀
       → y ≡ replicate (length (take (length l - n) (drop n l))) float0 → putMid n (length l - n) l y ≡ retainedNumbers len ks l₀
   numbers-done l₀ l y m room e =
       let rest : length l - n ≡ length l₀ - flagged (take len ks) = omega (arith, m .long, retained-count) in
-      rest-filled float0 n l y (omega (arith, m .few, all, m .long, room)) e
-      ∙ ap₂ (λ (s t : List Float). s ++ t)
-      (m .front ∙ ap (λ (j : ℕ). pick ks (take j l₀)) all)
-      (ap (λ (k : ℕ). replicate k float0) rest)
+      rest-filled float0 n l y (omega (arith, m .few, all, m .long, room)) e ∙ rw (m .front, rest, all)
 
 -- the words left: those kept, then as many I as there are whole words of 0
 pub retained-words : (len : ℕ) (kept lanes : List ℕ)
