@@ -2,3 +2,5 @@
 -- SPDX-License-Identifier: Apache-2.0
 
 -- Laws of this crate.
+pub mod AdmitTests
+pub mod AdmitLaws

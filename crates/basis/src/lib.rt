@@ -2,5 +2,6 @@
 // SPDX-License-Identifier: Apache-2.0
 
 // What a run may forget, and what it takes in: prune, cap and admission on a lent basis.
+pub mod admit;
 pub mod kept;
 pub mod tests;
