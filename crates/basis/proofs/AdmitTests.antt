@@ -151,7 +151,7 @@ module _ (len : ℕ) (lanes : List ℕ) (coeffs : List Float) (list : List ℕ) 
 
 -- ---- what is known where all tests are passed
 pub record Passed (list : List ℕ) (values : List Float) (order work kept : List ℕ) : Type 0 where
-  pub list-long : 4 * length values ≤ length list
+  pub values-each : length values ≡ length list / 4
   pub order-long : length values ≤ length order
   pub work-long : length values ≤ length work
   pub kept-long : length values ≤ length kept
@@ -173,7 +173,7 @@ admit-passed len lanes coeffs list values order work kept n limit e =
     let e9 = lent-passed (length values) (length work) _ (e8 .1) in
     let e10 = lent-passed (length values) (length kept) _ (e9 .1) in
     record {
-      list-long = omega (arith, e6 .0, e7 .0);
+      values-each = e7 .0;
       order-long = e8 .0;
       work-long = e9 .0;
       kept-long = e10 .0;

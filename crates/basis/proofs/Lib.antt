@@ -4,3 +4,4 @@
 -- Laws of this crate.
 pub mod AdmitTests
 pub mod AdmitLaws
+pub mod AdmissionLaws

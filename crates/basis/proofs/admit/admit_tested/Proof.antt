@@ -63,7 +63,7 @@ append-largest-requires c κs =
       length-take-le _ (s .args .order .now) (p .order-long),
       length-take-le _ (s .args .work .now) (p .work-long),
       length-take-le _ (s .args .kept .now) (p .kept-long),
-      p .list-long,
+      omega (arith, p .values-each),
       omega (arith, e, m, l),
       omega (arith, e, m, l),
     )
