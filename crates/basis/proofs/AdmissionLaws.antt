@@ -9,8 +9,9 @@ use mathlib.Core.List.{List, [], _∷_, _++_, map}
 use Prim.Native.Nat.{ℕ, zero, suc, _+_, _-_, _/_, _≤_, _<_, min}
 use native.Mathlib.Omega.{arith}
 use borrow.Author.Tests.{ltb-false, eqb-true, eqb-false}
-use lib.Dec.{eqb, ltb}
-use lib.Ieee.{Float}
+use denote.Floats.{passes}
+use lib.Dec.{T, eqb, ltb}
+use lib.Ieee.{Float, nan, fits, binary64}
 use lib.ListN.{length, getD, set, take, drop, replicate, length-set, length-map, length-replicate, getD-replicate}
 use lib.Seq.{take-all}
 use Rattle.refusal.specs.declared.Refusal.{Refusal}
@@ -19,7 +20,7 @@ use Rattle.refusal.specs.declared.Answer.{Answer}
 use Rattle.refusal.specs.declared.Answer.the-variants as Tests
 use Rattle.word.specs.Flat.{words}
 use Rattle.word.specs.declared.word.Word.{Word}
-use Rattle.number.specs.Floats.{float0}
+use Rattle.number.specs.Floats.{float0, isFinite}
 use Rattle.word.specs.Order.{same}
 use Rattle.order.specs.Places.{isAmong}
 use Rattle.order.specs.Magnitudes.{byMagnitude, AllFinite, keyAt, rank}
@@ -47,7 +48,7 @@ walked-long fixed (q ∷ order) (suc s) flags =
     go true x y e f = e
     go false x y e f = f
 
-pub flags-long : (len : ℕ) (values : List Float) (limit : ℕ) → length (admitFlags len values limit) ≡ length values
+flags-long : (len : ℕ) (values : List Float) (limit : ℕ) → length (admitFlags len values limit) ≡ length values
 unfolding admitFlags
 flags-long len values limit =
     let fixed : List ℕ = replicate (length values) 0 in
@@ -122,6 +123,12 @@ module _ (len : ℕ) (lanes : List ℕ) (coeffs : List Float) (list : List ℕ) 
     coeffs-after =
         ap (λ (a : Admitting). a .coeffs) whole ∙ ap (λ (k : ℕ). take len coeffs ++ (replicate k float0 ++ drop (len + flagged flags) coeffs)) (sym new-length)
         ∙ ap (λ (k : ℕ). take len coeffs ++ (replicate (length new) float0 ++ drop k coeffs)) (sym length-is)
+
+    -- numbers that fit are compared exactly
+    pub values-finite : ((i : ℕ) → i < length values → T (fits binary64 (getD values i nan))) → AllFinite values
+    values-finite fit =
+        let p = admit-passed len lanes coeffs list values order work kept n limit (known .0) in
+        record { fitting = fit; numbers = λ i h. passes (isFinite (getD values i nan)) (p .values-finite i h) }
 
 -- ---- a raised limit
 module _ (w : Word) where

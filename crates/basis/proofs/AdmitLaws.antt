@@ -102,15 +102,15 @@ module _ (len : ℕ) (lanes : List ℕ) (coeffs : List Float) (list : List ℕ) 
   module _ (ok : admitTests len lanes coeffs list values order work kept n limit ≡ Tests.Accepted) (places room more : ℕ)
       (is-places : places ≡ min (length lanes / 4) (length coeffs)) (is-room : room ≡ limit - len) (is-more : more ≡ min room (length values)) (order′ work′ kept′ : List ℕ)
       (eo : order′ ≡ replicate (length order) 0) (ew : work′ ≡ replicate (length work) 0) (ek : kept′ ≡ replicate (length kept) 0) where
-    abbrev F : List ℕ
-    F = admitFlags len values limit
+    abbrev all-flags : List ℕ
+    all-flags = admitFlags len values limit
 
     pub admit-full : places < len + more
         → record { answer = Refused (TableFull 3 places); lanes = lanes; coeffs = coeffs; order = order′; work = work′; kept = kept′ } ≡ admit len lanes coeffs list values order work kept n limit
     unfolding admit
     admit-full l =
         let c = admit-count len values limit in
-        let t : ltb (min (length lanes / 4) (length coeffs)) (len + flagged F) ≡ true = lt-ltb (min (length lanes / 4) (length coeffs)) (len + flagged F) (omega (arith, c, l, is-places, is-room, is-more)) in
+        let t : ltb (min (length lanes / 4) (length coeffs)) (len + flagged all-flags) ≡ true = lt-ltb (min (length lanes / 4) (length coeffs)) (len + flagged all-flags) (omega (arith, c, l, is-places, is-room, is-more)) in
         rw (ok, t, is-places, eo, ew, ek)
 
     pub admit-done : len + more ≤ places → (r : ℕ) (lanes′ : List ℕ) (coeffs′ : List Float)
@@ -121,10 +121,10 @@ module _ (len : ℕ) (lanes : List ℕ) (coeffs : List Float) (list : List ℕ) 
     admit-done l r lanes′ coeffs′ h =
         let c = admit-count len values limit in
         let e = flags-are len values limit room is-room in
-        let a : Admits len (length values) list F lanes coeffs r lanes′ coeffs′ = subst (λ (k : List ℕ). Admits len (length values) list k lanes coeffs r lanes′ coeffs′) e (h .0) in
-        let long : length F ≡ length values = ap length (sym e) ∙ h .1 in
-        let all : take (length values) F ≡ F = take-all (length values) F (omega (arith, long)) in
-        let er : r ≡ len + flagged F = a .answers ∙ ap (λ (k : List ℕ). len + flagged k) all in
-        let en : coeffs′ ≡ appendedZeros len (flagged F) coeffs = a .numbers-left ∙ ap (λ (k : List ℕ). appendedZeros len (flagged k) coeffs) all in
-        let t : ltb (min (length lanes / 4) (length coeffs)) (len + flagged F) ≡ false = le-ltb (min (length lanes / 4) (length coeffs)) (len + flagged F) (omega (arith, c, l, is-places, is-room, is-more)) in
+        let a : Admits len (length values) list all-flags lanes coeffs r lanes′ coeffs′ = subst (λ (k : List ℕ). Admits len (length values) list k lanes coeffs r lanes′ coeffs′) e (h .0) in
+        let long : length all-flags ≡ length values = ap length (sym e) ∙ h .1 in
+        let all : take (length values) all-flags ≡ all-flags = take-all (length values) all-flags (omega (arith, long)) in
+        let er : r ≡ len + flagged all-flags = a .answers ∙ ap (λ (k : List ℕ). len + flagged k) all in
+        let en : coeffs′ ≡ appendedZeros len (flagged all-flags) coeffs = a .numbers-left ∙ ap (λ (k : List ℕ). appendedZeros len (flagged k) coeffs) all in
+        let t : ltb (min (length lanes / 4) (length coeffs)) (len + flagged all-flags) ≡ false = le-ltb (min (length lanes / 4) (length coeffs)) (len + flagged all-flags) (omega (arith, c, l, is-places, is-room, is-more)) in
         rw (ok, t, er, a .words-left, en, eo, ew, ek)

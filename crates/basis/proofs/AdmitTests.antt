@@ -7,15 +7,17 @@ use mathlib.Core.Bool.{true, false}
 use mathlib.Core.List.{List}
 use Prim.Native.Nat.{ℕ, _+_, _*_, _/_, _≤_, _<_}
 use native.Mathlib.Omega.{arith}
-use borrow.Author.Tests.{lt-ltb, le-ltb}
+use borrow.Author.Tests.{lt-ltb, le-ltb, ltb-false, not-false}
 use lib.Dec.{eqb, ltb}
-use lib.Ieee.{Float}
-use lib.ListN.{length}
+use lib.Ieee.{Float, nan}
+use lib.ListN.{length, getD}
 use Rattle.refusal.specs.declared.Refusal.the-variants.{TooManyQubits, NumberOutOfRange, CountAboveLimit, LengthMismatch, WordOutsideRegister}
 use Rattle.refusal.specs.declared.Answer.{Answer}
 use Rattle.refusal.specs.declared.Answer.the-variants.{Accepted, Refused}
 use Rattle.word.specs.Word.{maxQubits}
+use Rattle.number.specs.Floats.{isFinite}
 use Rattle.model.specs.Tested.{firstTo}
+use Rattle.model.proofs.Firsts.{first-before}
 use Rattle.action.specs.Counts.{maxWords, outsideAt}
 use Rattle.model.proofs.BuildLaws.{passed, equal-passed, lent-passed, counted-passed}
 use Rattle.basis.specs.Tests.{insideTo, notFinite, finiteTo}
@@ -130,35 +132,36 @@ module _ (len : ℕ) (lanes : List ℕ) (coeffs : List Float) (list : List ℕ) 
                             pub list-outside : stray < length values → Refused (WordOutsideRegister stray) ≡ tests
                             list-outside l = inside-not (length values) stray list n coeffsTest is-stray l ∙ reached-list
 
-                            module _ (list-inside : length values ≤ stray) (bad : ℕ) (is-bad : bad ≡ firstTo len (notFinite coeffs)) where
+                            module _ (list-inside : length values ≤ stray) (bad-coeff : ℕ) (is-bad-coeff : bad-coeff ≡ firstTo len (notFinite coeffs)) where
                               reached-coeffs : coeffsTest ≡ tests
                               reached-coeffs = inside-all (length values) stray list n coeffsTest is-stray list-inside ∙ reached-list
 
-                              pub coeffs-bad : bad < len → Refused (NumberOutOfRange bad) ≡ tests
+                              pub coeffs-bad : bad-coeff < len → Refused (NumberOutOfRange bad-coeff) ≡ tests
                               coeffs-bad l =
-                                  let z : bad ≡ 0 + bad = omega arith in
-                                  ap (λ (k : ℕ). Refused (NumberOutOfRange k)) z ∙ finite-not 0 len bad coeffs valuesTest is-bad l ∙ reached-coeffs
+                                  let z : bad-coeff ≡ 0 + bad-coeff = omega arith in
+                                  ap (λ (k : ℕ). Refused (NumberOutOfRange k)) z ∙ finite-not 0 len bad-coeff coeffs valuesTest is-bad-coeff l ∙ reached-coeffs
 
-                              module _ (coeffs-good : len ≤ bad) (worse : ℕ) (is-worse : worse ≡ firstTo (length values) (notFinite values)) where
+                              module _ (coeffs-good : len ≤ bad-coeff) (bad-value : ℕ) (is-bad-value : bad-value ≡ firstTo (length values) (notFinite values)) where
                                 reached-values : valuesTest ≡ tests
-                                reached-values = finite-all 0 len bad coeffs valuesTest is-bad coeffs-good ∙ reached-coeffs
+                                reached-values = finite-all 0 len bad-coeff coeffs valuesTest is-bad-coeff coeffs-good ∙ reached-coeffs
 
-                                pub values-bad : worse < length values → Refused (NumberOutOfRange (len + worse)) ≡ tests
-                                values-bad l = finite-not len (length values) worse values Accepted is-worse l ∙ reached-values
+                                pub values-bad : bad-value < length values → Refused (NumberOutOfRange (len + bad-value)) ≡ tests
+                                values-bad l = finite-not len (length values) bad-value values Accepted is-bad-value l ∙ reached-values
 
-                                pub all-passed : length values ≤ worse → Accepted ≡ tests
-                                all-passed l = finite-all len (length values) worse values Accepted is-worse l ∙ reached-values
+                                pub all-passed : length values ≤ bad-value → Accepted ≡ tests
+                                all-passed l = finite-all len (length values) bad-value values Accepted is-bad-value l ∙ reached-values
 
 -- ---- what is known where all tests are passed
 pub record Passed (list : List ℕ) (values : List Float) (order work kept : List ℕ) : Type 0 where
   pub values-each : length values ≡ length list / 4
+  pub values-finite : (i : ℕ) → i < length values → isFinite (getD values i nan) ≡ true
   pub order-long : length values ≤ length order
   pub work-long : length values ≤ length work
   pub kept-long : length values ≤ length kept
 
 pub admit-passed : (len : ℕ) (lanes : List ℕ) (coeffs : List Float) (list : List ℕ) (values : List Float) (order work kept : List ℕ) (n limit : ℕ)
     → admitTests len lanes coeffs list values order work kept n limit ≡ Accepted → Passed list values order work kept
-unfolding admitTests
+unfolding admitTests insideTo finiteTo notFinite
 admit-passed len lanes coeffs list values order work kept n limit e =
     let listed : ℕ = length list / 4 in
     let e0 = passed (ltb maxQubits n) (TooManyQubits n maxQubits) _ e in
@@ -172,8 +175,18 @@ admit-passed len lanes coeffs list values order work kept n limit e =
     let e8 = lent-passed (length values) (length order) _ (e7 .1) in
     let e9 = lent-passed (length values) (length work) _ (e8 .1) in
     let e10 = lent-passed (length values) (length kept) _ (e9 .1) in
+    let outside : ℕ = firstTo len (outsideAt lanes n) in
+    let stray : ℕ = firstTo (length values) (outsideAt list n) in
+    let bad-coeff : ℕ = firstTo len (notFinite coeffs) in
+    let bad-value : ℕ = firstTo (length values) (notFinite values) in
+    let e11 = passed (ltb outside len) (WordOutsideRegister outside) _ (e10 .1) in
+    let e12 = passed (ltb stray (length values)) (WordOutsideRegister stray) _ (e11 .1) in
+    let e13 = passed (ltb bad-coeff len) (NumberOutOfRange (0 + bad-coeff)) _ (e12 .1) in
+    let e14 = passed (ltb bad-value (length values)) (NumberOutOfRange (len + bad-value)) _ (e13 .1) in
+    let l = ltb-false bad-value (length values) (e14 .0) in
     record {
       values-each = e7 .0;
+      values-finite = λ i h. not-false (isFinite (getD values i nan)) (first-before (length values) (notFinite values) i (omega arith));
       order-long = e8 .0;
       work-long = e9 .0;
       kept-long = e10 .0;

@@ -89,18 +89,20 @@ fn check_admission(
     if stray < count {
         return Answer::Refused(Refusal::WordOutsideRegister { position: stray });
     }
-    let bad = first_not_finite(coeffs, len);
-    if bad < len {
-        return Answer::Refused(Refusal::NumberOutOfRange { index: bad });
+    let bad_coeff = first_not_finite(coeffs, len);
+    if bad_coeff < len {
+        return Answer::Refused(Refusal::NumberOutOfRange { index: bad_coeff });
     }
-    let worse = first_not_finite(values, count);
-    if worse < count {
-        return Answer::Refused(Refusal::NumberOutOfRange { index: len + worse });
+    let bad_value = first_not_finite(values, count);
+    if bad_value < count {
+        return Answer::Refused(Refusal::NumberOutOfRange {
+            index: len + bad_value,
+        });
     }
     Answer::Accepted
 }
 
-// What a limit leaves.
+// The room that a limit leaves: 0 where the basis has reached it.
 fn room_left(limit: usize, len: usize) -> usize
     ensures { λ r. ⌜ r ≡ limit - len ⌝ }
 {
