@@ -24,7 +24,7 @@ pub const ROW_LANES: usize = 64;
 
 // The first of so many positions whose word has a bit at or above qubit n; their number where there is
 // none.
-fn first_outside(words: &[u64], count: usize, n: usize) -> usize
+pub fn first_outside(words: &[u64], count: usize, n: usize) -> usize
     requires { ⌜ 4 * count ≤ length (now words) ⌝ }
     ensures { λ r. ⌜ r ≡ firstTo count (outsideAt (now (words .entry)) n) ⌝ }
 {
