@@ -2,3 +2,10 @@
 -- SPDX-License-Identifier: Apache-2.0
 
 -- Laws of this crate.
+pub mod PutLaws
+pub mod RisingLaws
+pub mod Turns
+pub mod RowLaws
+pub mod PartLaws
+pub mod MergeLaws
+pub mod LogLaws
