@@ -7,5 +7,5 @@ pub mod RisingLaws
 pub mod Turns
 pub mod RowLaws
 pub mod PartLaws
-pub mod MergeLaws
 pub mod LogLaws
+pub mod MergeLaws

@@ -19,7 +19,7 @@ use Rattle.order.specs.Places.{wordBefore, byWord}
 use Rattle.order.proofs.OrderLaws.{ordered-sorted}
 use Rattle.order.proofs.PlaceLaws.{word-order}
 use Rattle.candidates.specs.Sums.{Row, row, putOver, putAll}
-use Rattle.candidates.specs.Log.{Rows, rows, putAt, putRows}
+use Rattle.candidates.specs.Log.{Rows, rows, table, putAt, putRows}
 use Rattle.candidates.proofs.PutLaws.{strict, InOrder, all-append, law}
 use Rattle.candidates.proofs.RowLaws.{noRow, rows-at, rows-long, rows-few}
 
@@ -46,3 +46,27 @@ module _ (ws : List Word) (vs : List Float) (h : length ws ≤ length vs) where
       (sym (law before (floats .plus) (floats .nought) strict (λ (p : ℕ). getD ws p identity) (λ (p : ℕ). getD vs p nan) (positions (length ws)) t)
       ∙ in-turn (length ws) (omega arith) t
       ∙ ap (λ (l : Rows). putRows l t) (take-all (length ws) (rows ws vs) (rows-few ws vs)))
+
+-- ---- the first entries of a log
+words-take : (k : ℕ) (l : List ℕ) → words (take (4 * k) l) ≡ take k (words l)
+unfolding words
+words-take zero l = refl
+words-take (suc k) [] = let e : 4 * suc k ≡ suc (suc (suc (suc (4 * k)))) = omega arith in rw e
+words-take (suc k) (a ∷ []) = let e : 4 * suc k ≡ suc (suc (suc (suc (4 * k)))) = omega arith in rw e
+words-take (suc k) (a ∷ b ∷ []) = let e : 4 * suc k ≡ suc (suc (suc (suc (4 * k)))) = omega arith in rw e
+words-take (suc k) (a ∷ b ∷ c ∷ []) = let e : 4 * suc k ≡ suc (suc (suc (suc (4 * k)))) = omega arith in rw e
+words-take (suc k) (a ∷ b ∷ c ∷ d ∷ r) =
+    let e : 4 * suc k ≡ suc (suc (suc (suc (4 * k)))) = omega arith in
+    rw e (ap (λ (t : List Word). record { x = a ∷ b ∷ []; z = c ∷ d ∷ [] } ∷ t) (words-take k r))
+
+rows-take : (k : ℕ) (a : List Word) (b : List Float) → rows (take k a) b ≡ take k (rows a b)
+unfolding rows
+rows-take zero a b = refl
+rows-take (suc k) [] b = refl
+rows-take (suc k) (w ∷ a) [] = refl
+rows-take (suc k) (w ∷ a) (x ∷ b) = ap (λ (t : Rows). row w x ∷ t) (rows-take k a b)
+
+pub first-entries : (count : ℕ) (log : List ℕ) (values : List Float) → rows (words (take (count * 4) log)) values ≡ table count log values
+first-entries count log values =
+    let e : count * 4 ≡ 4 * count = omega arith in
+    rw (e, words-take count log) (rows-take count (words log) values)

@@ -16,11 +16,12 @@ use Rattle.word.specs.Order.{before}
 use Rattle.word.specs.Word.{identity}
 use Rattle.word.proofs.FlatLaws.{words-high}
 use Rattle.number.specs.Floats.{floats}
-use Rattle.order.specs.Places.{wordBefore}
+use Rattle.order.specs.Places.{wordBefore, byWord}
 use Rattle.candidates.specs.Sums.{row}
-use Rattle.candidates.specs.Log.{Rows, rows, table, putAt, Holds, Beside}
+use Rattle.candidates.specs.Log.{Rows, rows, table, putRows, Holds, Beside}
 use Rattle.candidates.proofs.PutLaws.{strict, InOrder}
 use Rattle.candidates.proofs.RowLaws.{noRow, rows-sum, rows-at, rows-length, table-long, table-at, held-holds, full-holds, beside-false}
+use Rattle.candidates.proofs.LogLaws.{by-word-puts}
 use Rattle.candidates.proofs.Turns.{moved, moved-full, Going, begins, at-end, turn-sum, turn-held, turn-fresh, full-turn}
 
 -- what the merge keeps: its abstract invariant, on the rows in slices
@@ -55,9 +56,9 @@ module _ (held : List ℕ) (kept : List Float) (n : ℕ) (h-held : 4 * n ≤ len
 
   -- ---- the turns, over a log of words ws and values vs whose positions L are ordered
   module _ (ws : List Word) (vs : List Float) (L : List ℕ) where
-    pub goes-first : (out : List ℕ) (sums : List Float) → Goes held kept n ws vs L (putAt ws vs L T) out sums 0 0 0
+    pub goes-first : length ws ≤ length vs → L ≡ byWord ws → (out : List ℕ) (sums : List Float) → Goes held kept n ws vs L (putRows (rows ws vs) T) out sums 0 0 0
     unfolding Goes
-    goes-first out sums = begins before (floats .plus) (floats .nought) strict (λ (p : ℕ). getD ws p identity) (λ (p : ℕ). getD vs p nan) noRow L T (rows (words out) sums)
+    goes-first h e out sums = rw (← (by-word-puts ws vs h L e T)) (begins before (floats .plus) (floats .nought) strict (λ (p : ℕ). getD ws p identity) (λ (p : ℕ). getD vs p nan) noRow L T (rows (words out) sums))
 
     module _ (g : Rows) (out : List ℕ) (sums : List Float) (i j k : ℕ) (h-out : length out ≡ 4 * length sums) (in-k : k ≤ length sums) (s : InOrder (wordBefore ws) L) (o : Goes held kept n ws vs L g out sums i j k) where
       abbrev R : Rows

@@ -82,3 +82,71 @@ fn take_rest(
     }
     Added::Held(k)
 }
+
+// Merges the held table with the log, whose positions are given in word order, into out.
+fn merge_log(
+    held: &[u64],
+    kept: &[f64],
+    n: usize,
+    log: &[u64],
+    values: &[f64],
+    order: &[u64],
+    out: &mut [u64],
+    sums: &mut [f64],
+) -> Added
+    requires { ⌜ (4 * n ≤ length (now held)) × (n ≤ length (now kept)) ⌝ }
+    requires { ⌜ (4 * length (now order) ≡ length (now log)) × (length (now order) ≤ length (now values)) × (now order ≡ byWord (words (now log))) ⌝ }
+    requires { ⌜ length (now out) ≡ 4 * length (now sums) ⌝ }
+    ensures { λ r. ⌜ Holds (length (now (sums .entry))) (putRows (rows (words (now (log .entry))) (now (values .entry))) (table n (now (held .entry)) (now (kept .entry)))) (now (out .exit)) (now (sums .exit)) r ⌝ }
+{
+    let mut i = 0;
+    let mut j = 0;
+    let mut k = 0;
+    while j < order.len() {
+        let p = order[j] as usize;
+        let w = word_at(log, p);
+        let v = values[p];
+        if after_last(w, out, k) {
+            if sums.len() <= k {
+                return Added::Full;
+            }
+            if before_next(w, held, i, n) {
+                lay_row(out, sums, k, w, 0.0 + v);
+                j += 1;
+                k += 1;
+            } else {
+                let u = word_at(held, i);
+                let x = kept[i];
+                lay_row(out, sums, k, u, x);
+                i += 1;
+                k += 1;
+            }
+        } else {
+            let q = k - 1;
+            sums[q] = sums[q] + v;
+            j += 1;
+        }
+    }
+    take_rest(held, kept, n, i, out, sums, k)
+}
+
+// The n held rows with each entry of the log put in, one after another, into out.
+fn absorb_all(
+    held: &[u64],
+    kept: &[f64],
+    n: usize,
+    log: &[u64],
+    values: &[f64],
+    order: &mut [u64],
+    work: &mut [u64],
+    out: &mut [u64],
+    sums: &mut [f64],
+) -> Added
+    requires { ⌜ (4 * n ≤ length (now held)) × (n ≤ length (now kept)) ⌝ }
+    requires { ⌜ (4 * length (now order) ≡ length (now log)) × (4 * length (now work) ≡ length (now log)) × (length (now order) ≤ length (now values)) ⌝ }
+    requires { ⌜ length (now out) ≡ 4 * length (now sums) ⌝ }
+    ensures { λ r. ⌜ Holds (length (now (sums .entry))) (putRows (rows (words (now (log .entry))) (now (values .entry))) (table n (now (held .entry)) (now (kept .entry)))) (now (out .exit)) (now (sums .exit)) r ⌝ }
+{
+    order_words(log, order, work);
+    merge_log(held, kept, n, log, values, order, out, sums)
+}
