@@ -17,6 +17,7 @@ ghost use Rattle.candidates.specs.Log.{rows, table, putRows, Beside, Hol
 use order::places::is_before;
 use order::places::order_words;
 use table::sums::Added;
+use word::flat::WORD_LANES;
 use word::flat::set_word;
 use word::flat::word_at;
 use word::word::Word;
@@ -149,4 +150,36 @@ fn absorb_all(
 {
     order_words(log, order, work);
     merge_log(held, kept, n, log, values, order, out, sums)
+}
+
+// The n held rows with the first `count` entries of the log put in, one after another, into out; `order`
+// and `work` are of at least `count` places. Where it is full, out holds part of the rows.
+pub fn absorb(
+    held: &[u64],
+    kept: &[f64],
+    n: usize,
+    log: &[u64],
+    values: &[f64],
+    count: usize,
+    order: &mut [u64],
+    work: &mut [u64],
+    out: &mut [u64],
+    sums: &mut [f64],
+) -> Added
+    requires { ⌜ (4 * n ≤ length (now held)) × (n ≤ length (now kept)) ⌝ }
+    requires { ⌜ (4 * count ≤ length (now log)) × (count ≤ length (now values)) × (count ≤ length (now order)) × (count ≤ length (now work)) ⌝ }
+    requires { ⌜ length (now out) ≡ 4 * length (now sums) ⌝ }
+    ensures { λ r. ⌜ Holds (length (now (sums .entry))) (putRows (table count (now (log .entry)) (now (values .entry))) (table n (now (held .entry)) (now (kept .entry)))) (now (out .exit)) (now (sums .exit)) r ⌝ }
+{
+    absorb_all(
+        held,
+        kept,
+        n,
+        &log[..count * WORD_LANES],
+        values,
+        &mut order[..count],
+        &mut work[..count],
+        out,
+        sums,
+    )
 }
