@@ -7,7 +7,7 @@ use mathlib.Core.List.{List, [], _++_, append-nil}
 use mathlib.Core.Bool.{Bool, true, false}
 use Prim.Native.Nat.{ℕ, suc, _+_, _*_, _-_, _≤_, _<_}
 use native.Mathlib.Omega.{arith}
-use lib.Ieee.{Float, nan, add, binary64}
+use lib.Ieee.{Float, nan}
 use lib.ListN.{length, getD, set, take, drop, drop-of-length-le}
 use Rattle.word.specs.declared.word.Word.{Word}
 use Rattle.table.specs.declared.sums.Added.the-variants.{Full, Held}

@@ -5,14 +5,13 @@
 use mathlib.Core.Path.{_≡_, refl, ap, sym, _∙_}
 use mathlib.Core.List.{List, [], _∷_}
 use mathlib.Core.Bool.{Bool, false, true≢false}
-use Prim.Native.Nat.{ℕ, zero, suc, _+_, _*_, _≤_, _<_}
+use Prim.Native.Nat.{ℕ, zero, suc, _*_, _≤_, _<_}
 use native.Mathlib.Omega.{arith}
-use native.Mathlib.Numerals.{add-one}
 use native.Mathlib.Decide.{decLt}
 use borrow.Author.Tests.{le-ltb, lt-ltb}
 use lib.Ieee.{Float, nan}
-use lib.ListN.{length, getD, set, take, length-append}
-use lib.Seq.{take-suc-set, take-all, getD-take, length-take-le}
+use lib.ListN.{length, getD, set}
+use lib.Seq.{getD-take, length-take-le}
 use Rattle.word.specs.declared.word.Word.{Word}
 use Rattle.table.specs.declared.sums.Added.the-variants.{Full, Held}
 use Rattle.word.specs.Flat.{words}

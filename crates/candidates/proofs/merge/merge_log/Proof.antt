@@ -43,37 +43,33 @@ i-free : (c : tie.Else3 Inv-loop μ-loop) → c .before .before .before .before 
 i-free c = omega (arith, beside-false _ _ _ (c .before .before-next .result) (c .before .before-next .ensures) (c .if3 .left))
 
 loop-holds : tie.Need-loop-holds Inv-loop μ-loop
-loop-holds c = let s = c .before .before .before .before .before .before .before in (omega arith, omega arith, omega arith, refl, refl, goes-first (s .args .held .now) (s .args .kept .now) (s .args .n) (s .pre .0 .0) (s .pre .0 .1) (words (s .args .log .now)) (s .args .values .now) (s .args .order .now) (omega (arith, words-low (s .args .log .now))) (s .pre .1 .0 .2) (s .args .out .now) (s .args .sums .now))
-
-mul-p : tie.Need-mul-p Inv-loop μ-loop
-mul-p c = search needs
-
-shared-slice-read-p : tie.Need-shared-slice-read-p Inv-loop μ-loop
-shared-slice-read-p c = search needs
+loop-holds c =
+    let s = c .before .before .before .before .before .before .before in
+    (omega arith, omega arith, omega arith, refl, refl, goes-first (s .args .held .now) (s .args .kept .now) (s .args .n) (s .pre .0 .0) (s .pre .0 .1) (words (s .args .log .now)) (s .args .values .now) (s .args .order .now) (omega (arith, words-low (s .args .log .now))) (s .pre .1 .0 .2) (s .args .out .now) (s .args .sums .now))
 
 word-at-requires : tie.Need-word-at-requires Inv-loop μ-loop
-word-at-requires c κs = omega (arith, lane-asks (c .before .before .before .before .before .before .before .before .before .before .args .log .now) (c .before .before .before .before .before .before .before .before .before .before .args .order .now) (c .before .before .before .before .before .before .before .before .before .before .pre .1 .0 .0) (c .before .before .before .before .before .before .before .before .before .before .pre .1 .0 .2) (c .before .before .loop .j) (omega arith))
+word-at-requires c κs =
+    let s = c .before .before .before .before .before .before .before .before .before .before in
+    omega (arith, lane-asks (s .args .log .now) (s .args .order .now) (s .pre .1 .0 .0) (s .pre .1 .0 .2) (c .before .before .loop .j) (omega arith))
 
 mul-v : tie.Need-mul-v Inv-loop μ-loop
-mul-v c = omega (arith, lane-asks (c .before .before .before .before .before .before .before .before .before .before .before .args .log .now) (c .before .before .before .before .before .before .before .before .before .before .before .args .order .now) (c .before .before .before .before .before .before .before .before .before .before .before .pre .1 .0 .0) (c .before .before .before .before .before .before .before .before .before .before .before .pre .1 .0 .2) (c .before .before .before .loop .j) (omega arith))
+mul-v c =
+    let s = c .before .before .before .before .before .before .before .before .before .before .before in
+    omega (arith, lane-asks (s .args .log .now) (s .args .order .now) (s .pre .1 .0 .0) (s .pre .1 .0 .2) (c .before .before .before .loop .j) (omega arith))
 
 shared-slice-read-v : tie.Need-shared-slice-read-v Inv-loop μ-loop
-shared-slice-read-v c = omega (arith, lane-asks (c .before .before .before .before .before .before .before .before .before .before .before .before .args .log .now) (c .before .before .before .before .before .before .before .before .before .before .before .before .args .order .now) (c .before .before .before .before .before .before .before .before .before .before .before .before .pre .1 .0 .0) (c .before .before .before .before .before .before .before .before .before .before .before .before .pre .1 .0 .2) (c .before .before .before .before .loop .j) (omega arith))
+shared-slice-read-v c =
+    let s = c .before .before .before .before .before .before .before .before .before .before .before .before in
+    omega (arith, lane-asks (s .args .log .now) (s .args .order .now) (s .pre .1 .0 .0) (s .pre .1 .0 .2) (c .before .before .before .before .loop .j) (omega arith))
 
 after-last-requires : tie.Need-after-last-requires Inv-loop μ-loop
 after-last-requires c κs = omega arith
 
-same-length : tie.Need-same-length Inv-loop μ-loop
-same-length c = search needs
-
-same-length-2 : tie.Need-same-length-2 Inv-loop μ-loop
-same-length-2 c = search needs
-
 returns : tie.Need-returns Inv-loop μ-loop
-returns c = let s = c .before .before .before .before .before .before .before .before .before .before .before .before .before .before .before .before in let l = c .before .before .before .before .before .before .before .before .loop in goes-full (s .args .held .now) (s .args .kept .now) (s .args .n) (s .pre .0 .0) (s .pre .0 .1) (words (s .args .log .now)) (s .args .values .now) (s .args .order .now) _ (l .out) (l .sums) (l .i) (l .j) (l .k) (omega arith) (omega arith) (word-sorted (words (s .args .log .now)) (s .args .order .now) (s .pre .1 .0 .2)) (l .inv .5) (omega arith) (c .before .before .before .before .before .word-at .result) (c .before .before .before .before .before .word-at .ensures) (c .before .before .after-last .result) (c .before .before .after-last .ensures) (c .before .if1 .taken) (omega arith) _ (omega arith)
-
-before-next-requires : tie.Need-before-next-requires Inv-loop μ-loop
-before-next-requires c κs = search needs
+returns c =
+    let s = c .before .before .before .before .before .before .before .before .before .before .before .before .before .before .before .before in
+    let l = c .before .before .before .before .before .before .before .before .loop in
+    goes-full (s .args .held .now) (s .args .kept .now) (s .args .n) (s .pre .0 .0) (s .pre .0 .1) (words (s .args .log .now)) (s .args .values .now) (s .args .order .now) _ (l .out) (l .sums) (l .i) (l .j) (l .k) (omega arith) (omega arith) (word-sorted (words (s .args .log .now)) (s .args .order .now) (s .pre .1 .0 .2)) (l .inv .5) (omega arith) (c .before .before .before .before .before .word-at .result) (c .before .before .before .before .before .word-at .ensures) (c .before .before .after-last .result) (c .before .before .after-last .ensures) (c .before .if1 .taken) (omega arith) _ (omega arith)
 
 lay-row-requires : tie.Need-lay-row-requires Inv-loop μ-loop
 lay-row-requires c κs = (omega arith, omega arith)
@@ -84,11 +80,11 @@ add-j c = omega (arith, j-free (c .before .before .before .before .before .befor
 add-k : tie.Need-add-k Inv-loop μ-loop
 add-k c = omega (arith, k-free (c .before .before .before .before .before .before .before .before .before))
 
-loop-less : tie.Need-loop-less Inv-loop μ-loop
-loop-less c = search needs
-
 loop-again : tie.Need-loop-again Inv-loop μ-loop
-loop-again c = let s = c .before .before .before .before .before .before .before .before .before .before .before .before .before .before .before .before .before .before .before .before .before .before .before .before .before in let l = c .before .before .before .before .before .before .before .before .before .before .before .before .before .before .before .before .before .loop in (omega arith, omega arith, omega arith, omega arith, omega arith, goes-fresh (s .args .held .now) (s .args .kept .now) (s .args .n) (s .pre .0 .0) (s .pre .0 .1) (words (s .args .log .now)) (s .args .values .now) (s .args .order .now) _ (l .out) (l .sums) (l .i) (l .j) (l .k) (omega arith) (omega arith) (word-sorted (words (s .args .log .now)) (s .args .order .now) (s .pre .1 .0 .2)) (l .inv .5) (omega arith) (c .before .before .before .before .before .before .before .before .before .before .before .before .before .before .word-at .result) (c .before .before .before .before .before .before .before .before .before .before .before .before .before .before .word-at .ensures) (c .before .before .before .before .before .before .before .before .before .before .before .after-last .result) (c .before .before .before .before .before .before .before .before .before .before .before .after-last .ensures) (c .before .before .before .before .before .before .before .before .before .before .if1 .taken) (omega arith) (c .before .before .before .before .before .before .before .before .before-next .result) (c .before .before .before .before .before .before .before .before .before-next .ensures) _ _ (c .before .before .before .before .before .before .before .if3 .taken) (c .before .before .before .before .lay-row .ensures))
+loop-again c =
+    let s = c .before .before .before .before .before .before .before .before .before .before .before .before .before .before .before .before .before .before .before .before .before .before .before .before .before in
+    let l = c .before .before .before .before .before .before .before .before .before .before .before .before .before .before .before .before .before .loop in
+    (omega arith, omega arith, omega arith, omega arith, omega arith, goes-fresh (s .args .held .now) (s .args .kept .now) (s .args .n) (s .pre .0 .0) (s .pre .0 .1) (words (s .args .log .now)) (s .args .values .now) (s .args .order .now) _ (l .out) (l .sums) (l .i) (l .j) (l .k) (omega arith) (omega arith) (word-sorted (words (s .args .log .now)) (s .args .order .now) (s .pre .1 .0 .2)) (l .inv .5) (omega arith) (c .before .before .before .before .before .before .before .before .before .before .before .before .before .before .word-at .result) (c .before .before .before .before .before .before .before .before .before .before .before .before .before .before .word-at .ensures) (c .before .before .before .before .before .before .before .before .before .before .before .after-last .result) (c .before .before .before .before .before .before .before .before .before .before .before .after-last .ensures) (c .before .before .before .before .before .before .before .before .before .before .if1 .taken) (omega arith) (c .before .before .before .before .before .before .before .before .before-next .result) (c .before .before .before .before .before .before .before .before .before-next .ensures) _ _ (c .before .before .before .before .before .before .before .if3 .taken) (c .before .before .before .before .lay-row .ensures))
 
 word-at-requires-2 : tie.Need-word-at-requires-2 Inv-loop μ-loop
 word-at-requires-2 c κs = omega (arith, beside-false _ _ _ (c .before .before-next .result) (c .before .before-next .ensures) (c .if3 .left))
@@ -112,7 +108,10 @@ loop-less-2 : tie.Need-loop-less-2 Inv-loop μ-loop
 loop-less-2 c = omega (arith, beside-false _ _ _ (c .before .before .before .before .before .before .before .before .before .before .before-next .result) (c .before .before .before .before .before .before .before .before .before .before .before-next .ensures) (c .before .before .before .before .before .before .before .before .before .if3 .left))
 
 loop-again-2 : tie.Need-loop-again-2 Inv-loop μ-loop
-loop-again-2 c = let s = c .before .before .before .before .before .before .before .before .before .before .before .before .before .before .before .before .before .before .before .before .before .before .before .before .before .before .before in let l = c .before .before .before .before .before .before .before .before .before .before .before .before .before .before .before .before .before .before .before .loop in (omega (arith, beside-false _ _ _ (c .before .before .before .before .before .before .before .before .before .before .before-next .result) (c .before .before .before .before .before .before .before .before .before .before .before-next .ensures) (c .before .before .before .before .before .before .before .before .before .if3 .left)), omega arith, omega arith, omega arith, omega arith, goes-held (s .args .held .now) (s .args .kept .now) (s .args .n) (s .pre .0 .0) (s .pre .0 .1) (words (s .args .log .now)) (s .args .values .now) (s .args .order .now) _ (l .out) (l .sums) (l .i) (l .j) (l .k) (omega arith) (omega arith) (word-sorted (words (s .args .log .now)) (s .args .order .now) (s .pre .1 .0 .2)) (l .inv .5) (j-in (c .before .before .before .before .before .before .before .before .before .before .before .before .before .before .before .before .before .before)) (c .before .before .before .before .before .before .before .before .before .before .before .before .before .before .before .before .word-at .result) (c .before .before .before .before .before .before .before .before .before .before .before .before .before .before .before .before .word-at .ensures) (c .before .before .before .before .before .before .before .before .before .before .before .before .before .after-last .result) (c .before .before .before .before .before .before .before .before .before .before .before .before .before .after-last .ensures) (c .before .before .before .before .before .before .before .before .before .before .before .before .if1 .taken) (omega arith) (c .before .before .before .before .before .before .before .before .before .before .before-next .result) (c .before .before .before .before .before .before .before .before .before .before .before-next .ensures) _ _ (c .before .before .before .before .before .before .before .before .word-at2 .result) (c .before .before .before .before .before .before .before .before .before .if3 .left) (c .before .before .before .before .before .before .before .before .word-at2 .ensures) (c .before .before .before .before .lay-row2 .ensures))
+loop-again-2 c =
+    let s = c .before .before .before .before .before .before .before .before .before .before .before .before .before .before .before .before .before .before .before .before .before .before .before .before .before .before .before in
+    let l = c .before .before .before .before .before .before .before .before .before .before .before .before .before .before .before .before .before .before .before .loop in
+    (omega (arith, beside-false _ _ _ (c .before .before .before .before .before .before .before .before .before .before .before-next .result) (c .before .before .before .before .before .before .before .before .before .before .before-next .ensures) (c .before .before .before .before .before .before .before .before .before .if3 .left)), omega arith, omega arith, omega arith, omega arith, goes-held (s .args .held .now) (s .args .kept .now) (s .args .n) (s .pre .0 .0) (s .pre .0 .1) (words (s .args .log .now)) (s .args .values .now) (s .args .order .now) _ (l .out) (l .sums) (l .i) (l .j) (l .k) (omega arith) (omega arith) (word-sorted (words (s .args .log .now)) (s .args .order .now) (s .pre .1 .0 .2)) (l .inv .5) (j-in (c .before .before .before .before .before .before .before .before .before .before .before .before .before .before .before .before .before .before)) (c .before .before .before .before .before .before .before .before .before .before .before .before .before .before .before .before .word-at .result) (c .before .before .before .before .before .before .before .before .before .before .before .before .before .before .before .before .word-at .ensures) (c .before .before .before .before .before .before .before .before .before .before .before .before .before .after-last .result) (c .before .before .before .before .before .before .before .before .before .before .before .before .before .after-last .ensures) (c .before .before .before .before .before .before .before .before .before .before .before .before .if1 .taken) (omega arith) (c .before .before .before .before .before .before .before .before .before .before .before-next .result) (c .before .before .before .before .before .before .before .before .before .before .before-next .ensures) _ _ (c .before .before .before .before .before .before .before .before .word-at2 .result) (c .before .before .before .before .before .before .before .before .before .if3 .left) (c .before .before .before .before .before .before .before .before .word-at2 .ensures) (c .before .before .before .before .lay-row2 .ensures))
 
 sub-q : tie.Need-sub-q Inv-loop μ-loop
 sub-q c = omega (arith, beside-false 0 _ _ (c .before .after-last .result) (c .before .after-last .ensures) (c .if1 .left))
@@ -129,26 +128,22 @@ mul-sums-2 c = omega (arith, beside-false 0 _ _ (c .before .before .after-last .
 slice-write-sums : tie.Need-slice-write-sums Inv-loop μ-loop
 slice-write-sums c = omega (arith, beside-false 0 _ _ (c .before .before .after-last .result) (c .before .before .after-last .ensures) (c .before .if1 .left))
 
-add-j-2 : tie.Need-add-j-2 Inv-loop μ-loop
-add-j-2 c = search needs
-
-loop-less-3 : tie.Need-loop-less-3 Inv-loop μ-loop
-loop-less-3 c = search needs
-
 loop-again-3 : tie.Need-loop-again-3 Inv-loop μ-loop
-loop-again-3 c = let s = c .before .before .before .before .before .before .before .before .before .before .before .before .before .before .before .before in let l = c .before .before .before .before .before .before .before .before .loop in (omega arith, omega arith, simp length-set (omega arith), omega arith, simp length-set (omega arith), goes-sum (s .args .held .now) (s .args .kept .now) (s .args .n) (s .pre .0 .0) (s .pre .0 .1) (words (s .args .log .now)) (s .args .values .now) (s .args .order .now) _ (l .out) (l .sums) (l .i) (l .j) (l .k) (omega arith) (omega arith) (word-sorted (words (s .args .log .now)) (s .args .order .now) (s .pre .1 .0 .2)) (l .inv .5) (omega arith) (c .before .before .before .before .before .word-at .result) (c .before .before .before .before .before .word-at .ensures) (c .before .before .after-last .result) (c .before .before .after-last .ensures) (c .before .if1 .left))
+loop-again-3 c =
+    let s = c .before .before .before .before .before .before .before .before .before .before .before .before .before .before .before .before in
+    let l = c .before .before .before .before .before .before .before .before .loop in
+    (omega arith, omega arith, simp length-set (omega arith), omega arith, simp length-set (omega arith), goes-sum (s .args .held .now) (s .args .kept .now) (s .args .n) (s .pre .0 .0) (s .pre .0 .1) (words (s .args .log .now)) (s .args .values .now) (s .args .order .now) _ (l .out) (l .sums) (l .i) (l .j) (l .k) (omega arith) (omega arith) (word-sorted (words (s .args .log .now)) (s .args .order .now) (s .pre .1 .0 .2)) (l .inv .5) (omega arith) (c .before .before .before .before .before .word-at .result) (c .before .before .before .before .before .word-at .ensures) (c .before .before .after-last .result) (c .before .before .after-last .ensures) (c .before .if1 .left))
 
 take-rest-requires : tie.Need-take-rest-requires Inv-loop μ-loop
-take-rest-requires c κs = let s = c .before .before .before .before .before .before .before .before .before .before .before in ((s .pre .0 .0, s .pre .0 .1, omega arith), (omega arith, omega arith))
-
-same-length-3 : tie.Need-same-length-3 Inv-loop μ-loop
-same-length-3 c = search needs
-
-same-length-4 : tie.Need-same-length-4 Inv-loop μ-loop
-same-length-4 c = search needs
+take-rest-requires c κs =
+    let s = c .before .before .before .before .before .before .before .before .before .before .before in
+    ((s .pre .0 .0, s .pre .0 .1, omega arith), (omega arith, omega arith))
 
 returns-2 : tie.Need-returns-2 Inv-loop μ-loop
-returns-2 c = let s = c .before .before .before .before .before .before .before .before .before .before .before .before .before .before .before .before in let l = c .before .before .before .before .before .before .before .before .loop in rw (goes-end (s .args .held .now) (s .args .kept .now) (s .args .n) (s .pre .0 .0) (s .pre .0 .1) (words (s .args .log .now)) (s .args .values .now) (s .args .order .now) _ (l .out) (l .sums) (l .i) (l .j) (l .k) (omega arith) (omega arith) (word-sorted (words (s .args .log .now)) (s .args .order .now) (s .pre .1 .0 .2)) (l .inv .5) (omega arith), l .inv .4) at (c .before .before .before .before .take-rest .ensures)
+returns-2 c =
+    let s = c .before .before .before .before .before .before .before .before .before .before .before .before .before .before .before .before in
+    let l = c .before .before .before .before .before .before .before .before .loop in
+    rw (goes-end (s .args .held .now) (s .args .kept .now) (s .args .n) (s .pre .0 .0) (s .pre .0 .1) (words (s .args .log .now)) (s .args .values .now) (s .args .order .now) _ (l .out) (l .sums) (l .i) (l .j) (l .k) (omega arith) (omega arith) (word-sorted (words (s .args .log .now)) (s .args .order .now) (s .pre .1 .0 .2)) (l .inv .5) (omega arith), l .inv .4) at (c .before .before .before .before .take-rest .ensures)
 
 pub merge-log-spec : {M : Type 1} → statement M
 merge-log-spec =
@@ -157,20 +152,20 @@ merge-log-spec =
     Inv-loop
     μ-loop
     loop-holds
-    mul-p
-    shared-slice-read-p
+    (λ c. search needs)
+    (λ c. search needs)
     word-at-requires
     mul-v
     shared-slice-read-v
     after-last-requires
-    same-length
-    same-length-2
+    (λ c. search needs)
+    (λ c. search needs)
     returns
-    before-next-requires
+    (λ c κs. search needs)
     lay-row-requires
     add-j
     add-k
-    loop-less
+    (λ c. search needs)
     loop-again
     word-at-requires-2
     mul-x
@@ -185,10 +180,10 @@ merge-log-spec =
     slice-read-sums
     mul-sums-2
     slice-write-sums
-    add-j-2
-    loop-less-3
+    (λ c. search needs)
+    (λ c. search needs)
     loop-again-3
     take-rest-requires
-    same-length-3
-    same-length-4
+    (λ c. search needs)
+    (λ c. search needs)
     returns-2)
