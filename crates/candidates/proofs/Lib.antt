@@ -1,0 +1,11 @@
+-- SPDX-FileCopyrightText: 2026 The PPVM Authors
+-- SPDX-License-Identifier: Apache-2.0
+
+-- Laws of this crate.
+pub mod PutLaws
+pub mod RisingLaws
+pub mod Turns
+pub mod RowLaws
+pub mod PartLaws
+pub mod LogLaws
+pub mod MergeLaws
