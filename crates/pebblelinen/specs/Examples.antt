@@ -2,10 +2,10 @@
 -- SPDX-License-Identifier: Apache-2.0
 
 -- The examples of document 01 that are proved, as one table: what each says of the definitions.
-use Prim.Native.Nat.{ℕ}
+use Prim.Native.Nat.{ℕ, suc}
 use mathlib.Core.Path.{_≡_}
 use mathlib.Core.Bool.{Bool, true, false, _&&_}
-use mathlib.Core.List.{List, [], _∷_}
+use mathlib.Core.List.{List, [], _∷_, _++_}
 use lib.Dec.{eqb}
 use lib.Ieee.{Float, binary64, ofBits, eq}
 use lib.ListN.{length}
@@ -24,6 +24,9 @@ use Rattle.gksl.specs.Rules.{actionOver}
 use Rattle.gksl.specs.Words.{pauli}
 use Rattle.model.specs.Stored.{Tables}
 use Rattle.model.specs.declared.tables.Model.{Model}
+use Rattle.order.specs.Merge.{positions}
+use Rattle.truncate.specs.Retained.{pick}
+use Rattle.basis.specs.Prunes.{capFlags}
 use Rattle.action.specs.Acts.{actionOf}
 
 -- the bytes of the letters
@@ -39,7 +42,10 @@ Y = 89
 abbrev Z : ℕ
 Z = 90
 
--- numbers by their bits: 0.25, 0.5, −0.5, −1 and −2
+-- numbers by their bits: 3, 0.25, 0.5, −0.5, −1 and −2
+abbrev three : Float
+three = ofBits binary64 0x4008_0000_0000_0000
+
 abbrev quarter : Float
 quarter = ofBits binary64 0x3fd0_0000_0000_0000
 
@@ -85,6 +91,13 @@ pub data Example : Type 0 where
   action : (model : ModelOver floats pauli) (word : List ℕ) (listed : List Entry) → Example
   -- any model on the identity: nothing
   onIdentity : Example
+  -- of a basis with these coefficients, positions of it protected, a cap at the limit keeps these positions
+  cap : (coefficients : List Float) (protected : List ℕ) (limit : ℕ) (kept : List ℕ) → Example
+
+-- the lanes of a word for each position, no two alike
+unfoldable pub lanesFor : List ℕ → List ℕ
+lanesFor [] = []
+lanesFor (p ∷ ps) = (suc p ∷ 0 ∷ 0 ∷ 0 ∷ []) ++ lanesFor ps
 
 -- the same words in the same order, with equal numbers
 unfoldable pub lists : List (Onto floats pauli) → List Entry → Bool
@@ -98,12 +111,19 @@ unfoldable pub Holds : Example → Type 0
 Holds (product left right word k) = (same (mul (read left) (read right)) (read word) && eqb (phase (read left) (read right)) k) ≡ true
 Holds (action model word listed) = lists (actionOver floats pauli model (read word)) listed ≡ true
 Holds onIdentity = (m : Model) (t : Tables) → actionOf m t identity ≡ []
+Holds (cap coefficients protected limit kept) =
+    let n : ℕ = length coefficients in
+    pick (capFlags n (lanesFor (positions n)) coefficients (lanesFor protected) limit) (positions n) ≡ kept
 
 abbrev pub AllHold : List Example → Type 0
 AllHold [] = Unit {0}
 AllHold (e ∷ es) = Holds e × AllHold es
 
--- P1 to P9
+-- 3, −1, 1, 0.5
+abbrev four : List Float
+four = three ∷ minusOne ∷ float1 ∷ half ∷ []
+
+-- P1 to P12
 abbrev pub table : List Example
 table =
     product (X ∷ []) (Z ∷ []) (Y ∷ []) 3 ∷
@@ -122,4 +142,7 @@ table =
             ops = (term float1 float0 (X ∷ I ∷ []) ∷ []) ∷ (term float1 float0 (I ∷ X ∷ []) ∷ []) ∷ [];
             entries = complex float1 float0 ∷ complex float0 float1 ∷ complex float0 minusOne ∷ complex float1 float0 ∷ [];
           } ∷ [];
-    }) (I ∷ Z ∷ []) (entry (I ∷ Z ∷ []) minusTwo ∷ entry (X ∷ Y ∷ []) minusTwo ∷ []) ∷ []
+    }) (I ∷ Z ∷ []) (entry (I ∷ Z ∷ []) minusTwo ∷ entry (X ∷ Y ∷ []) minusTwo ∷ []) ∷
+    cap four [] 2 (0 ∷ 1 ∷ []) ∷
+    cap four (3 ∷ []) 2 (0 ∷ 3 ∷ []) ∷
+    cap four (3 ∷ []) 0 (3 ∷ []) ∷ []
