@@ -2,3 +2,6 @@
 -- SPDX-License-Identifier: Apache-2.0
 
 -- Laws of this crate.
+pub mod ChecksLaws
+pub mod ProtectLaws
+pub mod PruneLaws

@@ -2,5 +2,8 @@
 // SPDX-License-Identifier: Apache-2.0
 
 // What a run may forget, and what it takes in: prune, cap and admission on a lent basis.
+pub mod checks;
 pub mod kept;
+pub mod protect;
+pub mod prune;
 pub mod tests;
