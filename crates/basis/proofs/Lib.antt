@@ -5,3 +5,4 @@
 pub mod ChecksLaws
 pub mod ProtectLaws
 pub mod PruneLaws
+pub mod CapLaws

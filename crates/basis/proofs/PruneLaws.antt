@@ -10,7 +10,7 @@ use native.Mathlib.Omega.{arith}
 use borrow.Author.Tests.{lt-ltb, le-ltb, not-true, not-false}
 use lib.Dec.{ltb}
 use lib.Ieee.{Float, le}
-use lib.ListN.{length, take, drop, replicate}
+use lib.ListN.{length, take, drop, replicate, length-append, length-take, length-drop}
 use lib.Seq.{take-at, take-all, length-take-le}
 use Rattle.refusal.specs.declared.Refusal.{Refusal}
 use Rattle.refusal.specs.declared.Refusal.the-variants.{TooManyQubits, CountAboveLimit, NumberOutOfRange}
@@ -27,9 +27,12 @@ use Rattle.basis.specs.declared.kept.Kept.the-variants.{Entries}
 use Rattle.basis.proofs.ChecksLaws.{Room, lengths-then, lengths-room, entries-then}
 
 -- ---- entries kept by flags
--- the front of a table that was lent
+-- the front of a table that was lent, and the table's length
 pub lent-front : (len : ℕ) (table ys : List ℕ) → len ≤ length table → length ys ≡ length (take len table) → take len (ys ++ drop len table) ≡ ys
 lent-front len table ys h e = take-at ys (drop len table) len (e ∙ length-take-le len table h)
+
+pub lent-long : (k : ℕ) (table ys : List ℕ) → length ys ≡ length (take k table) → length (ys ++ drop k table) ≡ length table
+lent-long k table ys e = omega (arith, e, length-append ys (drop k table), length-take k table, length-drop k table)
 
 pub retained-is : (len : ℕ) (lanes : List ℕ) (coeffs : List Float) (flags given : List ℕ) → given ≡ flags → length flags ≡ len
     → (r : ℕ) (lanes′ : List ℕ) (coeffs′ : List Float) → Retains len given lanes coeffs r lanes′ coeffs′

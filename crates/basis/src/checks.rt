@@ -25,7 +25,7 @@ fn larger(a: usize, b: usize) -> usize
 
 pub fn check_lengths(
     n: usize,
-    lanes: &[u64],
+    words: &[u64],
     coeffs: &[f64],
     len: usize,
     protected: &[u64],
@@ -34,10 +34,10 @@ pub fn check_lengths(
     fixed: &[u64],
     kept: &[u64],
 ) -> Answer
-    ensures { λ r. ⌜ r ≡ lengthTests len (now (lanes .entry)) (now (coeffs .entry)) (now (order .entry)) (now (work .entry)) (now (fixed .entry)) (now (kept .entry)) n (now (protected .entry)) Accepted ⌝ }
+    ensures { λ r. ⌜ r ≡ lengthTests len (now (words .entry)) (now (coeffs .entry)) (now (order .entry)) (now (work .entry)) (now (fixed .entry)) (now (kept .entry)) n (now (protected .entry)) Accepted ⌝ }
 {
-    if lanes.len() / WORD_LANES < len {
-        return mismatch(len, lanes.len() / WORD_LANES);
+    if words.len() / WORD_LANES < len {
+        return mismatch(len, words.len() / WORD_LANES);
     }
     if coeffs.len() < len {
         return mismatch(len, coeffs.len());
@@ -64,7 +64,7 @@ pub fn check_lengths(
 
 pub fn check_entries(
     n: usize,
-    lanes: &[u64],
+    words: &[u64],
     coeffs: &[f64],
     len: usize,
     protected: &[u64],
@@ -73,10 +73,10 @@ pub fn check_entries(
     fixed: &[u64],
     kept: &[u64],
 ) -> Answer
-    requires { ⌜ (4 * len ≤ length (now lanes)) × (len ≤ length (now coeffs)) ⌝ }
-    ensures { λ r. ⌜ r ≡ entryTests len (now (lanes .entry)) (now (coeffs .entry)) (now (order .entry)) (now (work .entry)) (now (fixed .entry)) (now (kept .entry)) n (now (protected .entry)) Accepted ⌝ }
+    requires { ⌜ (4 * len ≤ length (now words)) × (len ≤ length (now coeffs)) ⌝ }
+    ensures { λ r. ⌜ r ≡ entryTests len (now (words .entry)) (now (coeffs .entry)) (now (order .entry)) (now (work .entry)) (now (fixed .entry)) (now (kept .entry)) n (now (protected .entry)) Accepted ⌝ }
 {
-    let outside = first_outside(lanes, len, n);
+    let outside = first_outside(words, len, n);
     if outside < len {
         return Answer::Refused(Refusal::WordOutsideRegister { position: outside });
     }

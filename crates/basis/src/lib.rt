@@ -2,6 +2,7 @@
 // SPDX-License-Identifier: Apache-2.0
 
 // What a run may forget, and what it takes in: prune, cap and admission on a lent basis.
+pub mod cap;
 pub mod checks;
 pub mod kept;
 pub mod protect;

@@ -26,7 +26,7 @@ use word::word::MAX_QUBITS;
 
 fn check_prune(
     n: usize,
-    lanes: &[u64],
+    words: &[u64],
     coeffs: &[f64],
     len: usize,
     protected: &[u64],
@@ -36,7 +36,7 @@ fn check_prune(
     fixed: &[u64],
     kept: &[u64],
 ) -> Answer
-    ensures { λ r. ⌜ r ≡ pruneTests len (now (lanes .entry)) (now (coeffs .entry)) (now (order .entry)) (now (work .entry)) (now (fixed .entry)) (now (kept .entry)) n (now (protected .entry)) «drop_tol» ⌝ }
+    ensures { λ r. ⌜ r ≡ pruneTests len (now (words .entry)) (now (coeffs .entry)) (now (order .entry)) (now (work .entry)) (now (fixed .entry)) (now (kept .entry)) n (now (protected .entry)) «drop_tol» ⌝ }
 {
     if MAX_QUBITS < n {
         return Answer::Refused(Refusal::TooManyQubits {
@@ -51,11 +51,11 @@ fn check_prune(
     if MAX_WORDS < count {
         return Answer::Refused(Refusal::CountAboveLimit { count });
     }
-    let lengths = check_lengths(n, lanes, coeffs, len, protected, order, work, fixed, kept);
+    let lengths = check_lengths(n, words, coeffs, len, protected, order, work, fixed, kept);
     let Answer::Accepted = lengths else {
         return lengths;
     };
-    let entries = check_entries(n, lanes, coeffs, len, protected, order, work, fixed, kept);
+    let entries = check_entries(n, words, coeffs, len, protected, order, work, fixed, kept);
     let Answer::Accepted = entries else {
         return entries;
     };
@@ -68,7 +68,7 @@ fn check_prune(
 
 // Flags the protected entries and the large ones; the tables of exact lengths.
 fn flag_kept(
-    lanes: &[u64],
+    words: &[u64],
     coeffs: &[f64],
     len: usize,
     protected: &[u64],
@@ -77,16 +77,16 @@ fn flag_kept(
     work: &mut [u64],
     kept: &mut [u64],
 )
-    requires { ⌜ (4 * len ≤ length (now lanes)) × (len ≤ length (now coeffs)) × (length (now kept) ≡ len) × (4 * length (now order) ≡ length (now protected)) × (4 * length (now work) ≡ length (now protected)) ⌝ }
-    ensures { λ _. ⌜ now (kept .exit) ≡ pruneFlags len (now (lanes .entry)) (now (coeffs .entry)) (now (protected .entry)) «drop_tol» ⌝ }
+    requires { ⌜ (4 * len ≤ length (now words)) × (len ≤ length (now coeffs)) × (length (now kept) ≡ len) × (4 * length (now order) ≡ length (now protected)) × (4 * length (now work) ≡ length (now protected)) ⌝ }
+    ensures { λ _. ⌜ now (kept .exit) ≡ pruneFlags len (now (words .entry)) (now (coeffs .entry)) (now (protected .entry)) «drop_tol» ⌝ }
 {
-    mark_protected(lanes, len, protected, order, work, kept);
+    mark_protected(words, len, protected, order, work, kept);
     flag_large(coeffs, len, drop_tol, kept);
 }
 
 // Drops the entries: how many stay. Nothing if drop_tol ≤ 0.
 fn drop_small(
-    lanes: &mut [u64],
+    words: &mut [u64],
     coeffs: &mut [f64],
     len: usize,
     protected: &[u64],
@@ -95,15 +95,15 @@ fn drop_small(
     work: &mut [u64],
     kept: &mut [u64],
 ) -> usize
-    requires { ⌜ (4 * len ≤ length (now lanes)) × (len ≤ length (now coeffs)) × (length (now protected) / 4 * 4 ≡ length (now protected)) × (length (now protected) / 4 ≤ length (now order)) × (length (now protected) / 4 ≤ length (now work)) × (len ≤ length (now kept)) ⌝ }
-    ensures { λ r. ⌜ ((o w f k : List ℕ) → left len (now (lanes .entry)) (now (coeffs .entry)) o w f k r (now (lanes .exit)) (now (coeffs .exit)) ≡ cond (le «drop_tol» float0) (left len (now (lanes .entry)) (now (coeffs .entry)) o w f k len (now (lanes .entry)) (now (coeffs .entry))) (retained len (now (lanes .entry)) (now (coeffs .entry)) o w f k (pruneFlags len (now (lanes .entry)) (now (coeffs .entry)) (now (protected .entry)) «drop_tol»))) ⌝ }
+    requires { ⌜ (4 * len ≤ length (now words)) × (len ≤ length (now coeffs)) × (length (now protected) / 4 * 4 ≡ length (now protected)) × (length (now protected) / 4 ≤ length (now order)) × (length (now protected) / 4 ≤ length (now work)) × (len ≤ length (now kept)) ⌝ }
+    ensures { λ r. ⌜ ((o w f k : List ℕ) → left len (now (words .entry)) (now (coeffs .entry)) o w f k r (now (words .exit)) (now (coeffs .exit)) ≡ cond (le «drop_tol» float0) (left len (now (words .entry)) (now (coeffs .entry)) o w f k len (now (words .entry)) (now (coeffs .entry))) (retained len (now (words .entry)) (now (coeffs .entry)) o w f k (pruneFlags len (now (words .entry)) (now (coeffs .entry)) (now (protected .entry)) «drop_tol»))) ⌝ }
 {
     if drop_tol <= 0.0 {
         return len;
     }
     let count = protected.len() / WORD_LANES;
     flag_kept(
-        lanes,
+        words,
         coeffs,
         len,
         protected,
@@ -112,12 +112,12 @@ fn drop_small(
         &mut work[..count],
         &mut kept[..len],
     );
-    retain_in_place(lanes, coeffs, len, &kept[..len])
+    retain_in_place(words, coeffs, len, &kept[..len])
 }
 
 pub fn prune_basis(
     n: usize,
-    lanes: &mut [u64],
+    words: &mut [u64],
     coeffs: &mut [f64],
     len: usize,
     protected: &[u64],
@@ -127,11 +127,11 @@ pub fn prune_basis(
     fixed: &mut [u64],
     kept: &mut [u64],
 ) -> Kept
-    ensures { λ r. ⌜ record { answer = r; lanes = now (lanes .exit); coeffs = now (coeffs .exit); order = now (order .exit); work = now (work .exit); fixed = now (fixed .exit); kept = now (kept .exit) } ≡ prune len (now (lanes .entry)) (now (coeffs .entry)) (now (order .entry)) (now (work .entry)) (now (fixed .entry)) (now (kept .entry)) n (now (protected .entry)) «drop_tol» ⌝ }
+    ensures { λ r. ⌜ record { answer = r; lanes = now (words .exit); coeffs = now (coeffs .exit); order = now (order .exit); work = now (work .exit); fixed = now (fixed .exit); kept = now (kept .exit) } ≡ prune len (now (words .entry)) (now (coeffs .entry)) (now (order .entry)) (now (work .entry)) (now (fixed .entry)) (now (kept .entry)) n (now (protected .entry)) «drop_tol» ⌝ }
 {
     let answer = check_prune(
         n,
-        lanes,
+        words,
         coeffs,
         len,
         protected,
@@ -142,7 +142,7 @@ pub fn prune_basis(
         kept,
     );
     let Answer::Refused(refusal) = answer else {
-        let entries = drop_small(lanes, coeffs, len, protected, drop_tol, order, work, kept);
+        let entries = drop_small(words, coeffs, len, protected, drop_tol, order, work, kept);
         clear_lanes(order);
         clear_lanes(work);
         clear_lanes(fixed);

@@ -6,10 +6,10 @@ use mathlib.Core.Path.{_≡_, sym, ap, _∙_}
 use mathlib.Core.List.{List, _++_}
 use Prim.Native.Nat.{ℕ, _/_}
 use native.Mathlib.Omega.{arith}
-use lib.ListN.{length, take, drop, length-append}
+use lib.ListN.{length, take, drop}
 use lib.Seq.{length-take-le}
 use Rattle.basis.specs.Prunes.{pruneFlags}
-use Rattle.basis.proofs.PruneLaws.{lent-front, retained-is}
+use Rattle.basis.proofs.PruneLaws.{lent-front, lent-long, retained-is}
 use borrow.Author.Needs.{needs}
 use Rattle.basis.proofs.prune.drop_small.Statement.{statement}
 use Rattle.basis.proofs.prune.drop_small.Tie as tie
@@ -45,8 +45,7 @@ slice-aggregate-retain-in-place c =
     let a = s .args in
     let q = c .before .before .before .before .before .before .before .before .before .flag-kept in
     let ys : List ℕ = q .last .1 .1 .1 .1 .1 .1 .1 .0 in
-    let long : length ys ≡ a .len = q .kept .1 .1 .1 .1 .1 .1 .1 .0 ∙ length-take-le (a .len) (a .kept .now) (s .pre .5) in
-    sym (length-take-le (a .len) (ys ++ drop (a .len) (a .kept .now)) (omega (arith, long, length-append ys (drop (a .len) (a .kept .now)))))
+    sym (length-take-le (a .len) (ys ++ drop (a .len) (a .kept .now)) (omega (arith, s .pre .5, lent-long (a .len) (a .kept .now) ys (q .kept .1 .1 .1 .1 .1 .1 .1 .0))))
 
 retain-in-place-requires : tie.Need-retain-in-place-requires
 retain-in-place-requires c κs =
@@ -65,8 +64,8 @@ returns-2 c o w f k =
     let q = c .before .before .before .before .before .before .before .before .before .before .before .before .before .before .flag-kept in
     let ys : List ℕ = q .last .1 .1 .1 .1 .1 .1 .1 .0 in
     let long : length ys ≡ a .len = q .kept .1 .1 .1 .1 .1 .1 .1 .0 ∙ length-take-le (a .len) (a .kept .now) (s .pre .5) in
-    let flags : List ℕ = pruneFlags (a .len) (a .lanes .now) (a .coeffs .now) (a .protected .now) (a .drop-tol) in
-    rw (c .before .before .before .before .before .before .before .before .before .before .before .before .before .before .before .before .before .before .before .before .if1 .left) (retained-is (a .len) (a .lanes .now) (a .coeffs .now) flags (take (a .len) (ys ++ drop (a .len) (a .kept .now))) (lent-front (a .len) (a .kept .now) ys (s .pre .5) (q .kept .1 .1 .1 .1 .1 .1 .1 .0) ∙ q .ensures) (sym (ap length (q .ensures)) ∙ long) _ _ _ (c .before .before .before .before .retain-in-place .ensures) o w f k)
+    let flags : List ℕ = pruneFlags (a .len) (a .words .now) (a .coeffs .now) (a .protected .now) (a .drop-tol) in
+    rw (c .before .before .before .before .before .before .before .before .before .before .before .before .before .before .before .before .before .before .before .before .if1 .left) (retained-is (a .len) (a .words .now) (a .coeffs .now) flags (take (a .len) (ys ++ drop (a .len) (a .kept .now))) (lent-front (a .len) (a .kept .now) ys (s .pre .5) (q .kept .1 .1 .1 .1 .1 .1 .1 .0) ∙ q .ensures) (sym (ap length (q .ensures)) ∙ long) _ _ _ (c .before .before .before .before .retain-in-place .ensures) o w f k)
 
 pub drop-small-spec : {M : Type 1} → statement M
 drop-small-spec =
