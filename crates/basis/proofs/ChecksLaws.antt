@@ -20,7 +20,7 @@ use Rattle.model.specs.Built.{andThen}
 use Rattle.model.proofs.BuildLaws.{equal-passed, lent-passed}
 use Rattle.action.specs.Counts.{outsideAt}
 use Rattle.basis.specs.Tests.{insideTo, notFinite, finiteTo}
-use Rattle.basis.specs.Prunes.{lengthTests, entryTests}
+use Rattle.basis.specs.Prunes.{lengthTests}
 
 -- tests before others answer as they do alone, or as the others
 module _ (r1 r2 r3 : Refusal) (after : Answer) where
@@ -87,39 +87,6 @@ module _ (len : ℕ) (lanes : List ℕ) (coeffs : List Float) (order work fixed 
               lengths-accepted l =
                   rw (le-ltb (length lanes / 4) len h1, le-ltb (length coeffs) len h2, four, sym is, le-ltb (length order) places h3, le-ltb (length work) places h4, le-ltb (length fixed) len h5, le-ltb (length kept) len l)
 
-  -- ---- words and coefficients
-  abbrev entries : Answer → Answer
-  entries = entryTests len lanes coeffs order work fixed kept n protected
-
-  pub entries-then : (after : Answer) → entries after ≡ andThen (entries Accepted) after
-  unfolding insideTo finiteTo
-  entries-then after =
-      let a : ℕ = firstTo len (outsideAt lanes n) in
-      let b : ℕ = firstTo count (outsideAt protected n) in
-      let d : ℕ = firstTo len (notFinite coeffs) in
-      three-then (WordOutsideRegister a) (WordOutsideRegister b) (NumberOutOfRange (0 + d)) after (ltb a len) (ltb b count) (ltb d len)
-
-  module _ (a : ℕ) (a-is : a ≡ firstTo len (outsideAt lanes n)) where
-    pub word-outside : a < len → Refused (WordOutsideRegister a) ≡ entries Accepted
-    unfolding insideTo
-    word-outside l = rw (sym a-is, lt-ltb a len l)
-
-    module _ (h1 : len ≤ a) (b : ℕ) (b-is : b ≡ firstTo count (outsideAt protected n)) where
-      pub protected-outside : b < count → Refused (WordOutsideRegister b) ≡ entries Accepted
-      unfolding insideTo
-      protected-outside l = rw (sym a-is, le-ltb a len h1, sym b-is, lt-ltb b count l)
-
-      module _ (h2 : count ≤ b) (d : ℕ) (d-is : d ≡ firstTo len (notFinite coeffs)) where
-        pub coefficient-bad : d < len → Refused (NumberOutOfRange d) ≡ entries Accepted
-        unfolding insideTo finiteTo
-        coefficient-bad l =
-            let z : 0 + d ≡ d = omega arith in
-            rw (sym a-is, le-ltb a len h1, sym b-is, le-ltb b count h2, sym d-is, lt-ltb d len l, z)
-
-        pub entries-accepted : len ≤ d → Accepted ≡ entries Accepted
-        unfolding insideTo finiteTo
-        entries-accepted l = rw (sym a-is, le-ltb a len h1, sym b-is, le-ltb b count h2, sym d-is, le-ltb d len l)
-
   -- ---- what is known where the lengths are passed
   pub record Room : Type 0 where
     pub lanes-room : 4 * len ≤ length lanes
@@ -152,3 +119,40 @@ module _ (len : ℕ) (lanes : List ℕ) (coeffs : List Float) (order work fixed 
         fixed-room = e6 .0;
         kept-room = e7 .0;
       }
+
+-- ---- words and coefficients
+module _ (len : ℕ) (lanes : List ℕ) (coeffs : List Float) (n : ℕ) (protected : List ℕ) where
+  abbrev places : ℕ
+  places = length protected / 4
+
+  abbrev entries : Answer → Answer
+  entries after = insideTo len lanes n (insideTo places protected n (finiteTo 0 len coeffs after))
+
+  pub entries-then : (after : Answer) → entries after ≡ andThen (entries Accepted) after
+  unfolding insideTo finiteTo
+  entries-then after =
+      let a : ℕ = firstTo len (outsideAt lanes n) in
+      let b : ℕ = firstTo places (outsideAt protected n) in
+      let d : ℕ = firstTo len (notFinite coeffs) in
+      three-then (WordOutsideRegister a) (WordOutsideRegister b) (NumberOutOfRange (0 + d)) after (ltb a len) (ltb b places) (ltb d len)
+
+  module _ (a : ℕ) (a-is : a ≡ firstTo len (outsideAt lanes n)) where
+    pub word-outside : a < len → Refused (WordOutsideRegister a) ≡ entries Accepted
+    unfolding insideTo
+    word-outside l = rw (sym a-is, lt-ltb a len l)
+
+    module _ (h1 : len ≤ a) (b : ℕ) (b-is : b ≡ firstTo places (outsideAt protected n)) where
+      pub protected-outside : b < places → Refused (WordOutsideRegister b) ≡ entries Accepted
+      unfolding insideTo
+      protected-outside l = rw (sym a-is, le-ltb a len h1, sym b-is, lt-ltb b places l)
+
+      module _ (h2 : places ≤ b) (d : ℕ) (d-is : d ≡ firstTo len (notFinite coeffs)) where
+        pub coefficient-bad : d < len → Refused (NumberOutOfRange d) ≡ entries Accepted
+        unfolding insideTo finiteTo
+        coefficient-bad l =
+            let z : 0 + d ≡ d = omega arith in
+            rw (sym a-is, le-ltb a len h1, sym b-is, le-ltb b places h2, sym d-is, lt-ltb d len l, z)
+
+        pub entries-accepted : len ≤ d → Accepted ≡ entries Accepted
+        unfolding insideTo finiteTo
+        entries-accepted l = rw (sym a-is, le-ltb a len h1, sym b-is, le-ltb b places h2, sym d-is, le-ltb d len l)

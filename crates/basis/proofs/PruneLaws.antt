@@ -82,11 +82,11 @@ module _ (len : ℕ) (lanes : List ℕ) (coeffs : List Float) (order work fixed 
           after-lengths = sym (lengths-then len lanes coeffs order work fixed kept n protected (entries (finiteThreshold len tol Accepted)) ∙ rw h4) ∙ after-counts
 
           pub entries-refused : (r : Refusal) → entries Accepted ≡ Refused r → Refused r ≡ tests
-          entries-refused r e = sym (entries-then len lanes coeffs order work fixed kept n protected (finiteThreshold len tol Accepted) ∙ rw e) ∙ after-lengths
+          entries-refused r e = sym (entries-then len lanes coeffs n protected (finiteThreshold len tol Accepted) ∙ rw e) ∙ after-lengths
 
           module _ (h5 : entries Accepted ≡ Accepted) (b : Bool) (is : b ≡ isFinite tol) where
             after-entries : finiteThreshold len tol Accepted ≡ tests
-            after-entries = sym (entries-then len lanes coeffs order work fixed kept n protected (finiteThreshold len tol Accepted) ∙ rw h5) ∙ after-lengths
+            after-entries = sym (entries-then len lanes coeffs n protected (finiteThreshold len tol Accepted) ∙ rw h5) ∙ after-lengths
 
             pub threshold-bad : not b ≡ true → Refused (NumberOutOfRange len) ≡ tests
             threshold-bad e = (rw (sym is, not-true b e)) ∙ after-entries

@@ -56,11 +56,11 @@ fn check_cap(
     if MAX_WORDS < limit {
         return Answer::Refused(Refusal::CountAboveLimit { count: limit });
     }
-    let lengths = check_lengths(n, words, coeffs, len, protected, order, work, fixed, kept);
+    let lengths = check_lengths(words, coeffs, len, protected, order, work, fixed, kept);
     let Answer::Accepted = lengths else {
         return lengths;
     };
-    check_entries(n, words, coeffs, len, protected, order, work, fixed, kept)
+    check_entries(n, words, coeffs, len, protected)
 }
 
 fn count_flagged(flags: &[u64]) -> usize

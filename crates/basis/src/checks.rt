@@ -3,10 +3,11 @@
 
 // What prune and cap ask alike of a lent basis and a protected list: lengths, words and coefficients.
 ghost use mathlib.Core.Path.{_≡_};
-ghost use Prim.Native.Nat.{_*_, _≤_, max};
+ghost use Prim.Native.Nat.{ℕ, _*_, _/_, _≤_, max};
 ghost use lib.ListN.{length};
 ghost use Rattle.refusal.specs.declared.Answer.the-variants.{Accepted};
-ghost use Rattle.basis.specs.Prunes.{lengthTests, entryTests};
+ghost use Rattle.basis.specs.Tests.{insideTo, finiteTo};
+ghost use Rattle.basis.specs.Prunes.{lengthTests};
 use crate::tests::first_not_finite;
 use action::words::first_outside;
 use model::lengths::mismatch;
@@ -24,7 +25,6 @@ fn larger(a: usize, b: usize) -> usize
 }
 
 pub fn check_lengths(
-    n: usize,
     words: &[u64],
     coeffs: &[f64],
     len: usize,
@@ -34,7 +34,7 @@ pub fn check_lengths(
     fixed: &[u64],
     kept: &[u64],
 ) -> Answer
-    ensures { λ r. ⌜ r ≡ lengthTests len (now (words .entry)) (now (coeffs .entry)) (now (order .entry)) (now (work .entry)) (now (fixed .entry)) (now (kept .entry)) n (now (protected .entry)) Accepted ⌝ }
+    ensures { λ r. ⌜ ((n : ℕ) → r ≡ lengthTests len (now (words .entry)) (now (coeffs .entry)) (now (order .entry)) (now (work .entry)) (now (fixed .entry)) (now (kept .entry)) n (now (protected .entry)) Accepted) ⌝ }
 {
     if words.len() / WORD_LANES < len {
         return mismatch(len, words.len() / WORD_LANES);
@@ -68,13 +68,9 @@ pub fn check_entries(
     coeffs: &[f64],
     len: usize,
     protected: &[u64],
-    order: &[u64],
-    work: &[u64],
-    fixed: &[u64],
-    kept: &[u64],
 ) -> Answer
     requires { ⌜ (4 * len ≤ length (now words)) × (len ≤ length (now coeffs)) ⌝ }
-    ensures { λ r. ⌜ r ≡ entryTests len (now (words .entry)) (now (coeffs .entry)) (now (order .entry)) (now (work .entry)) (now (fixed .entry)) (now (kept .entry)) n (now (protected .entry)) Accepted ⌝ }
+    ensures { λ r. ⌜ r ≡ insideTo len (now (words .entry)) n (insideTo (length (now (protected .entry)) / 4) (now (protected .entry)) n (finiteTo 0 len (now (coeffs .entry)) Accepted)) ⌝ }
 {
     let outside = first_outside(words, len, n);
     if outside < len {

@@ -51,11 +51,11 @@ fn check_prune(
     if MAX_WORDS < count {
         return Answer::Refused(Refusal::CountAboveLimit { count });
     }
-    let lengths = check_lengths(n, words, coeffs, len, protected, order, work, fixed, kept);
+    let lengths = check_lengths(words, coeffs, len, protected, order, work, fixed, kept);
     let Answer::Accepted = lengths else {
         return lengths;
     };
-    let entries = check_entries(n, words, coeffs, len, protected, order, work, fixed, kept);
+    let entries = check_entries(n, words, coeffs, len, protected);
     let Answer::Accepted = entries else {
         return entries;
     };

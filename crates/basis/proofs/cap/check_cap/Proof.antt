@@ -32,18 +32,18 @@ returns-4 c =
 returns-5 : tie.Need-returns-5
 returns-5 c =
     let a = c .before .before .before .before .before .before .before .before .before .before .before .before .before .before .args in
-    c .enum-told2 .given .1 ∙ lengths-refused (a .len) (a .words .now) (a .coeffs .now) (a .order .now) (a .work .now) (a .fixed .now) (a .kept .now) (a .n) (a .protected .now) (a .limit) (c .before .before .before .before .before .before .if1 .left) (c .before .before .before .before .before .if2 .left) (c .before .before .before .before .if3 .left) (c .before .before .before .if4 .left) _ (sym (c .before .before .check-lengths .ensures) ∙ c .enum-told2 .given .1)
+    c .enum-told2 .given .1 ∙ lengths-refused (a .len) (a .words .now) (a .coeffs .now) (a .order .now) (a .work .now) (a .fixed .now) (a .kept .now) (a .n) (a .protected .now) (a .limit) (c .before .before .before .before .before .before .if1 .left) (c .before .before .before .before .before .if2 .left) (c .before .before .before .before .if3 .left) (c .before .before .before .if4 .left) _ (sym (c .before .before .check-lengths .ensures (a .n)) ∙ c .enum-told2 .given .1)
 
 check-entries-requires : tie.Need-check-entries-requires
 check-entries-requires c κs =
     let a = c .before .before .before .before .before .before .before .before .before .before .before .before .before .before .args in
-    let h = lengths-room (a .len) (a .words .now) (a .coeffs .now) (a .order .now) (a .work .now) (a .fixed .now) (a .kept .now) (a .n) (a .protected .now) (sym (c .before .before .check-lengths .ensures) ∙ c .enum-told .given .1) in
+    let h = lengths-room (a .len) (a .words .now) (a .coeffs .now) (a .order .now) (a .work .now) (a .fixed .now) (a .kept .now) (a .n) (a .protected .now) (sym (c .before .before .check-lengths .ensures (a .n)) ∙ c .enum-told .given .1) in
     (h .lanes-room, h .coeffs-room)
 
 returns-6 : tie.Need-returns-6
 returns-6 c =
     let a = c .before .before .before .before .before .before .before .before .before .before .before .before .before .before .before .args in
-    c .check-entries .ensures ∙ entries-answer (a .len) (a .words .now) (a .coeffs .now) (a .order .now) (a .work .now) (a .fixed .now) (a .kept .now) (a .n) (a .protected .now) (a .limit) (c .before .before .before .before .before .before .before .if1 .left) (c .before .before .before .before .before .before .if2 .left) (c .before .before .before .before .before .if3 .left) (c .before .before .before .before .if4 .left) (sym (c .before .before .before .check-lengths .ensures) ∙ c .before .enum-told .given .1)
+    c .check-entries .ensures ∙ entries-answer (a .len) (a .words .now) (a .coeffs .now) (a .order .now) (a .work .now) (a .fixed .now) (a .kept .now) (a .n) (a .protected .now) (a .limit) (c .before .before .before .before .before .before .before .if1 .left) (c .before .before .before .before .before .before .if2 .left) (c .before .before .before .before .before .if3 .left) (c .before .before .before .before .if4 .left) (sym (c .before .before .before .check-lengths .ensures (a .n)) ∙ c .before .enum-told .given .1)
 
 pub check-cap-spec : {M : Type 1} → statement M
 check-cap-spec =

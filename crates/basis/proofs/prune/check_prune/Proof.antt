@@ -27,28 +27,28 @@ returns-3 c =
 returns-4 : tie.Need-returns-4
 returns-4 c =
     let a = c .before .before .before .before .before .before .before .before .before .before .before .before .before .args in
-    c .enum-told2 .given .1 ∙ lengths-refused (a .len) (a .words .now) (a .coeffs .now) (a .order .now) (a .work .now) (a .fixed .now) (a .kept .now) (a .n) (a .protected .now) (a .drop-tol) (c .before .before .before .before .before .if1 .left) (c .before .before .before .before .if2 .left) (c .before .before .before .if3 .left) _ (sym (c .before .before .check-lengths .ensures) ∙ c .enum-told2 .given .1)
+    c .enum-told2 .given .1 ∙ lengths-refused (a .len) (a .words .now) (a .coeffs .now) (a .order .now) (a .work .now) (a .fixed .now) (a .kept .now) (a .n) (a .protected .now) (a .drop-tol) (c .before .before .before .before .before .if1 .left) (c .before .before .before .before .if2 .left) (c .before .before .before .if3 .left) _ (sym (c .before .before .check-lengths .ensures (a .n)) ∙ c .enum-told2 .given .1)
 
 check-entries-requires : tie.Need-check-entries-requires
 check-entries-requires c κs =
     let a = c .before .before .before .before .before .before .before .before .before .before .before .before .before .args in
-    let h = lengths-room (a .len) (a .words .now) (a .coeffs .now) (a .order .now) (a .work .now) (a .fixed .now) (a .kept .now) (a .n) (a .protected .now) (sym (c .before .before .check-lengths .ensures) ∙ c .enum-told .given .1) in
+    let h = lengths-room (a .len) (a .words .now) (a .coeffs .now) (a .order .now) (a .work .now) (a .fixed .now) (a .kept .now) (a .n) (a .protected .now) (sym (c .before .before .check-lengths .ensures (a .n)) ∙ c .enum-told .given .1) in
     (h .lanes-room, h .coeffs-room)
 
 returns-5 : tie.Need-returns-5
 returns-5 c =
     let a = c .before .before .before .before .before .before .before .before .before .before .before .before .before .before .before .before .args in
-    c .enum-told4 .given .1 ∙ entries-refused (a .len) (a .words .now) (a .coeffs .now) (a .order .now) (a .work .now) (a .fixed .now) (a .kept .now) (a .n) (a .protected .now) (a .drop-tol) (c .before .before .before .before .before .before .before .before .if1 .left) (c .before .before .before .before .before .before .before .if2 .left) (c .before .before .before .before .before .before .if3 .left) (sym (c .before .before .before .before .before .check-lengths .ensures) ∙ c .before .before .before .enum-told .given .1) _ (sym (c .before .before .check-entries .ensures) ∙ c .enum-told4 .given .1)
+    c .enum-told4 .given .1 ∙ entries-refused (a .len) (a .words .now) (a .coeffs .now) (a .order .now) (a .work .now) (a .fixed .now) (a .kept .now) (a .n) (a .protected .now) (a .drop-tol) (c .before .before .before .before .before .before .before .before .if1 .left) (c .before .before .before .before .before .before .before .if2 .left) (c .before .before .before .before .before .before .if3 .left) (sym (c .before .before .before .before .before .check-lengths .ensures (a .n)) ∙ c .before .before .before .enum-told .given .1) _ (sym (c .before .before .check-entries .ensures) ∙ c .enum-told4 .given .1)
 
 returns-6 : tie.Need-returns-6
 returns-6 c =
     let a = c .before .before .before .before .before .before .before .before .before .before .before .before .before .before .before .before .before .before .args in
-    threshold-bad (a .len) (a .words .now) (a .coeffs .now) (a .order .now) (a .work .now) (a .fixed .now) (a .kept .now) (a .n) (a .protected .now) (a .drop-tol) (c .before .before .before .before .before .before .before .before .before .before .if1 .left) (c .before .before .before .before .before .before .before .before .before .if2 .left) (c .before .before .before .before .before .before .before .before .if3 .left) (sym (c .before .before .before .before .before .before .before .check-lengths .ensures) ∙ c .before .before .before .before .before .enum-told .given .1) (sym (c .before .before .before .before .check-entries .ensures) ∙ c .before .before .enum-told3 .given .1) _ (c .before .is-finite .ensures) (c .if4 .taken)
+    threshold-bad (a .len) (a .words .now) (a .coeffs .now) (a .order .now) (a .work .now) (a .fixed .now) (a .kept .now) (a .n) (a .protected .now) (a .drop-tol) (c .before .before .before .before .before .before .before .before .before .before .if1 .left) (c .before .before .before .before .before .before .before .before .before .if2 .left) (c .before .before .before .before .before .before .before .before .if3 .left) (sym (c .before .before .before .before .before .before .before .check-lengths .ensures (a .n)) ∙ c .before .before .before .before .before .enum-told .given .1) (sym (c .before .before .before .before .check-entries .ensures) ∙ c .before .before .enum-told3 .given .1) _ (c .before .is-finite .ensures) (c .if4 .taken)
 
 returns-7 : tie.Need-returns-7
 returns-7 c =
     let a = c .before .before .before .before .before .before .before .before .before .before .before .before .before .before .before .before .before .before .args in
-    prune-accepted (a .len) (a .words .now) (a .coeffs .now) (a .order .now) (a .work .now) (a .fixed .now) (a .kept .now) (a .n) (a .protected .now) (a .drop-tol) (c .before .before .before .before .before .before .before .before .before .before .if1 .left) (c .before .before .before .before .before .before .before .before .before .if2 .left) (c .before .before .before .before .before .before .before .before .if3 .left) (sym (c .before .before .before .before .before .before .before .check-lengths .ensures) ∙ c .before .before .before .before .before .enum-told .given .1) (sym (c .before .before .before .before .check-entries .ensures) ∙ c .before .before .enum-told3 .given .1) _ (c .before .is-finite .ensures) (c .if4 .left)
+    prune-accepted (a .len) (a .words .now) (a .coeffs .now) (a .order .now) (a .work .now) (a .fixed .now) (a .kept .now) (a .n) (a .protected .now) (a .drop-tol) (c .before .before .before .before .before .before .before .before .before .before .if1 .left) (c .before .before .before .before .before .before .before .before .before .if2 .left) (c .before .before .before .before .before .before .before .before .if3 .left) (sym (c .before .before .before .before .before .before .before .check-lengths .ensures (a .n)) ∙ c .before .before .before .before .before .enum-told .given .1) (sym (c .before .before .before .before .check-entries .ensures) ∙ c .before .before .enum-told3 .given .1) _ (c .before .is-finite .ensures) (c .if4 .left)
 
 pub check-prune-spec : {M : Type 1} → statement M
 check-prune-spec =
