@@ -4,7 +4,7 @@
 -- Prune and cap on a lent basis, the first `len` places of a table of words beside a table of coefficients: refusals in their
 -- order, the answer, and every lent table afterwards.
 use Prim.Native.Nat.{ℕ, _-_, _*_, _/_, max}
-use mathlib.Core.Bool.{Bool, cond}
+use mathlib.Core.Bool.{cond}
 use mathlib.Core.List.{List, map}
 use lib.Dec.{ltb, leb}
 use lib.Ieee.{Float, le}

@@ -3,5 +3,9 @@
 
 // What a run may forget, and what it takes in: prune, cap and admission on a lent basis.
 pub mod admit;
+pub mod cap;
+pub mod checks;
 pub mod kept;
+pub mod protect;
+pub mod prune;
 pub mod tests;

@@ -2,8 +2,8 @@
 -- SPDX-License-Identifier: Apache-2.0
 
 -- `tests::first_not_finite` meets its contract: the numbers before k are finite. Assumes nothing.
-use mathlib.Core.Path.{_≡_, ap}
-use mathlib.Core.Bool.{Bool, not}
+use mathlib.Core.Path.{ap}
+use mathlib.Core.Bool.{not}
 use Prim.Native.Nat.{_-_, _≤_}
 use native.Mathlib.Omega.{arith}
 use Rattle.model.proofs.Firsts.{NoneBefore, none-start, stops-here, goes-on, stops-last}
