@@ -55,7 +55,7 @@ chunk-full room a b t out sums r h e =
     let z : room < length (putRows a t) = full-long room (putRows a t) (sym e ∙ h .answers) in
     rw e (full-holds room (putRows (a ++ b) t) out sums (rw (parts a b t) (omega (arith, grows b (putRows a t)))))
 
--- one entry after the other refuses exactly where the whole has more rows than places
+-- one insertion each refuses exactly where the whole has more rows than places
 pub one-by-one : (room : ℕ) (l t : Rows) → length t ≤ room → oneByOne room l t ≡ answer room (putRows l t)
 unfolding oneByOne answer putAll
 one-by-one room [] t h = rw (le-ltb room (length t) h)
@@ -65,3 +65,7 @@ one-by-one room (e ∷ l) t h = go (ltb room (length (next e t))) refl (λ k. on
         → cond s Full (oneByOne room l (next e t)) ≡ cond (ltb room (length (putRows l (next e t)))) Full (Held (length (putRows l (next e t))))
     go true p i = let z : room < length (putRows l (next e t)) = omega (arith, ltb-true room (length (next e t)) p, grows l (next e t)) in rw (lt-ltb room (length (putRows l (next e t))) z)
     go false p i = i (ltb-false room (length (next e t)) p)
+
+-- so what absorbing answers is what one insertion each answers
+pub answers-alike : (room : ℕ) (l t : Rows) (out : List ℕ) (sums : List Float) (r : Added) → length t ≤ room → Holds room (putRows l t) out sums r → r ≡ oneByOne room l t
+answers-alike room l t out sums r h k = k .answers ∙ sym (one-by-one room l t h)

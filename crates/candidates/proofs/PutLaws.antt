@@ -61,14 +61,14 @@ module _ {W : Type 0} (lt : W → W → Bool) (o : Strict lt) where
       go false e = rw (← (o .total v w e k)) h
 
   -- u is at most v, and v less than w
-  pub most-less : (u v w : W) → lt v u ≡ false → lt v w ≡ true → lt u w ≡ true
+  most-less : (u v w : W) → lt v u ≡ false → lt v w ≡ true → lt u w ≡ true
   most-less u v w h k = go (lt u v) refl
     where
       go : (s : Bool) → lt u v ≡ s → lt u w ≡ true
       go true e = o .trans u v w e k
       go false e = rw (o .total u v e h) k
 
-  pub most-trans : (u v w : W) → lt v u ≡ false → lt w v ≡ false → lt w u ≡ false
+  most-trans : (u v w : W) → lt v u ≡ false → lt w v ≡ false → lt w u ≡ false
   most-trans u v w h k = go (lt w u) refl
     where
       go : (s : Bool) → lt w u ≡ s → lt w u ≡ false
@@ -102,7 +102,7 @@ module _ {W S : Type 0} (lt : W → W → Bool) (plus : S → S → S) (start : 
     front w v r rs h = put-put w v r rs (asym lt o w (r .word) h) h
 
     -- entries of different words go in either order, into any table
-    pub commute : (u w : W) (x v : S) → lt u w ≡ true → (t : List (Row W S)) → put w v (put u x t) ≡ put u x (put w v t)
+    commute : (u w : W) (x v : S) → lt u w ≡ true → (t : List (Row W S)) → put w v (put u x t) ≡ put u x (put w v t)
     commute u w x v h [] =
         rw (put-end u x, put-end w v, put-past w v (row u (plus start x)) [] h, put-end w v, front u x (row w (plus start v)) [] h)
     commute u w x v h (r ∷ rs) = go (lt (r .word) u) refl (lt u (r .word)) refl (lt (r .word) w) refl (lt w (r .word)) refl (commute u w x v h rs)
@@ -153,7 +153,7 @@ module _ {W S : Type 0} (lt : W → W → Bool) (plus : S → S → S) (start : 
       abbrev Stay : ℕ → ℕ → Type 0
       Stay x y = first y x ≡ false
 
-      pub weak-order : WeakOrder (earlier lt key)
+      weak-order : WeakOrder (earlier lt key)
       weak-order = record { turned = λ x y p. asym lt o (key y) (key x) p; stays = λ x y z p q. most-trans lt o (key x) (key y) (key z) p q }
 
       -- an entry y goes before entries of greater words, the first of which is x

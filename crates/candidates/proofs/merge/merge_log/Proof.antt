@@ -30,17 +30,17 @@ abbrev μ-loop : tie.MeasureT-loop
 μ-loop held kept n log values order out₀ sums₀ i₀ j₀ k₀ out sums i j k = (n - i) + (length order - j)
 
 -- the places that are counted up stay below the greatest number
-j-free : (c : tie.In-loop Inv-loop μ-loop) → c .before .loop .j + 1 < 18446744073709551616
-j-free c = omega arith
+j-room : (c : tie.In-loop Inv-loop μ-loop) → c .before .loop .j + 1 < 18446744073709551616
+j-room c = omega arith
 
 j-in : (c : tie.In-loop Inv-loop μ-loop) → c .before .loop .j < length (c .before .before .before .before .before .before .before .before .before .args .order .now)
 j-in c = omega arith
 
-k-free : (c : tie.Else2 Inv-loop μ-loop) → c .before .before .before .before .before .before .before .before .loop .k + 1 < 18446744073709551616
-k-free c = omega arith
+k-room : (c : tie.Else2 Inv-loop μ-loop) → c .before .before .before .before .before .before .before .before .loop .k + 1 < 18446744073709551616
+k-room c = omega arith
 
-i-free : (c : tie.Else3 Inv-loop μ-loop) → c .before .before .before .before .before .before .before .before .before .before .loop .i + 1 < 18446744073709551616
-i-free c = omega (arith, beside-false _ _ _ (c .before .before-next .result) (c .before .before-next .ensures) (c .if3 .left))
+i-room : (c : tie.Else3 Inv-loop μ-loop) → c .before .before .before .before .before .before .before .before .before .before .loop .i + 1 < 18446744073709551616
+i-room c = omega (arith, beside-false _ _ _ (c .before .before-next .result) (c .before .before-next .ensures) (c .if3 .left))
 
 loop-holds : tie.Need-loop-holds Inv-loop μ-loop
 loop-holds c =
@@ -75,10 +75,10 @@ lay-row-requires : tie.Need-lay-row-requires Inv-loop μ-loop
 lay-row-requires c κs = (omega arith, omega arith)
 
 add-j : tie.Need-add-j Inv-loop μ-loop
-add-j c = omega (arith, j-free (c .before .before .before .before .before .before .before .before .before .before .before .before .before .before .before .before))
+add-j c = omega (arith, j-room (c .before .before .before .before .before .before .before .before .before .before .before .before .before .before .before .before))
 
 add-k : tie.Need-add-k Inv-loop μ-loop
-add-k c = omega (arith, k-free (c .before .before .before .before .before .before .before .before .before))
+add-k c = omega (arith, k-room (c .before .before .before .before .before .before .before .before .before))
 
 loop-again : tie.Need-loop-again Inv-loop μ-loop
 loop-again c =
@@ -99,10 +99,10 @@ lay-row-requires-2 : tie.Need-lay-row-requires-2 Inv-loop μ-loop
 lay-row-requires-2 c κs = (omega arith, omega arith)
 
 add-i : tie.Need-add-i Inv-loop μ-loop
-add-i c = omega (arith, i-free (c .before .before .before .before .before .before .before .before .before))
+add-i c = omega (arith, i-room (c .before .before .before .before .before .before .before .before .before))
 
 add-k-2 : tie.Need-add-k-2 Inv-loop μ-loop
-add-k-2 c = omega (arith, k-free (c .before .before .before .before .before .before .before .before .before .before .before))
+add-k-2 c = omega (arith, k-room (c .before .before .before .before .before .before .before .before .before .before .before))
 
 loop-less-2 : tie.Need-loop-less-2 Inv-loop μ-loop
 loop-less-2 c = omega (arith, beside-false _ _ _ (c .before .before .before .before .before .before .before .before .before .before .before-next .result) (c .before .before .before .before .before .before .before .before .before .before .before-next .ensures) (c .before .before .before .before .before .before .before .before .before .if3 .left))
