@@ -35,7 +35,7 @@ pub enum Counted {
     Refused(Refusal),
 }
 
-fn larger_count(a: usize, b: usize) -> usize
+pub fn larger_count(a: usize, b: usize) -> usize
     ensures { λ r. ⌜ r ≡ max a b ⌝ }
 {
     if a < b {

@@ -10,6 +10,7 @@ ghost use Rattle.order.specs.Magnitudes.{byMagnitude};
 ghost use Rattle.truncate.specs.Chosen.{chosen};
 ghost use Rattle.truncate.specs.Admitted.{Admits};
 ghost use Rattle.basis.specs.Admissions.{admitTests, admit};
+use crate::checks::room_left;
 use crate::kept::Kept;
 use crate::tests::first_not_finite;
 use action::act::LIST_TABLE;
@@ -100,16 +101,6 @@ fn check_admission(
         });
     }
     Answer::Accepted
-}
-
-// The room that a limit leaves: 0 where the basis has reached it.
-fn room_left(limit: usize, len: usize) -> usize
-    ensures { λ r. ⌜ r ≡ limit - len ⌝ }
-{
-    if limit < len {
-        return 0;
-    }
-    limit - len
 }
 
 // Appends the largest of the listed words, as many as there is room for: the new length. Once the order

@@ -14,6 +14,7 @@ ghost use Rattle.truncate.specs.Chosen.{chosen};
 ghost use Rattle.basis.specs.Prunes.{capFlags, left, retained, capTests, cap};
 use crate::checks::check_entries;
 use crate::checks::check_lengths;
+use crate::checks::room_left;
 use crate::kept::Kept;
 use crate::protect::mark_protected;
 use action::words::MAX_WORDS;
@@ -79,15 +80,6 @@ fn count_flagged(flags: &[u64]) -> usize
     held
 }
 
-fn slots_left(limit: usize, held: usize) -> usize
-    ensures { λ r. ⌜ r ≡ limit - held ⌝ }
-{
-    if limit < held {
-        return 0;
-    }
-    limit - held
-}
-
 // Flags the fixed ones and the largest others, as many as the limit leaves slots.
 fn fill_slots(
     coeffs: &[f64],
@@ -101,7 +93,7 @@ fn fill_slots(
     ensures { λ _. ⌜ now (kept .exit) ≡ chosen (byMagnitude (now (coeffs .entry))) (now (fixed .entry)) (limit - flagged (now (fixed .entry))) ⌝ }
 {
     let held = count_flagged(fixed);
-    let slots = slots_left(limit, held);
+    let slots = room_left(limit, held);
     order_by_desc_mag(coeffs, order, work);
     choose_largest(order, fixed, slots, kept);
 }

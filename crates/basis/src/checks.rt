@@ -3,25 +3,27 @@
 
 // What prune and cap ask alike of a lent basis and a protected list: lengths, words and coefficients.
 ghost use mathlib.Core.Path.{_≡_};
-ghost use Prim.Native.Nat.{ℕ, _*_, _/_, _≤_, max};
+ghost use Prim.Native.Nat.{ℕ, _*_, _/_, _≤_, _-_};
 ghost use lib.ListN.{length};
 ghost use Rattle.refusal.specs.declared.Answer.the-variants.{Accepted};
 ghost use Rattle.basis.specs.Tests.{insideTo, finiteTo};
 ghost use Rattle.basis.specs.Prunes.{lengthTests};
 use crate::tests::first_not_finite;
+use action::count::larger_count;
 use action::words::first_outside;
 use model::lengths::mismatch;
 use refusal::Answer;
 use refusal::Refusal;
 use word::flat::WORD_LANES;
 
-fn larger(a: usize, b: usize) -> usize
-    ensures { λ r. ⌜ r ≡ max a b ⌝ }
+// What a limit leaves beside so many entries: 0 where they reach it.
+pub fn room_left(limit: usize, held: usize) -> usize
+    ensures { λ r. ⌜ r ≡ limit - held ⌝ }
 {
-    if a < b {
-        return b;
+    if limit < held {
+        return 0;
     }
-    a
+    limit - held
 }
 
 pub fn check_lengths(
@@ -46,7 +48,7 @@ pub fn check_lengths(
     if protected.len() != count * WORD_LANES {
         return mismatch(count * WORD_LANES, protected.len());
     }
-    let places = larger(len, count);
+    let places = larger_count(len, count);
     if order.len() < places {
         return mismatch(places, order.len());
     }

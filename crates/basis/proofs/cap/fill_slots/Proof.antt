@@ -17,7 +17,7 @@ choose-largest-requires c κs =
 returns : tie.Need-returns
 returns c =
     let a = c .before .before .before .before .before .before .before .before .before .before .before .before .before .before .before .before .before .before .before .args in
-    slots-filled (a .coeffs .now) (a .fixed .now) _ _ (a .limit) _ _ (c .before .before .before .before .before .before .before .before .before .before .before .before .before .count-flagged .ensures) (c .before .before .before .before .before .before .before .before .before .before .before .before .slots-left .ensures) (c .before .before .before .before .before .before .before .before .before .order-by-desc-mag .ensures) (c .before .before .choose-largest .ensures)
+    slots-filled (a .coeffs .now) (a .fixed .now) _ _ (a .limit) _ _ (c .before .before .before .before .before .before .before .before .before .before .before .before .before .count-flagged .ensures) (c .before .before .before .before .before .before .before .before .before .before .before .before .room-left .ensures) (c .before .before .before .before .before .before .before .before .before .order-by-desc-mag .ensures) (c .before .before .choose-largest .ensures)
 
 pub fill-slots-spec : {M : Type 1} → statement M
 fill-slots-spec =
