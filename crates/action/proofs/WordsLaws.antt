@@ -23,7 +23,7 @@ use Rattle.model.specs.Tested.{firstTo, testModel}
 use Rattle.model.specs.declared.tables.Model.{Model}
 use Rattle.model.proofs.Firsts.{first-before}
 use Rattle.model.proofs.BuildLaws.{passed, both, equal-passed, lent-passed, counted-passed}
-use Rattle.action.specs.Counts.{maxWords, rowLanes, outsideAt, allInside, wordsTests, AllInside}
+use Rattle.action.specs.Counts.{maxWords, rowLanes, outsideAt, insideTo, wordsTests, AllInside}
 
 module _ (m : Model) (t : Tables) (lanes : List ℕ) (h j k : ℕ) where
   abbrev tests : Answer
@@ -62,16 +62,16 @@ module _ (m : Model) (t : Tables) (lanes : List ℕ) (h j k : ℕ) where
             mask-short l = rw (ok, le-ltb maxWords words few, four, le-ltb h (rowLanes * m .qubits) h-long, le-ltb j (rowLanes * m .qubits) j-long, lt-ltb k rowLanes l)
 
             module _ (mask-long : rowLanes ≤ k) (first : ℕ) (is : first ≡ firstTo words (outsideAt lanes (m .qubits))) where
-              reached : allInside lanes (m .qubits) Accepted ≡ tests
+              reached : insideTo words lanes (m .qubits) Accepted ≡ tests
               unfolding wordsTests
               reached = rw (ok, le-ltb maxWords words few, four, le-ltb h (rowLanes * m .qubits) h-long, le-ltb j (rowLanes * m .qubits) j-long, le-ltb k rowLanes mask-long)
 
               pub word-outside : first < words → Refused (WordOutsideRegister first) ≡ tests
-              unfolding allInside
+              unfolding insideTo
               word-outside l = (rw (sym is, lt-ltb first words l)) ∙ reached
 
               pub words-accepted : words ≤ first → Accepted ≡ tests
-              unfolding allInside
+              unfolding insideTo
               words-accepted l = (rw (sym is, le-ltb first words l)) ∙ reached
 
 -- a word that was read and tested
@@ -88,7 +88,7 @@ pub record Passed (m : Model) (t : Tables) (lanes : List ℕ) (h j k : ℕ) : Ty
   pub inside : AllInside lanes (m .qubits)
 
 pub words-passed : (m : Model) (t : Tables) (lanes : List ℕ) (h j k : ℕ) → wordsTests m t lanes h j k ≡ Accepted → Passed m t lanes h j k
-unfolding wordsTests allInside
+unfolding wordsTests insideTo
 words-passed m t lanes h j k e =
     let words : ℕ = length lanes / 4 in
     let first : ℕ = firstTo words (outsideAt lanes (m .qubits)) in

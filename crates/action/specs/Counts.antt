@@ -55,11 +55,9 @@ rowLanes = 64
 unfoldable pub outsideAt : List ℕ → ℕ → ℕ → Bool
 outsideAt lanes n k = reaches (getD (words lanes) k identity) n
 
--- 11 at the first position whose word has a bit at or above n
-unfoldable pub allInside : List ℕ → ℕ → Answer → Answer
-allInside lanes n after =
-    let first : ℕ = firstTo (length lanes / 4) (outsideAt lanes n) in
-    cond (ltb first (length lanes / 4)) (Tests.Refused (WordOutsideRegister first)) after
+-- 11 at the first of so many words that has a bit at or above n: its place in its own list
+unfoldable pub insideTo : ℕ → List ℕ → ℕ → Answer → Answer
+insideTo count lanes n after = cond (ltb (firstTo count (outsideAt lanes n)) count) (Tests.Refused (WordOutsideRegister (firstTo count (outsideAt lanes n)))) after
 
 -- the model, 8, 9, 11
 unfoldable pub wordsTests : Model → Tables → List ℕ → ℕ → ℕ → ℕ → Answer
@@ -70,7 +68,7 @@ wordsTests m t lanes hIndex jIndex mask =
     (lent (rowLanes * m .qubits) hIndex
     (lent (rowLanes * m .qubits) jIndex
     (lent rowLanes mask
-    (allInside lanes (m .qubits)
+    (insideTo (length lanes / 4) lanes (m .qubits)
     Tests.Accepted))))))
 
 -- ---- what the call answers, and the lent tables afterwards

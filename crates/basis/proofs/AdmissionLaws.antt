@@ -6,13 +6,13 @@
 use mathlib.Core.Path.{_≡_, sym, ap, subst, _∙_, refl}
 use mathlib.Core.Bool.{Bool, true, false, cond, _||_}
 use mathlib.Core.List.{List, [], _∷_, _++_, map}
-use Prim.Native.Nat.{ℕ, zero, suc, _+_, _-_, _/_, _≤_, _<_, min}
+use Prim.Native.Nat.{ℕ, suc, _+_, _-_, _/_, _≤_, _<_, min}
 use native.Mathlib.Omega.{arith}
 use borrow.Author.Tests.{ltb-false, eqb-true, eqb-false}
 use denote.Floats.{passes}
 use lib.Dec.{T, eqb, ltb}
 use lib.Ieee.{Float, nan, fits, binary64}
-use lib.ListN.{length, getD, set, take, drop, replicate, length-set, length-map, length-replicate, getD-replicate}
+use lib.ListN.{length, getD, take, drop, replicate, length-map, length-replicate, getD-replicate}
 use lib.Seq.{take-all}
 use Rattle.refusal.specs.declared.Refusal.{Refusal}
 use Rattle.refusal.specs.declared.Refusal.the-variants.{TableFull}
@@ -26,33 +26,23 @@ use Rattle.order.specs.Places.{isAmong}
 use Rattle.order.specs.Magnitudes.{byMagnitude, AllFinite, keyAt, rank}
 use Rattle.order.proofs.MagnitudeLaws.{by-magnitude}
 use Rattle.truncate.specs.Retained.{pick, flagged}
-use Rattle.truncate.specs.Chosen.{flagOf, walked, chosen}
+use Rattle.truncate.specs.Chosen.{flagOf, chosen}
 use Rattle.truncate.specs.Admitted.{appendedLanes, appendedZeros, picked, AdmitRoom}
 use Rattle.truncate.proofs.FlagLaws.{Kept}
-use Rattle.truncate.proofs.ChosenLaws.{chosen-more, chosen-earlier}
+use Rattle.truncate.proofs.ChosenLaws.{walked-length, chosen-more, chosen-earlier}
 use Rattle.truncate.proofs.AdmitLaws.{picked-length, admitted-words}
 use Rattle.basis.specs.Admissions.{admitFlags, Admitting, tested, admitTests, admit}
 use Rattle.basis.specs.declared.kept.Kept.the-variants.{Entries, Refused}
 use Rattle.basis.proofs.AdmitTests.{admit-passed}
-use Rattle.basis.proofs.AdmitLaws.{magnitude-once, admit-count}
+use Rattle.basis.proofs.AdmitLaws.{admit-count}
+use Rattle.basis.proofs.OrderOnce.{magnitude-once}
 
 -- ---- a flag for each listed word
-walked-long : (fixed order : List ℕ) (s : ℕ) (flags : List ℕ) → length (walked fixed order s flags) ≡ length flags
-unfolding walked
-walked-long fixed [] s flags = refl
-walked-long fixed (q ∷ order) zero flags = refl
-walked-long fixed (q ∷ order) (suc s) flags =
-    go (eqb (getD fixed q 0) 0) (walked fixed order s (set flags q 1)) (walked fixed order (suc s) flags) (walked-long fixed order s (set flags q 1) ∙ length-set flags q 1) (walked-long fixed order (suc s) flags)
-  where
-    go : (b : Bool) (x y : List ℕ) → length x ≡ length flags → length y ≡ length flags → length (cond b x y) ≡ length flags
-    go true x y e f = e
-    go false x y e f = f
-
 flags-long : (len : ℕ) (values : List Float) (limit : ℕ) → length (admitFlags len values limit) ≡ length values
 unfolding admitFlags
 flags-long len values limit =
     let fixed : List ℕ = replicate (length values) 0 in
-    walked-long fixed (byMagnitude values) (limit - len) (map flagOf fixed) ∙ length-map fixed flagOf ∙ length-replicate (length values) 0
+    walked-length fixed (byMagnitude values) (limit - len) (map flagOf fixed) ∙ length-map fixed flagOf ∙ length-replicate (length values) 0
 
 -- ---- a call that accepts
 refused-not : (q : Refusal) (r : ℕ) → Refused q ≡ Entries r → ⊥

@@ -1,52 +1,29 @@
 -- SPDX-FileCopyrightText: 2026 The PPVM Authors
 -- SPDX-License-Identifier: Apache-2.0
 
--- Admission step by step: the order lists each position once, the largest are chosen and appended, the work tables are cleared.
+-- Admission step by step: the largest are chosen and appended, the work tables are cleared.
 -- Assumes nothing.
-use mathlib.Core.Path.{_≡_, refl, sym, ap, ap₂, subst, _∙_}
-use mathlib.Core.Bool.{Bool, true, false, cond}
-use mathlib.Core.List.{List, [], _∷_, _++_}
+use mathlib.Core.Path.{_≡_, sym, ap, subst, _∙_}
+use mathlib.Core.Bool.{true, false}
+use mathlib.Core.List.{List, _++_}
 use Prim.Native.Nat.{ℕ, _+_, _-_, _*_, _/_, _≤_, _<_, min}
 use native.Mathlib.Omega.{arith}
-use borrow.Author.Tests.{lt-ltb, le-ltb, eqb-true, eqb-false, eq-eqb, ne-eqb}
-use lib.Dec.{eqb, ltb}
+use borrow.Author.Tests.{lt-ltb, le-ltb}
+use lib.Dec.{ltb}
 use lib.Ieee.{Float}
 use lib.ListN.{length, take, drop, replicate, length-append, length-drop}
 use lib.Seq.{take-all, length-take-le}
 use Rattle.refusal.specs.declared.Refusal.{Refusal}
 use Rattle.refusal.specs.declared.Refusal.the-variants.{TableFull}
 use Rattle.refusal.specs.declared.Answer.the-variants as Tests
-use Rattle.order.specs.Merge.{positions, count}
-use Rattle.order.specs.Magnitudes.{fallsBefore, byMagnitude}
-use Rattle.order.proofs.Members.{all-at, all-sort, positions-below}
-use Rattle.order.proofs.CountLaws.{ordered-once}
+use Rattle.order.specs.Magnitudes.{byMagnitude}
 use Rattle.truncate.specs.Retained.{flagged}
-use Rattle.truncate.specs.Chosen.{chosen, Below, occurrences, EachOnce}
+use Rattle.truncate.specs.Chosen.{chosen, Below}
 use Rattle.truncate.specs.Admitted.{appendedZeros, AdmitRoom, Admits}
 use Rattle.truncate.proofs.ChosenLaws.{chosen-unfixed}
 use Rattle.basis.specs.Admissions.{admitFlags, admitTests, admit}
 use Rattle.basis.specs.declared.kept.Kept.the-variants.{Entries, Refused}
-
--- ---- the order by magnitude lists each position once
-eqb-turned : (a b : ℕ) → eqb a b ≡ eqb b a
-eqb-turned a b = go (eqb b a) refl
-  where
-    go : (t : Bool) → eqb b a ≡ t → eqb a b ≡ t
-    go true e = eq-eqb a b (sym (eqb-true b a e))
-    go false e = ne-eqb a b (λ d. eqb-false b a e (sym d))
-
-occurs-count : (p : ℕ) (l : List ℕ) → occurrences p l ≡ count (eqb p) l
-unfolding occurrences count
-occurs-count p [] = refl
-occurs-count p (q ∷ l) = ap₂ _+_ (ap (λ (t : Bool). cond t 1 0) (eqb-turned q p)) (occurs-count p l)
-
-pub magnitude-once : (values : List Float) → EachOnce (length values) (byMagnitude values)
-magnitude-once values =
-    let n : ℕ = length values in
-    record {
-      all-below = record { below = λ i h. all-at (λ x. x < n) (byMagnitude values) i (all-sort (λ x. x < n) (fallsBefore values) (length (positions n)) (positions n) (positions-below n)) h };
-      once = λ p h. occurs-count p (byMagnitude values) ∙ ordered-once (fallsBefore values) n p ∙ ap (λ (t : Bool). cond t 1 0) (lt-ltb p n h);
-    }
+use Rattle.basis.proofs.OrderOnce.{magnitude-once}
 
 -- ---- choosing and appending
 pub choose-asks : (values : List Float) (order fixed kept : List ℕ) → order ≡ byMagnitude values → length fixed ≡ length values → length kept ≡ length values

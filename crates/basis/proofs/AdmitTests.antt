@@ -18,9 +18,9 @@ use Rattle.word.specs.Word.{maxQubits}
 use Rattle.number.specs.Floats.{isFinite}
 use Rattle.model.specs.Tested.{firstTo}
 use Rattle.model.proofs.Firsts.{first-before}
-use Rattle.action.specs.Counts.{maxWords, outsideAt}
+use Rattle.action.specs.Counts.{maxWords, outsideAt, insideTo}
 use Rattle.model.proofs.BuildLaws.{passed, equal-passed, lent-passed, counted-passed}
-use Rattle.basis.specs.Tests.{insideTo, notFinite, finiteTo}
+use Rattle.basis.specs.Tests.{notFinite, finiteTo}
 use Rattle.basis.specs.Admissions.{admitTests}
 
 -- ---- words and numbers, where the first that fails is known

@@ -15,21 +15,19 @@ use Rattle.refusal.specs.declared.Refusal.the-variants.{TooManyQubits, CountAbo
 use Rattle.refusal.specs.declared.Answer.{Answer}
 use Rattle.refusal.specs.declared.Answer.the-variants.{Accepted, Refused}
 use Rattle.word.specs.Word.{maxQubits}
-use Rattle.order.specs.Merge.{positions}
-use Rattle.order.specs.Magnitudes.{fallsBefore, byMagnitude}
-use Rattle.order.proofs.Members.{all-at, all-sort, positions-below}
+use Rattle.order.specs.Magnitudes.{byMagnitude}
 use Rattle.truncate.specs.Retained.{flagged}
 use Rattle.truncate.specs.Chosen.{chosen, Below}
 use Rattle.model.proofs.BuildLaws.{passed, both, counted-passed}
 use Rattle.action.specs.Counts.{maxWords}
 use Rattle.basis.specs.Prunes.{capFlags, unchanged, left, retained, lengthTests, entryTests, capTests, cap}
 use Rattle.basis.specs.declared.kept.Kept.the-variants.{Entries}
+use Rattle.basis.proofs.OrderOnce.{magnitude-once}
 use Rattle.basis.proofs.ChecksLaws.{Room, lengths-then, lengths-room}
 
 -- an order by magnitude lists positions only
 pub magnitude-below : (coeffs : List Float) (order : List ℕ) (n : ℕ) → order ≡ byMagnitude coeffs → n ≡ length coeffs → Below n order
-magnitude-below coeffs order n e l =
-    rw (e, l) (record { below = λ i h. all-at (λ x. x < length coeffs) (byMagnitude coeffs) i (all-sort (λ x. x < length coeffs) (fallsBefore coeffs) (length (positions (length coeffs))) (positions (length coeffs)) (positions-below (length coeffs))) h })
+magnitude-below coeffs order n e l = rw (e, l) (magnitude-once coeffs .all-below)
 
 pub slots-filled : (coeffs : List Float) (fixed order flags : List ℕ) (limit held slots : ℕ) → held ≡ flagged fixed → slots ≡ limit - held → order ≡ byMagnitude coeffs → flags ≡ chosen order fixed slots
     → flags ≡ chosen (byMagnitude coeffs) fixed (limit - flagged fixed)

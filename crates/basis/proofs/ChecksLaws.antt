@@ -18,8 +18,8 @@ use Rattle.refusal.specs.declared.Answer.the-variants.{Accepted, Refused}
 use Rattle.model.specs.Tested.{firstTo}
 use Rattle.model.specs.Built.{andThen}
 use Rattle.model.proofs.BuildLaws.{equal-passed, lent-passed}
-use Rattle.action.specs.Counts.{outsideAt}
-use Rattle.basis.specs.Tests.{insideTo, notFinite, finiteTo}
+use Rattle.action.specs.Counts.{outsideAt, insideTo}
+use Rattle.basis.specs.Tests.{notFinite, finiteTo}
 use Rattle.basis.specs.Prunes.{lengthTests}
 
 -- tests before others answer as they do alone, or as the others

@@ -2,6 +2,7 @@
 -- SPDX-License-Identifier: Apache-2.0
 
 -- Laws of this crate.
+pub mod OrderOnce
 pub mod AdmitTests
 pub mod AdmitLaws
 pub mod AdmissionLaws

@@ -20,8 +20,8 @@ use Rattle.truncate.specs.Chosen.{chosen}
 use Rattle.truncate.specs.Admitted.{appendedLanes, appendedZeros, picked}
 use Rattle.model.specs.Tested.{counted, lent}
 use Rattle.model.specs.Built.{equal}
-use Rattle.action.specs.Counts.{maxWords}
-use Rattle.basis.specs.Tests.{insideTo, finiteTo}
+use Rattle.action.specs.Counts.{maxWords, insideTo}
+use Rattle.basis.specs.Tests.{finiteTo}
 use Rattle.basis.specs.declared.kept.Kept.{Kept}
 use Rattle.basis.specs.declared.kept.Kept.the-variants.{Entries, Refused}
 

@@ -23,8 +23,8 @@ use Rattle.truncate.specs.Chosen.{chosen}
 use Rattle.truncate.specs.Pruned.{largeFlags}
 use Rattle.model.specs.Tested.{counted, lent}
 use Rattle.model.specs.Built.{equal}
-use Rattle.action.specs.Counts.{maxWords}
-use Rattle.basis.specs.Tests.{insideTo, finiteTo, finiteThreshold}
+use Rattle.action.specs.Counts.{maxWords, insideTo}
+use Rattle.basis.specs.Tests.{finiteTo, finiteThreshold}
 use Rattle.basis.specs.declared.kept.Kept.{Kept}
 use Rattle.basis.specs.declared.kept.Kept.the-variants.{Entries, Refused}
 

@@ -1,23 +1,18 @@
 -- SPDX-FileCopyrightText: 2026 The PPVM Authors
 -- SPDX-License-Identifier: Apache-2.0
 
--- Tests of a lent basis and of lists beside it: words below n (11), numbers that are finite (7).
+-- Tests of numbers in lent tables: that they are finite (7).
 use Prim.Native.Nat.{ℕ, _+_}
 use mathlib.Core.Bool.{Bool, not, cond}
 use mathlib.Core.List.{List}
 use lib.Dec.{ltb}
 use lib.Ieee.{Float, nan}
 use lib.ListN.{getD}
-use Rattle.refusal.specs.declared.Refusal.the-variants.{NumberOutOfRange, WordOutsideRegister}
+use Rattle.refusal.specs.declared.Refusal.the-variants.{NumberOutOfRange}
 use Rattle.refusal.specs.declared.Answer.{Answer}
 use Rattle.refusal.specs.declared.Answer.the-variants.{Refused}
 use Rattle.number.specs.Floats.{isFinite}
 use Rattle.model.specs.Tested.{firstTo}
-use Rattle.action.specs.Counts.{outsideAt}
-
--- 11 at the first of so many words that has a bit at or above n: its place in its own list
-unfoldable pub insideTo : ℕ → List ℕ → ℕ → Answer → Answer
-insideTo count lanes n after = cond (ltb (firstTo count (outsideAt lanes n)) count) (Refused (WordOutsideRegister (firstTo count (outsideAt lanes n)))) after
 
 unfoldable pub notFinite : List Float → ℕ → Bool
 notFinite l k = not (isFinite (getD l k nan))

@@ -155,7 +155,7 @@ walked-all fixed (q ∷ order) (suc s) flags p h o e l =
     go true t true u x y = walked-keeps fixed order s (set flags q 1) p (here (eqb-true q p t))
     go true t false u x y = absurd (eqb-false (getD fixed q 0) 0 u (ap (λ (r : ℕ). getD fixed r 0) (eqb-true q p t) ∙ e))
 
-walked-length : (fixed order : List ℕ) (s : ℕ) (flags : List ℕ) → length (walked fixed order s flags) ≡ length flags
+pub walked-length : (fixed order : List ℕ) (s : ℕ) (flags : List ℕ) → length (walked fixed order s flags) ≡ length flags
 unfolding walked
 walked-length fixed [] s flags = refl
 walked-length fixed (q ∷ order) zero flags = refl
