@@ -2,7 +2,8 @@
  * SPDX-License-Identifier: Apache-2.0
  *
  * The C interface of Pebblelinen: Pauli words, their texts, codes, products and order; models, built
- * in lent tables and tested there.
+ * in lent tables and tested there; their action on words; bases of words, pruned, capped and
+ * enlarged in lent tables.
  *
  * Every function takes any input. Where an input is not accepted, the function says so by a
  * pebblelinen_status and changes nothing that it was lent, but for work tables, where the function
@@ -379,6 +380,240 @@ pebblelinen_counted pebblelinen_count_action_terms(
     size_t t_numbers_len, const uint64_t *words, size_t words_len, uint64_t *h_index,
     size_t h_index_len, uint64_t *j_index, size_t j_index_len, uint64_t *mask, size_t mask_len,
     uint64_t *work_words, size_t work_words_len, double *work_sums, size_t work_sums_len);
+
+/* ---- Bases ----
+ *
+ * A basis is an ordered list of Pauli words with a coefficient each. It stands in two slices that the
+ * caller lends, of which the first `len` places are in use:
+ *
+ *   words    4 lanes a word: x[0], x[1], z[0], z[1]
+ *   coeffs   1 number a word
+ *
+ * The word in the place with number i, counted from 0, has position i. A position is not a qubit. A
+ * word may stand at several positions; each is an entry of its own. Sizes are compared by magnitude:
+ * 0.5 and -0.5 are as large as each other.
+ *
+ * Protected words are a list of whole words, 4 lanes each, in any order; an entry is protected where
+ * its word is in the list. Words of the list may come again or stand outside the basis; they take no
+ * place in it.
+ *
+ * The work tables are slices of 64-bit numbers. pebblelinen_basis_sizes tells how long they have to
+ * be; longer ones will do. What they held before makes no difference, and where the call was accepted
+ * they are all zero, to their ends.
+ */
+
+/* How many entries a basis has after a call: its new length. Where the status is a refusal, the count
+ * is 0, and the basis still has the length that it had. */
+typedef struct {
+    pebblelinen_status status;
+    size_t entries;
+} pebblelinen_kept;
+
+/* The lengths of work tables, in numbers. */
+typedef struct {
+    size_t order;
+    size_t work;
+    size_t fixed;
+    size_t kept;
+} pebblelinen_basis_work;
+
+/* The lengths of work tables that are enough for pebblelinen_prune_basis and pebblelinen_cap_basis on a
+ * basis of so many entries with so many protected words, and for pebblelinen_add_leakage_capped with
+ * so many listed words: order and work as many as the largest of the three counts, fixed as many as
+ * there are entries, kept as many as the larger of entries and listed words. Give 0 for what there is
+ * not. */
+pebblelinen_basis_work pebblelinen_basis_sizes(size_t entries, size_t protected_words,
+                                               size_t listed);
+
+/* Prune: drops the entries whose coefficient is below drop_tol in magnitude, but for protected ones.
+ * The entries that stay keep their order, words and coefficients. Nothing is dropped where drop_tol
+ * is 0 or below.
+ *
+ *   n                    the qubits of the register
+ *   words, coeffs, len   the basis
+ *   protected_words      the protected words; its length is in lanes
+ *   order, work          work tables of a place for each entry and for each protected word, whichever
+ *                        are more
+ *   fixed, kept          work tables of a place for each entry
+ *
+ * Where the call was accepted and drop_tol is above 0, everything in words and coeffs past the new
+ * length is zero, to their ends; where drop_tol is not, they are as they were. Refusals, in this
+ * order:
+ *
+ *    1  (n, 128)
+ *    8  (count): more than 65,536 entries, then more than 65,536 protected words
+ *    9  (len, places lent) for words, then for coeffs; (lanes of whole words, lanes) where the last
+ *       protected word is cut off; then (places needed, places lent) for order, work, fixed, kept
+ *   11  (position): the first word of the basis with a letter at or above the register; then, with its
+ *       place in the list, the first such protected word
+ *    7  (position): the first coefficient that is infinite or NaN; then (len) for such a drop_tol
+ *
+ * A refusal changes nothing that was lent. */
+pebblelinen_kept pebblelinen_prune_basis(
+    size_t n, uint64_t *words, size_t words_len, double *coeffs, size_t coeffs_len, size_t len,
+    const uint64_t *protected_words, size_t protected_words_len, double drop_tol, uint64_t *order,
+    size_t order_len, uint64_t *work, size_t work_len, uint64_t *fixed, size_t fixed_len,
+    uint64_t *kept, size_t kept_len);
+
+/* Cap: keeps the protected entries and the largest others, as many as the limit leaves slots for
+ * beside the protected ones; of equally large ones the earlier positions. So exactly
+ * max(limit, protected entries) stay. They keep their order, words and coefficients. Nothing is
+ * dropped where len is at most the limit.
+ *
+ * The tables are those of pebblelinen_prune_basis. Where the call was accepted and len is above the
+ * limit, everything in words and coeffs past the new length is zero, to their ends; where len is not,
+ * they are as they were. Refusals, in this order:
+ *
+ *    1  (n, 128)
+ *    8  (count): more than 65,536 entries, then more than 65,536 protected words, then (limit) for a
+ *       limit above 65,536
+ *    9  as for pebblelinen_prune_basis
+ *   11  as for pebblelinen_prune_basis
+ *    7  (position): the first coefficient that is infinite or NaN
+ *
+ * A refusal changes nothing that was lent. */
+pebblelinen_kept pebblelinen_cap_basis(
+    size_t n, uint64_t *words, size_t words_len, double *coeffs, size_t coeffs_len, size_t len,
+    const uint64_t *protected_words, size_t protected_words_len, size_t limit, uint64_t *order,
+    size_t order_len, uint64_t *work, size_t work_len, uint64_t *fixed, size_t fixed_len,
+    uint64_t *kept, size_t kept_len);
+
+/* Admission: appends listed words to a basis, each with coefficient 0, in the order in which they are
+ * listed. There is room for max(limit - len, 0) of them: the words whose listed value is largest in
+ * magnitude find it, of equally large ones the earlier listed. A word may be listed twice, or stand in
+ * the basis already; it is appended all the same.
+ *
+ *   n                    the qubits of the register
+ *   words, coeffs, len   the basis, in tables with places for len and the words to be appended
+ *   list, values         the listed words, 4 lanes each, and the value of each
+ *   limit                what room counts against
+ *   order, work, kept    work tables of a place for each listed word
+ *
+ * Places of words and coeffs past the new length stay as they were. Refusals, in this order:
+ *
+ *    1  (n, 128)
+ *    8  (count): more than 65,536 entries, then more than 65,536 listed words, then (limit) for a
+ *       limit above 65,536
+ *    9  (len, places lent) for words, then for coeffs; (lanes of whole words, lanes) where the last
+ *       listed word is cut off; (listed words, values); then (listed words, places lent) for order,
+ *       work, kept
+ *   11  (position): the first word of the basis with a letter at or above the register; then, with its
+ *       place in the list, the first such listed word
+ *    7  (position): the first coefficient that is infinite or NaN; then (len + place in the list) for
+ *       the first such value
+ *   13  (3, places lent): the basis has fewer places, those in use among them, than len and the words
+ *       to be appended; its places are the smaller number of those of words and of coeffs
+ *
+ * A refusal changes nothing that was lent, but for 13, after which the work tables are all zero. */
+pebblelinen_kept pebblelinen_add_leakage_capped(
+    size_t n, uint64_t *words, size_t words_len, double *coeffs, size_t coeffs_len, size_t len,
+    const uint64_t *list, size_t list_len, const double *values, size_t values_len, size_t limit,
+    uint64_t *order, size_t order_len, uint64_t *work, size_t work_len, uint64_t *kept,
+    size_t kept_len);
+
+/* ---- Leakage ----
+ *
+ * What a model moves out of a basis, onto words neither in the basis nor protected: the candidates. */
+
+/* What a run may take in. max_basis is a limit on words. admit_basis counts where admit_given is not 0,
+ * and tau_add where tau_given is not 0; an absent admit_basis, or one below max_basis, is raised to
+ * max_basis, and an absent tau_add is 0. */
+typedef struct {
+    size_t max_basis;
+    uint64_t admit_given;
+    size_t admit_basis;
+    uint64_t tau_given;
+    double tau_add;
+} pebblelinen_limits;
+
+/* The lengths of leakage's work tables, in lanes or numbers. */
+typedef struct {
+    size_t h_index;
+    size_t j_index;
+    size_t mask;
+    size_t work_words;
+    size_t work_sums;
+    size_t order;
+    size_t heads;
+    size_t nexts;
+    size_t fixed_heads;
+    size_t fixed_nexts;
+    size_t log_words;
+    size_t log_values;
+    size_t cand_words;
+    size_t cand_sums;
+    size_t next_words;
+    size_t next_sums;
+    size_t place_order;
+    size_t place_work;
+    size_t place_kept;
+} pebblelinen_leakage_lengths;
+
+/* Lengths that are enough for a register of so many qubits, a basis of so many entries, so many
+ * protected words, actions that touch at most so many words (`touched` of
+ * pebblelinen_count_action_terms over the basis), and so many candidates at a time. Longer tables will
+ * do; more slots (heads, fixed_heads) or a longer log (log_words, log_values, place_order, place_work)
+ * may be faster. */
+pebblelinen_leakage_lengths pebblelinen_leakage_sizes(
+    size_t qubits, size_t entries, size_t protected_words, size_t touched, size_t candidates);
+
+/* Takes the positions of a basis by falling magnitude of their coefficients, ties to the lower
+ * position, 4,096 to a pass. Each adds coefficient x term, for each term of its word's action, to the
+ * sum at the term's word where that word is a candidate. A candidate whose sum is 0 is one. After each
+ * pass only the largest candidates stay, as many as there is room: the limit less len, at least 0; ties
+ * to the lower word. A word that was dropped and is reached again starts at 0 again. After the last
+ * pass those larger than tau_add in magnitude are listed in word order, with their sums.
+ *
+ *   words, coeffs, len   the basis: its first len places
+ *   protected_words      whole words, 4 lanes each
+ *   limits               see above
+ *   h_index, j_index     64 lanes for each qubit; mask: 64 lanes
+ *   order, nexts         a place for each entry; heads: at least as many, twice as many is good
+ *   fixed_nexts          a place for each protected word; fixed_heads: at least as many
+ *   table 1              words touched by one action: work_words (4 lanes a place), work_sums (2
+ *                        numbers), log_words (4 lanes), log_values, place_order, place_work
+ *   table 2              candidates held at a time, before the room rule: cand_words and next_words (4
+ *                        lanes a place), cand_sums, next_sums, place_order, place_work, place_kept
+ *   out_words            the listed words, 4 lanes each; out_values: their sums
+ *
+ * The places of table 1 and of table 2 are those of the shortest of their slices. The count is that of
+ * the listed words; places of out_words and out_values past it stay as they were. Refusals, in this
+ * order:
+ *
+ *       those of pebblelinen_test_model for the model
+ *    8  (count): more than 65,536 entries, then protected words; then (limit) for max_basis and for an
+ *       admit_basis that is given
+ *    9  (len, places lent) for words, then for coeffs; (lanes of whole words, lanes) where the last
+ *       protected word is cut off; then (needed, lent) for h_index, j_index, mask, order, heads, nexts,
+ *       fixed_heads, fixed_nexts
+ *   11  (position): the first basis word with a letter at or above the register; then, with its place
+ *       in the list, the first such protected word
+ *    7  (position): the first coefficient that is infinite or NaN; then (len) for a tau_add that is
+ *   13  (1, places) at the first position, in the order they are taken, whose action touches more words
+ *       than table 1 has places; (2, places) at the first after which there are more candidates than
+ *       table 2 has places
+ *   14  (place in word order among the candidates): at a pass's end, the first sum that is not finite
+ *   13  (3, places) after the last pass: more words to list than out_words and out_values have places
+ *
+ * A refusal changes nothing that was lent, but for 13 and 14, after which the work tables are all zero.
+ * Where the call was accepted the work tables are all zero, to their ends; what they held before makes
+ * no difference. */
+pebblelinen_listed pebblelinen_leakage_with_prune(
+    pebblelinen_model model, const uint64_t *h_words, size_t h_words_len, const double *h_coeffs,
+    size_t h_coeffs_len, const uint64_t *jumps, size_t jumps_len, const double *rates, size_t
+    rates_len, const uint64_t *t_words, size_t t_words_len, const double *t_numbers, size_t
+    t_numbers_len, const uint64_t *words, size_t words_len, const double *coeffs, size_t coeffs_len,
+    size_t len, const uint64_t *protected_words, size_t protected_words_len, pebblelinen_limits
+    limits, uint64_t *h_index, size_t h_index_len, uint64_t *j_index, size_t j_index_len, uint64_t
+    *mask, size_t mask_len, uint64_t *work_words, size_t work_words_len, double *work_sums, size_t
+    work_sums_len, uint64_t *order, size_t order_len, uint64_t *heads, size_t heads_len, uint64_t
+    *nexts, size_t nexts_len, uint64_t *fixed_heads, size_t fixed_heads_len, uint64_t *fixed_nexts,
+    size_t fixed_nexts_len, uint64_t *log_words, size_t log_words_len, double *log_values, size_t
+    log_values_len, uint64_t *cand_words, size_t cand_words_len, double *cand_sums, size_t
+    cand_sums_len, uint64_t *next_words, size_t next_words_len, double *next_sums, size_t
+    next_sums_len, uint64_t *place_order, size_t place_order_len, uint64_t *place_work, size_t
+    place_work_len, uint64_t *place_kept, size_t place_kept_len, uint64_t *out_words, size_t
+    out_words_len, double *out_values, size_t out_values_len);
 
 #ifdef __cplusplus
 }

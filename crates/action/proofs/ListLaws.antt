@@ -26,11 +26,11 @@ use Rattle.model.proofs.WorkLaws.{rows-at}
 use Rattle.action.specs.Acts.{listed, Lists, ListRoom}
 
 -- what is left to list from place i on
-abbrev left : ℕ → List ℕ → List Float → ℕ → List Term
+abbrev pub left : ℕ → List ℕ → List Float → ℕ → List Term
 left len lanes sums i = listed (drop i (table len lanes sums))
 
 module _ (len : ℕ) (lanes : List ℕ) (sums : List Float) (hl : 4 * len ≤ length lanes) (hs : 2 * len ≤ length sums) where
-  left-none : (i : ℕ) → len ≤ i → left len lanes sums i ≡ []
+  pub left-none : (i : ℕ) → len ≤ i → left len lanes sums i ≡ []
   unfolding withoutOver
   left-none i h =
       let n = table-long len lanes sums hl hs in
@@ -52,10 +52,10 @@ module _ (len : ℕ) (lanes : List ℕ) (sums : List Float) (hl : 4 * len ≤ le
     unfolding withoutOver
     by-test b f = ap listed next ∙ ap (λ (c : Bool). cond c (left len lanes sums (i + 1)) (t ∷ left len lanes sums (i + 1))) f
 
-    left-passed : floats .isZero (t .num .re) ≡ true → left len lanes sums i ≡ left len lanes sums (i + 1)
+    pub left-passed : floats .isZero (t .num .re) ≡ true → left len lanes sums i ≡ left len lanes sums (i + 1)
     left-passed f = by-test true f
 
-    left-listed : floats .isZero (t .num .re) ≡ false → left len lanes sums i ≡ t ∷ left len lanes sums (i + 1)
+    pub left-listed : floats .isZero (t .num .re) ≡ false → left len lanes sums i ≡ t ∷ left len lanes sums (i + 1)
     left-listed f = by-test false f
 
 -- ---- counting them

@@ -145,7 +145,7 @@ module _ (w : Word) where
       go false s false t m i = or-more (same v w) (isAmong w (pick ks l)) (isAmong w (pick ks′ l)) i m
       go false s true t m i = absurd (h 0 (eqb-false k 0 s) (eqb-true k′ 0 t))
 
-flags-more : (len : ℕ) (values : List Float) (limit limit′ : ℕ) → limit ≤ limit′ → (p : ℕ) → Kept (admitFlags len values limit) p → Kept (admitFlags len values limit′) p
+pub flags-more : (len : ℕ) (values : List Float) (limit limit′ : ℕ) → limit ≤ limit′ → (p : ℕ) → Kept (admitFlags len values limit) p → Kept (admitFlags len values limit′) p
 unfolding admitFlags
 flags-more len values limit limit′ h = chosen-more (byMagnitude values) (replicate (length values) 0) (limit - len) (limit′ - len) (omega arith)
 

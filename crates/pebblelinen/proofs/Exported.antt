@@ -1,15 +1,21 @@
 -- SPDX-FileCopyrightText: 2026 The PPVM Authors
 -- SPDX-License-Identifier: Apache-2.0
 
--- What builders and actions answer and leave in the lent tables, part by part. Assumes nothing.
+-- What builders, actions, leakage and calls on a basis answer and leave in the lent tables, part by part. Assumes nothing.
 use mathlib.Core.Path.{_≡_, ap, _∙_}
 use Rattle.model.specs.Built.{Building}
 use Rattle.action.specs.Acts.{Acting}
 use Rattle.action.specs.Counts.{Counting}
+use Rattle.basis.specs.Prunes.{Keeping}
+use Rattle.basis.specs.Admissions.{Admitting}
+use Rattle.leakage.specs.Leakages.{Leaking}
 use Rattle.pebblelinen.specs.Models.{builtOf, Leaves}
 use Rattle.pebblelinen.specs.Actions.{listedOf, LeavesList, countedOf, LeavesCount}
+use Rattle.pebblelinen.specs.Bases.{keptOf, LeavesBasis, LeavesAdmitted}
+use Rattle.pebblelinen.specs.Leakages.{LeavesLeakage}
 use Rattle.pebblelinen.specs.declared.actions.ListedWords.{ListedWords}
 use Rattle.pebblelinen.specs.declared.actions.CountedPlaces.{CountedPlaces}
+use Rattle.pebblelinen.specs.declared.bases.KeptEntries.{KeptEntries}
 use Rattle.pebblelinen.specs.declared.models.BuiltModel.{BuiltModel}
 
 pub leaves : (b made : Building) (r : BuiltModel) → r ≡ builtOf (made .answer) → made ≡ b → Leaves b r (made .tables) (made .workWords) (made .workNumbers)
@@ -38,4 +44,35 @@ leaves-count a made r l e = record {
   mask-is = ap (λ (x : Counting). x .mask) e;
   work-words = ap (λ (x : Counting). x .workWords) e;
   work-sums = ap (λ (x : Counting). x .workSums) e;
+}
+
+pub leaves-basis : (k made : Keeping) (r : KeptEntries) → r ≡ keptOf (made .answer) → made ≡ k
+    → LeavesBasis k r (made .lanes) (made .coeffs) (made .order) (made .work) (made .fixed) (made .kept)
+leaves-basis k made r l e = record {
+  answers = l ∙ ap (λ (x : Keeping). keptOf (x .answer)) e;
+  lanes-are = ap (λ (x : Keeping). x .lanes) e;
+  coeffs-are = ap (λ (x : Keeping). x .coeffs) e;
+  order-is = ap (λ (x : Keeping). x .order) e;
+  work-is = ap (λ (x : Keeping). x .work) e;
+  fixed-is = ap (λ (x : Keeping). x .fixed) e;
+  kept-is = ap (λ (x : Keeping). x .kept) e;
+}
+
+pub leaves-admitted : (a made : Admitting) (r : KeptEntries) → r ≡ keptOf (made .answer) → made ≡ a
+    → LeavesAdmitted a r (made .lanes) (made .coeffs) (made .order) (made .work) (made .kept)
+leaves-admitted a made r l e = record {
+  answers = l ∙ ap (λ (x : Admitting). keptOf (x .answer)) e;
+  lanes-are = ap (λ (x : Admitting). x .lanes) e;
+  coeffs-are = ap (λ (x : Admitting). x .coeffs) e;
+  order-is = ap (λ (x : Admitting). x .order) e;
+  work-is = ap (λ (x : Admitting). x .work) e;
+  kept-is = ap (λ (x : Admitting). x .kept) e;
+}
+
+pub leaves-leakage : (k made : Leaking) (r : ListedWords) → r ≡ listedOf (made .out .answer) → made ≡ k → LeavesLeakage k r (made .out .outWords) (made .out .outValues) (made .work)
+leaves-leakage k made r l e = record {
+  answers = l ∙ ap (λ (x : Leaking). listedOf (x .out .answer)) e;
+  out-words = ap (λ (x : Leaking). x .out .outWords) e;
+  out-values = ap (λ (x : Leaking). x .out .outValues) e;
+  work-is = ap (λ (x : Leaking). x .work) e;
 }

@@ -5,4 +5,6 @@
 pub mod Words
 pub mod Models
 pub mod Actions
+pub mod Bases
+pub mod Leakages
 pub mod Examples

@@ -20,7 +20,7 @@ pub struct ListedWords {
     pub count: usize,
 }
 
-fn listed_of(answer: Acted) -> ListedWords
+pub fn listed_of(answer: Acted) -> ListedWords
     ensures { λ r. ⌜ r ≡ listedOf answer ⌝ }
 {
     match answer {

@@ -4,5 +4,7 @@
 // The library for programs in other languages, as include/pebblelinen.h documents it. Each function
 // takes any input, calls the crate that does the work and puts the answer into plain numbers.
 pub mod actions;
+pub mod bases;
+pub mod leakages;
 pub mod models;
 pub mod words;

@@ -51,7 +51,7 @@ enum Acted {
 }
 
 // The first lanes of a lent slice against the recorded ones.
-fn same_lanes(recorded: &[u64], words: &[u64]) -> bool {
+pub fn same_lanes(recorded: &[u64], words: &[u64]) -> bool {
     if words.len() < recorded.len() {
         return false;
     }
@@ -66,7 +66,7 @@ fn same_lanes(recorded: &[u64], words: &[u64]) -> bool {
 }
 
 // The first values of a lent slice against the recorded ones.
-fn same_values(recorded: &[u64], values: &[f64]) -> bool {
+pub fn same_values(recorded: &[u64], values: &[f64]) -> bool {
     if values.len() < recorded.len() {
         return false;
     }

@@ -2,13 +2,14 @@
 // SPDX-License-Identifier: Apache-2.0
 
 // Compares the port with answers of the published Rust, recorded on standard input, bit for bit; kinds
-// 6, 8 and 11 have answers of document 01 that the Rust does not give.
+// 6, 8, 11 and 15 have answers of document 01 that the Rust does not give.
 //
 // A case is a line of lower-case hexadecimal numbers with a space between two; the first is its
 // kind, which says what the others are. `#` starts a comment to the end of the line. The program
 // counts the cases and the disagreements of each kind and the lines that are no case, so that an
 // empty or a damaged recording shows. Each kind stands in the module of what it is about.
 mod actions;
+mod bases;
 mod float;
 mod models;
 mod read;
@@ -35,6 +36,8 @@ fn replay_case(kind: u64, line: &[u8], c: Cursor) -> Verdict {
         3 => words::codes_written(line, c),
         4 => words::product(line, c),
         5..=11 => models::build(line, c, kind),
+        12..=14 => bases::call(line, c, kind),
+        15 => bases::named_call(line, c),
         _ => Verdict::Malformed,
     }
 }

@@ -27,7 +27,7 @@ pub fn same_status(a: Status, b: Status) -> bool {
 }
 
 // Kinds are counted from 1; place 0 stays empty.
-const KINDS: usize = 12;
+const KINDS: usize = 16;
 
 // The lines that are named before the counts; more would hide them.
 const NAMED: u64 = 10;
@@ -86,14 +86,14 @@ impl Tally {
     }
 
     fn with_case(mut self, k: usize) -> Tally
-        requires { ⌜ k < 12 ⌝ }
+        requires { ⌜ k < 16 ⌝ }
     {
         self.cases[k] = one_more(self.cases[k]);
         self
     }
 
     fn with_disagreement(mut self, k: usize, line_number: u64) -> Tally
-        requires { ⌜ k < 12 ⌝ }
+        requires { ⌜ k < 16 ⌝ }
     {
         self.disagreements[k] = one_more(self.disagreements[k]);
         self.naming(line_number, b" disagrees\n")
@@ -131,6 +131,14 @@ impl Tally {
             self.disagreements[10],
         );
         print_kind(b"actions refused", self.cases[11], self.disagreements[11]);
+        print_kind(b"prunes", self.cases[12], self.disagreements[12]);
+        print_kind(b"caps", self.cases[13], self.disagreements[13]);
+        print_kind(b"admissions", self.cases[14], self.disagreements[14]);
+        print_kind(
+            b"bases without the Rust",
+            self.cases[15],
+            self.disagreements[15],
+        );
         text(b"malformed lines: ");
         number(self.malformed);
         text(b"\n");

@@ -6,6 +6,7 @@
 //! The sides take turns, so that a busy machine slows them alike, and the best round counts.
 
 mod actions;
+mod bases;
 mod matrices;
 mod models;
 mod words;
@@ -75,14 +76,24 @@ impl Side {
     }
 }
 
-/// Times everything. Fails where the sides do not answer alike.
-pub fn run(seed: u64) -> ExitCode {
-    let alike = [
-        words::bench(seed),
-        models::bench(seed),
-        matrices::bench(seed),
-        actions::bench(seed),
-    ];
+/// The parts of the port, each with what is timed of it.
+const PARTS: [(&str, fn(u64) -> bool); 5] = [
+    ("words", words::bench),
+    ("models", models::bench),
+    ("matrices", matrices::bench),
+    ("actions", actions::bench),
+    ("bases", bases::bench),
+];
+
+/// Times everything, or one part. Fails where the sides do not answer alike.
+pub fn run(seed: u64, only: Option<&str>) -> ExitCode {
+    let asked = |part: &&(&str, _)| only.is_none_or(|only| only == part.0);
+    let parts: Vec<_> = PARTS.iter().filter(asked).collect();
+    if parts.is_empty() {
+        eprintln!("the parts are words, models, matrices, actions, bases");
+        return ExitCode::from(2);
+    }
+    let alike: Vec<bool> = parts.iter().map(|(_, bench)| bench(seed)).collect();
     if alike.iter().all(|&alike| alike) {
         ExitCode::SUCCESS
     } else {

@@ -7,6 +7,8 @@
 //! document lists a difference.
 
 mod actions;
+mod bases;
+mod leakages;
 mod matrices;
 mod models;
 mod standing;
@@ -120,11 +122,13 @@ impl Tally {
 }
 
 /// The parts of the port, each with its comparison.
-const PARTS: [(&str, fn(u64, usize) -> Vec<Tally>); 4] = [
+const PARTS: [(&str, fn(u64, usize) -> Vec<Tally>); 6] = [
     ("words", words::compare),
     ("models", models::compare),
     ("matrices", matrices::compare),
     ("actions", actions::compare),
+    ("bases", bases::compare),
+    ("leakages", leakages::compare),
 ];
 
 /// Compares all operations, or those of one part, and prints what was found. Fails on a
@@ -133,7 +137,7 @@ pub fn run(seed: u64, cases: usize, only: Option<&str>) -> ExitCode {
     let asked = |part: &&(&str, _)| only.is_none_or(|only| only == part.0);
     let parts: Vec<_> = PARTS.iter().filter(asked).collect();
     if parts.is_empty() {
-        eprintln!("the parts are words, models, matrices, actions");
+        eprintln!("the parts are words, models, matrices, actions, bases, leakages");
         return ExitCode::from(2);
     }
     let compare = |(_, compare): &&(&str, fn(u64, usize) -> Vec<Tally>)| compare(seed, cases);

@@ -7,6 +7,8 @@
 //! first and last qubit of a lane, inputs with nothing or one thing wrong.
 
 pub mod actions;
+pub mod bases;
+pub mod leakages;
 pub mod matrices;
 pub mod models;
 

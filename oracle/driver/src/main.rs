@@ -6,7 +6,7 @@
 //!     driver compare [--seed S] [--cases N] [--only PART]   both answer N random cases of each
 //!                                                           operation
 //!     driver record  [--seed S] [--cases N]                 prints answers of the Rust, for replay
-//!     driver bench   [--seed S]                             times both
+//!     driver bench   [--seed S] [--only PART]               times both
 //!
 //! Each part of the port has a module in `compare`, one in `record` and one in `bench`.
 
@@ -52,7 +52,7 @@ fn main() -> ExitCode {
     match (command.as_str(), options(words)) {
         ("compare", Some(o)) => compare::run(o.seed, o.cases.unwrap_or(100_000), o.only.as_deref()),
         ("record", Some(o)) => record::run(o.seed, o.cases.unwrap_or(400)),
-        ("bench", Some(o)) => bench::run(o.seed),
+        ("bench", Some(o)) => bench::run(o.seed, o.only.as_deref()),
         _ => {
             eprintln!("{USAGE}");
             ExitCode::from(2)

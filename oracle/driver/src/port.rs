@@ -7,6 +7,8 @@
 //! one against the other, so change both together. All sides of the driver answer in these structs.
 
 pub mod actions;
+pub mod bases;
+pub mod leakages;
 pub mod matrices;
 pub mod models;
 
@@ -28,6 +30,14 @@ pub struct Word {
 }
 
 impl Word {
+    /// The word of four lanes in the order of tables.
+    pub fn of(lanes: &[u64]) -> Self {
+        Self {
+            x: [lanes[0], lanes[1]],
+            z: [lanes[2], lanes[3]],
+        }
+    }
+
     /// The lanes in the order of tables.
     pub fn lanes(self) -> [u64; 4] {
         [self.x[0], self.x[1], self.z[0], self.z[1]]

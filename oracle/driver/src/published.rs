@@ -4,6 +4,8 @@
 //! The published Rust, asked and answering in the port's structs.
 
 pub mod actions;
+pub mod bases;
+pub mod leakages;
 pub mod matrices;
 pub mod models;
 

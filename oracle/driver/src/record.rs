@@ -8,6 +8,7 @@
 //! otherwise.
 
 mod actions;
+mod bases;
 mod matrices;
 mod models;
 mod words;
@@ -68,5 +69,6 @@ pub fn run(seed: u64, cases: usize) -> ExitCode {
     models::record(seed, cases / 4);
     matrices::record(seed, cases * 3 / 40);
     actions::record(seed, cases / 8);
+    bases::record(seed, cases / 16);
     ExitCode::SUCCESS
 }

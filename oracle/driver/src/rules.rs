@@ -8,6 +8,8 @@
 //! lanes.
 
 pub mod actions;
+pub mod bases;
+pub mod leakages;
 pub mod matrices;
 pub mod models;
 

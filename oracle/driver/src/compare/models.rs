@@ -38,7 +38,7 @@ pub fn compare(seed: u64, cases: usize) -> Vec<Tally> {
 }
 
 /// The operations: the first where document 01 accepts, then by the number of its refusal.
-const OPERATIONS: [&str; 14] = [
+const OPERATIONS: [&str; 15] = [
     "",
     "  refusal 1",
     "  refusal 2",
@@ -53,6 +53,7 @@ const OPERATIONS: [&str; 14] = [
     "  refusal 11",
     "  refusal 12",
     "  refusal 13",
+    "  refusal 14",
 ];
 
 struct Tallies {

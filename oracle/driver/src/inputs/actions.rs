@@ -34,14 +34,14 @@ fn whole(rng: &mut Rng) -> f64 {
 }
 
 /// A number of any magnitude from 2^-200 to 2^200.
-fn wide(rng: &mut Rng) -> f64 {
+pub(super) fn wide(rng: &mut Rng) -> f64 {
     let digits = 1.0 + (rng.next() >> 12) as f64 * 2f64.powi(-52);
     let size = digits * 2f64.powi(rng.below(400) as i32 - 200);
     if rng.one_in(2) { size } else { -size }
 }
 
 /// A number from -1 to 1.
-fn plain(rng: &mut Rng) -> f64 {
+pub(super) fn plain(rng: &mut Rng) -> f64 {
     (rng.next() >> 11) as f64 * 2f64.powi(-52) - 1.0
 }
 
@@ -59,7 +59,7 @@ const AT_TOLERANCE: [Complex; 8] = [
 ];
 
 /// Letters on a few neighbouring qubits, often about the end of a lane.
-fn local_letters(rng: &mut Rng, n_qubits: usize) -> Vec<u8> {
+pub(super) fn local_letters(rng: &mut Rng, n_qubits: usize) -> Vec<u8> {
     let mut letters = vec![b'I'; n_qubits];
     if n_qubits == 0 {
         return letters;
@@ -387,12 +387,12 @@ pub fn room(rng: &mut Rng, sums: usize, list: usize) -> Room {
 }
 
 /// Lanes and numbers that a table may hold already.
-fn lanes(rng: &mut Rng, length: usize) -> Vec<u64> {
+pub(super) fn lanes(rng: &mut Rng, length: usize) -> Vec<u64> {
     let seed = rng.next();
     (0..length).map(|i| seed ^ i as u64).collect()
 }
 
-fn numbers(length: usize) -> Vec<f64> {
+pub(super) fn numbers(length: usize) -> Vec<f64> {
     let filler = [f64::NAN, -0.0, 1.5, f64::INFINITY];
     (0..length).map(|i| filler[i % 4]).collect()
 }

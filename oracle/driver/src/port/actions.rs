@@ -37,10 +37,7 @@ impl Room {
 
     /// The first words of the list with their values.
     pub fn list(&self, count: usize) -> Vec<(Word, f64)> {
-        let words = self.out_words.chunks_exact(4).map(|lanes| Word {
-            x: [lanes[0], lanes[1]],
-            z: [lanes[2], lanes[3]],
-        });
+        let words = self.out_words.chunks_exact(4).map(Word::of);
         words.zip(self.out_values.clone()).take(count).collect()
     }
 }

@@ -14,8 +14,8 @@ use crate::port::{Status, Word};
 use std::ops::Range;
 
 /// The tables of words touched and of entries listed, as 13 names them.
-const SUMS_TABLE: usize = 1;
-const LIST_TABLE: usize = 3;
+pub(super) const SUMS_TABLE: usize = 1;
+pub(super) const LIST_TABLE: usize = 3;
 
 /// The most words of one list, and the lanes of an index for each qubit.
 pub const MAX_WORDS: usize = 65_536;
@@ -198,18 +198,21 @@ fn sums(model: Model, lent: &Lent, p: Word) -> Answer<Vec<Term>> {
     if !fits_register(p, model.qubits) {
         return refuse(11, 0, 0);
     }
-    Ok(tested_sums(model, lent, p))
+    Ok(tested_sums(model, lent, &jumps(model, lent), p))
 }
 
-/// The same of a model that passed the test.
-fn tested_sums(model: Model, lent: &Lent, p: Word) -> Vec<Term> {
+fn jumps(model: Model, lent: &Lent) -> Vec<Jump> {
+    (0..model.jumps).map(|place| jump(lent, place)).collect()
+}
+
+/// The same of a model that passed the test, with its jumps.
+fn tested_sums(model: Model, lent: &Lent, jumps: &[Jump], p: Word) -> Vec<Term> {
     let mut sums = Sums::default();
     for i in 0..model.hamiltonian {
         add_hamiltonian(&mut sums, word_at(&lent.h_words, i), lent.h_coeffs[i], p);
     }
-    let jumps: Vec<Jump> = (0..model.jumps).map(|place| jump(lent, place)).collect();
     for add in [add_jump, add_pair] {
-        for jump in &jumps {
+        for jump in jumps {
             add(&mut sums, jump, p);
         }
     }
@@ -224,6 +227,19 @@ fn is_listed(term: &Term) -> bool {
 fn counts(sums: &[Term]) -> (usize, usize) {
     let listed = sums.iter().filter(|term| is_listed(term)).count();
     (sums.len(), listed)
+}
+
+/// How many words the action on each of these touches, and what it lists, the model tested and the
+/// words inside its register.
+pub(super) fn acts(model: Model, lent: &Lent, words: &[Word]) -> Vec<(usize, Vec<(Word, f64)>)> {
+    let jumps = jumps(model, lent);
+    let act = |&p: &Word| {
+        let sums = tested_sums(model, lent, &jumps, p);
+        let listed = sums.iter().filter(|term| is_listed(term));
+        let list = listed.map(|term| (term.word, term.number.0)).collect();
+        (sums.len(), list)
+    };
+    words.iter().map(act).collect()
 }
 
 /// How many words an action touches, and how many it lists.
@@ -304,8 +320,9 @@ pub fn count_action_terms(
     }
     room.work_sums.fill(0.0);
     let (mut touched, mut listed) = (0, 0);
+    let jumps = jumps(model, lent);
     for p in words {
-        let counts = counts(&tested_sums(model, lent, p));
+        let counts = counts(&tested_sums(model, lent, &jumps, p));
         (touched, listed) = (touched.max(counts.0), listed.max(counts.1));
     }
     let places = sum_places(&room.work_words, &room.work_sums);

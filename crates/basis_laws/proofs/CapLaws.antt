@@ -1,0 +1,105 @@
+-- SPDX-FileCopyrightText: 2026 The PPVM Authors
+-- SPDX-License-Identifier: Apache-2.0
+
+-- How many entries a cap leaves, and that of the unprotected the larger stay. Assumes nothing.
+use mathlib.Core.Path.{_≡_, sym, ap, subst, _∙_}
+use mathlib.Core.Bool.{Bool, true, false, cond}
+use mathlib.Core.List.{List}
+use Prim.Native.Nat.{ℕ, _-_, _≤_, _<_, max}
+use native.Mathlib.Omega.{arith}
+use borrow.Author.Tests.{le-leb, lt-leb}
+use denote.Floats.{passes}
+use lib.Dec.{leb}
+use lib.Ieee.{Float, nan, binary64}
+use lib.ListN.{length, getD, take, replicate}
+use lib.Seq.{length-take-le, getD-take}
+use Rattle.number.specs.Floats.{isFinite}
+use Rattle.number.specs.Key.{key}
+use Rattle.order.specs.Magnitudes.{byMagnitude, AllFinite, keyAt, rank}
+use Rattle.order.proofs.MagnitudeLaws.{by-magnitude}
+use Rattle.truncate.specs.Retained.{flagged}
+use Rattle.truncate.specs.Chosen.{chosen, EachOnce}
+use Rattle.truncate.proofs.ChosenLaws.{chosen-limit, chosen-earlier}
+use Rattle.basis.specs.Prunes.{protectedFlags, capFlags, cap}
+use Rattle.basis.specs.declared.kept.Kept.the-variants.{Entries}
+use Rattle.basis.proofs.OrderOnce.{magnitude-once}
+use Rattle.basis.proofs.ChecksLaws.{Room}
+use Rattle.basis.proofs.CapLaws.{cap-room}
+use Rattle.basis_laws.specs.Keeps.{cappedFlags, Flagged, LargerStay, Fitting}
+use Rattle.basis_laws.proofs.AcceptedCalls.{entries-same, cap-accepted, cap-finite}
+use Rattle.basis_laws.proofs.StaysLaws.{ones-flagged, protected-long, cap-stays}
+use Rattle.basis_laws.proofs.LosesLaws.{ones-kept}
+
+-- ---- of two that are not fixed, one chosen and one not, the chosen one is at least as large, and the earlier of equals
+module _ (values : List Float) (finite : AllFinite values) (fixed : List ℕ) (long : length fixed ≡ length values) (slots : ℕ) where
+  abbrev order : List ℕ
+  order = byMagnitude values
+
+  abbrev flags : List ℕ
+  flags = chosen order fixed slots
+
+  chosen-larger : (p q : ℕ) → p < length values → q < length values → getD fixed p 0 ≡ 0 → getD fixed q 0 ≡ 0 → Flagged flags p → getD flags q 0 ≡ 0
+      → (keyAt values q ≤ keyAt values p) × (keyAt values q ≡ keyAt values p → p < q)
+  chosen-larger p q hp hq fp fq k z =
+      let f = by-magnitude values finite in
+      let i : ℕ = rank values p in
+      let j : ℕ = rank values q in
+      let pi = f .placed p hp in
+      let qj = f .placed q hq in
+      let l : i < j =
+      chosen-earlier (length values) order fixed (magnitude-once values) long slots i j (omega (arith, pi .0, f .size)) (omega (arith, qj .0, f .size))
+      (ap (λ (x : ℕ). getD fixed x 0) (pi .1) ∙ fp) (ap (λ (x : ℕ). getD fixed x 0) (qj .1) ∙ fq) (subst (λ (x : ℕ). Flagged flags x) (sym (pi .1)) k) (ap (λ (x : ℕ). getD flags x 0) (qj .1) ∙ z) in
+      let a : keyAt values (getD order j 0) ≡ keyAt values q = ap (keyAt values) (qj .1) in
+      let b : keyAt values (getD order i 0) ≡ keyAt values p = ap (keyAt values) (pi .1) in
+      (omega (arith, f .falls i j l (qj .0), a, b), λ (e : keyAt values q ≡ keyAt values p). omega (arith, f .ties i j l (qj .0) (a ∙ e ∙ sym b), pi .1, qj .1))
+
+module _ (len : ℕ) (lanes : List ℕ) (coeffs : List Float) (order work fixed kept : List ℕ) (n : ℕ) (protected : List ℕ) (limit r : ℕ)
+    (answer : cap len lanes coeffs order work fixed kept n protected limit .answer ≡ Entries r) where
+  abbrev guarded : List ℕ
+  guarded = protectedFlags len lanes protected
+
+  room : Room len lanes coeffs order work fixed kept n protected
+  room = cap-room len lanes coeffs order work fixed kept n protected limit (cap-accepted len lanes coeffs order work fixed kept n protected limit r answer)
+
+  front-long : length (take len coeffs) ≡ len
+  front-long = length-take-le len coeffs (room .coeffs-room)
+
+  guarded-long : length guarded ≡ len
+  guarded-long = protected-long len lanes coeffs protected (room .lanes-room)
+
+  answer-is : r ≡ flagged (cappedFlags len lanes coeffs protected limit)
+  answer-is = entries-same r (flagged (cappedFlags len lanes coeffs protected limit)) (sym answer ∙ cap-stays len lanes coeffs order work fixed kept n protected limit r answer .answers)
+
+  -- a cap that acts leaves exactly so many entries
+  pub cap-count : limit < len → r ≡ max limit (flagged (protectedFlags len lanes protected))
+  unfolding cappedFlags capFlags
+  cap-count h =
+      let once : EachOnce len (byMagnitude (take len coeffs)) = subst (λ (k : ℕ). EachOnce k (byMagnitude (take len coeffs))) front-long (magnitude-once (take len coeffs)) in
+      answer-is
+      ∙ ap (λ (b : Bool). flagged (cond b (replicate len 1) (capFlags len lanes coeffs protected limit))) (lt-leb len limit h)
+      ∙ chosen-limit len (byMagnitude (take len coeffs)) guarded once guarded-long limit h
+
+  -- at or under the limit all stay
+  pub cap-nothing : len ≤ limit → r ≡ len
+  unfolding cappedFlags
+  cap-nothing h = answer-is ∙ ap (λ (b : Bool). flagged (cond b (replicate len 1) (capFlags len lanes coeffs protected limit))) (le-leb len limit h) ∙ ones-flagged len
+
+  pub cap-larger : Fitting coeffs → LargerStay coeffs (protectedFlags len lanes protected) (cappedFlags len lanes coeffs protected limit)
+  unfolding cappedFlags capFlags
+  cap-larger fit = record { larger = λ p q hp hq. go (leb len limit) p q (omega (arith, hp, guarded-long)) (omega (arith, hq, guarded-long)) }
+    where
+      finite : AllFinite (take len coeffs)
+      finite = record {
+        fitting = λ i h. rw (getD-take len coeffs i nan (omega (arith, h, front-long))) (fit i (omega (arith, h, front-long, room .coeffs-room)));
+        numbers = λ i h. rw (getD-take len coeffs i nan (omega (arith, h, front-long))) (passes (isFinite (getD coeffs i nan)) (cap-finite len lanes coeffs order work fixed kept n protected limit r answer i (omega (arith, h, front-long))));
+      }
+
+      go : (b : Bool) (p q : ℕ) → p < len → q < len → getD guarded p 0 ≡ 0 → getD guarded q 0 ≡ 0 → Flagged (cond b (replicate len 1) (capFlags len lanes coeffs protected limit)) p
+          → getD (cond b (replicate len 1) (capFlags len lanes coeffs protected limit)) q 0 ≡ 0 → (keyAt coeffs q ≤ keyAt coeffs p) × (keyAt coeffs q ≡ keyAt coeffs p → p < q)
+      go true p q hp hq fp fq k z = absurd (ones-kept len q hq z)
+      go false p q hp hq fp fq k z =
+          let a : keyAt (take len coeffs) p ≡ keyAt coeffs p = ap (key binary64) (getD-take len coeffs p nan hp) in
+          let b : keyAt (take len coeffs) q ≡ keyAt coeffs q = ap (key binary64) (getD-take len coeffs q nan hq) in
+          let s =
+          chosen-larger (take len coeffs) finite guarded (guarded-long ∙ sym front-long) (limit - flagged guarded) p q (omega (arith, hp, front-long)) (omega (arith, hq, front-long)) fp fq k z in
+          (omega (arith, s .0, a, b), λ (e : keyAt coeffs q ≡ keyAt coeffs p). s .1 (b ∙ e ∙ sym a))

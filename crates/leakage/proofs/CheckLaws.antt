@@ -1,0 +1,178 @@
+-- SPDX-FileCopyrightText: 2026 The PPVM Authors
+-- SPDX-License-Identifier: Apache-2.0
+
+-- The tests of leakage, answer by answer; and what is known where they are passed. Assumes nothing.
+use mathlib.Core.Path.{_≡_}
+use mathlib.Core.Bool.{Bool, true, false, not}
+use Prim.Native.Nat.{ℕ, _*_, _/_, _≤_, _<_, max}
+use borrow.Author.Tests.{lt-ltb, le-ltb, eq-eqb, ne-eqb, not-true, not-false}
+use lib.Dec.{eqb}
+use lib.ListN.{length}
+use Rattle.refusal.specs.declared.Refusal.{Refusal}
+use Rattle.refusal.specs.declared.Refusal.the-variants.{CountAboveLimit, LengthMismatch, NumberOutOfRange}
+use Rattle.refusal.specs.declared.Answer.{Answer}
+use Rattle.refusal.specs.declared.Answer.the-variants.{Accepted, Refused}
+use Rattle.model.specs.Stored.{Tables}
+use Rattle.model.specs.Tested.{lent, testModel}
+use Rattle.model.specs.declared.tables.Model.{Model}
+use Rattle.action.specs.Counts.{maxWords, rowLanes, insideTo}
+use Rattle.basis.specs.Tests.{finiteTo}
+use Rattle.number.specs.Floats.{float0, isFinite}
+use Rattle.leakage.specs.Leakages.{Basis, Work, limitOf, tauOf, limitTests, tauTests, workTests, entryTests, leakTests}
+use Rattle.leakage.specs.declared.limits.Limits.{Limits}
+
+-- ---- the tables whose lengths the input fixes
+module _ (n len count h j k o he ne fh fn : ℕ) where
+  abbrev chain : Answer
+  chain = lent (rowLanes * n) h (lent (rowLanes * n) j (lent rowLanes k (lent len o (lent len he (lent len ne (lent count fh (lent count fn Accepted)))))))
+
+  pub short-1 : h < (rowLanes * n) → Refused (LengthMismatch (rowLanes * n) h) ≡ chain
+  short-1 l = rw (lt-ltb h (rowLanes * n) l)
+
+  module _ (l1 : (rowLanes * n) ≤ h) where
+    pub short-2 : j < (rowLanes * n) → Refused (LengthMismatch (rowLanes * n) j) ≡ chain
+    short-2 l = rw (le-ltb h (rowLanes * n) l1, lt-ltb j (rowLanes * n) l)
+
+    module _ (l2 : (rowLanes * n) ≤ j) where
+      pub short-3 : k < rowLanes → Refused (LengthMismatch rowLanes k) ≡ chain
+      short-3 l = rw (le-ltb h (rowLanes * n) l1, le-ltb j (rowLanes * n) l2, lt-ltb k rowLanes l)
+
+      module _ (l3 : rowLanes ≤ k) where
+        pub short-4 : o < len → Refused (LengthMismatch len o) ≡ chain
+        short-4 l = rw (le-ltb h (rowLanes * n) l1, le-ltb j (rowLanes * n) l2, le-ltb k rowLanes l3, lt-ltb o len l)
+
+        module _ (l4 : len ≤ o) where
+          pub short-5 : he < len → Refused (LengthMismatch len he) ≡ chain
+          short-5 l = rw (le-ltb h (rowLanes * n) l1, le-ltb j (rowLanes * n) l2, le-ltb k rowLanes l3, le-ltb o len l4, lt-ltb he len l)
+
+          module _ (l5 : len ≤ he) where
+            pub short-6 : ne < len → Refused (LengthMismatch len ne) ≡ chain
+            short-6 l = rw (le-ltb h (rowLanes * n) l1, le-ltb j (rowLanes * n) l2, le-ltb k rowLanes l3, le-ltb o len l4, le-ltb he len l5, lt-ltb ne len l)
+
+            module _ (l6 : len ≤ ne) where
+              pub short-7 : fh < count → Refused (LengthMismatch count fh) ≡ chain
+              short-7 l = rw (le-ltb h (rowLanes * n) l1, le-ltb j (rowLanes * n) l2, le-ltb k rowLanes l3, le-ltb o len l4, le-ltb he len l5, le-ltb ne len l6, lt-ltb fh count l)
+
+              module _ (l7 : count ≤ fh) where
+                pub short-8 : fn < count → Refused (LengthMismatch count fn) ≡ chain
+                short-8 l = rw (le-ltb h (rowLanes * n) l1, le-ltb j (rowLanes * n) l2, le-ltb k rowLanes l3, le-ltb o len l4, le-ltb he len l5, le-ltb ne len l6, le-ltb fh count l7, lt-ltb fn count l)
+
+                module _ (l8 : count ≤ fn) where
+                  pub long-enough : Accepted ≡ chain
+                  long-enough = rw (le-ltb h (rowLanes * n) l1, le-ltb j (rowLanes * n) l2, le-ltb k rowLanes l3, le-ltb o len l4, le-ltb he len l5, le-ltb ne len l6, le-ltb fh count l7, le-ltb fn count l8)
+
+pub work-is : (n len count h j k o he ne fh fn : ℕ) (w : Work) → length (w .hIndex) ≡ h → length (w .jIndex) ≡ j → length (w .mask) ≡ k → length (w .order) ≡ o → length (w .heads) ≡ he → length (w .nexts) ≡ ne → length (w .fixedHeads) ≡ fh → length (w .fixedNexts) ≡ fn → chain n len count h j k o he ne fh fn ≡ workTests n len count w
+unfolding workTests
+work-is n len count h j k o he ne fh fn w eh ej ek eo ehe ene efh efn = rw (eh, ej, ek, eo, ehe, ene, efh, efn)
+
+-- ---- the whole
+module _ (m : Model) (t : Tables) (b : Basis) (l : Limits) (w : Work) where
+  abbrev tests : Answer
+  tests = leakTests m t b l w
+
+  abbrev count : ℕ
+  count = length (b .protected) / 4
+
+  abbrev places : ℕ
+  places = length (b .lanes) / 4
+
+  pub model-refused : (r : Refusal) → testModel m t ≡ Refused r → Refused r ≡ tests
+  unfolding leakTests
+  model-refused r e = rw e
+
+  module _ (ok : testModel m t ≡ Accepted) where
+    pub words-many : maxWords < b .len → Refused (CountAboveLimit (b .len)) ≡ tests
+    unfolding leakTests
+    words-many h = rw (ok, lt-ltb maxWords (b .len) h)
+
+    module _ (h1 : b .len ≤ maxWords) where
+      pub protected-many : maxWords < count → Refused (CountAboveLimit count) ≡ tests
+      unfolding leakTests
+      protected-many h = rw (ok, le-ltb maxWords (b .len) h1, lt-ltb maxWords count h)
+
+      module _ (h2 : count ≤ maxWords) where
+        pub limits-refused : (r : Refusal) → limitTests l ≡ Refused r → Refused r ≡ tests
+        unfolding leakTests
+        limits-refused r e = rw (ok, le-ltb maxWords (b .len) h1, le-ltb maxWords count h2, e)
+
+        module _ (h3 : limitTests l ≡ Accepted) where
+          pub words-short : places < b .len → Refused (LengthMismatch (b .len) places) ≡ tests
+          unfolding leakTests
+          words-short h = rw (ok, le-ltb maxWords (b .len) h1, le-ltb maxWords count h2, h3, lt-ltb places (b .len) h)
+
+          module _ (h4 : b .len ≤ places) where
+            pub coeffs-short : length (b .coeffs) < b .len → Refused (LengthMismatch (b .len) (length (b .coeffs))) ≡ tests
+            unfolding leakTests
+            coeffs-short h = rw (ok, le-ltb maxWords (b .len) h1, le-ltb maxWords count h2, h3, le-ltb places (b .len) h4, lt-ltb (length (b .coeffs)) (b .len) h)
+
+            module _ (h5 : b .len ≤ length (b .coeffs)) where
+              pub lanes-over : eqb (length (b .protected)) (count * 4) ≡ false → Refused (LengthMismatch (count * 4) (length (b .protected))) ≡ tests
+              unfolding leakTests
+              lanes-over h = rw (ok, le-ltb maxWords (b .len) h1, le-ltb maxWords count h2, h3, le-ltb places (b .len) h4, le-ltb (length (b .coeffs)) (b .len) h5, h)
+
+              module _ (h6 : eqb (length (b .protected)) (count * 4) ≡ true) where
+                pub work-refused : (r : Refusal) → workTests (m .qubits) (b .len) count w ≡ Refused r → Refused r ≡ tests
+                unfolding leakTests
+                work-refused r e = rw (ok, le-ltb maxWords (b .len) h1, le-ltb maxWords count h2, h3, le-ltb places (b .len) h4, le-ltb (length (b .coeffs)) (b .len) h5, h6, e)
+
+                module _ (h7 : workTests (m .qubits) (b .len) count w ≡ Accepted) where
+                  pub entries-refused : (r : Refusal) → entryTests (m .qubits) b ≡ Refused r → Refused r ≡ tests
+                  unfolding leakTests
+                  entries-refused r e = rw (ok, le-ltb maxWords (b .len) h1, le-ltb maxWords count h2, h3, le-ltb places (b .len) h4, le-ltb (length (b .coeffs)) (b .len) h5, h6, h7, e)
+
+                  pub threshold-left : entryTests (m .qubits) b ≡ Accepted → tauTests (b .len) l ≡ tests
+                  unfolding leakTests
+                  threshold-left e = rw (ok, le-ltb maxWords (b .len) h1, le-ltb maxWords count h2, h3, le-ltb places (b .len) h4, le-ltb (length (b .coeffs)) (b .len) h5, h6, h7, e)
+
+pub entries-are : (n : ℕ) (b : Basis) {r : Answer} → insideTo (b .len) (b .lanes) n (insideTo (length (b .protected) / 4) (b .protected) n (finiteTo 0 (b .len) (b .coeffs) Accepted)) ≡ r → entryTests n b ≡ r
+unfolding entryTests
+entries-are n b e = e
+
+-- ---- limits
+module _ (l : Limits) where
+  pub basis-many : maxWords < l .«max_basis» → Refused (CountAboveLimit (l .«max_basis»)) ≡ limitTests l
+  unfolding limitTests
+  basis-many h = rw (lt-ltb maxWords (l .«max_basis») h)
+
+  module _ (h1 : l .«max_basis» ≤ maxWords) where
+    pub admit-absent : l .«admit_given» ≡ 0 → Accepted ≡ limitTests l
+    unfolding limitTests
+    admit-absent e = rw (le-ltb maxWords (l .«max_basis») h1, eq-eqb (l .«admit_given») 0 e)
+
+    module _ (h2 : l .«admit_given» ≡ 0 → ⊥) where
+      pub admit-many : maxWords < l .«admit_basis» → Refused (CountAboveLimit (l .«admit_basis»)) ≡ limitTests l
+      unfolding limitTests
+      admit-many h = rw (le-ltb maxWords (l .«max_basis») h1, ne-eqb (l .«admit_given») 0 h2, lt-ltb maxWords (l .«admit_basis») h)
+
+      pub limits-accepted : l .«admit_basis» ≤ maxWords → Accepted ≡ limitTests l
+      unfolding limitTests
+      limits-accepted h = rw (le-ltb maxWords (l .«max_basis») h1, ne-eqb (l .«admit_given») 0 h2, le-ltb maxWords (l .«admit_basis») h)
+
+  pub tau-absent : (count : ℕ) → l .«tau_given» ≡ 0 → Accepted ≡ tauTests count l
+  unfolding tauTests
+  tau-absent count e = rw (eq-eqb (l .«tau_given») 0 e)
+
+  module _ (count : ℕ) (h : l .«tau_given» ≡ 0 → ⊥) (finite : Bool) (is : finite ≡ isFinite (l .«tau_add»)) where
+    pub tau-bad : not finite ≡ true → Refused (NumberOutOfRange count) ≡ tauTests count l
+    unfolding tauTests
+    tau-bad f = rw (ne-eqb (l .«tau_given») 0 h, ← is, not-true finite f)
+
+    pub tau-accepted : not finite ≡ false → Accepted ≡ tauTests count l
+    unfolding tauTests
+    tau-accepted f = rw (ne-eqb (l .«tau_given») 0 h, ← is, not-false finite f)
+
+  pub limit-alone : l .«admit_given» ≡ 0 → l .«max_basis» ≡ limitOf l
+  unfolding limitOf
+  limit-alone e = rw (eq-eqb (l .«admit_given») 0 e)
+
+  pub limit-raised : (l .«admit_given» ≡ 0 → ⊥) → max (l .«max_basis») (l .«admit_basis») ≡ limitOf l
+  unfolding limitOf
+  limit-raised e = rw (ne-eqb (l .«admit_given») 0 e)
+
+  pub tau-zero : l .«tau_given» ≡ 0 → float0 ≡ tauOf l
+  unfolding tauOf
+  tau-zero e = rw (eq-eqb (l .«tau_given») 0 e)
+
+  pub tau-given : (l .«tau_given» ≡ 0 → ⊥) → l .«tau_add» ≡ tauOf l
+  unfolding tauOf
+  tau-given e = rw (ne-eqb (l .«tau_given») 0 e)

@@ -1,0 +1,90 @@
+-- SPDX-FileCopyrightText: 2026 The PPVM Authors
+-- SPDX-License-Identifier: Apache-2.0
+
+-- `check::check_work` meets its contract, answer by answer. Assumes nothing.
+use mathlib.Core.Path.{_∙_}
+use native.Mathlib.Omega.{arith}
+use Rattle.leakage.proofs.CheckLaws.{short-1, short-2, short-3, short-4, short-5, short-6, short-7, short-8, long-enough, work-is}
+use borrow.Author.Needs.{needs}
+use Rattle.leakage.proofs.check.check_work.Statement.{statement}
+use Rattle.leakage.proofs.check.check_work.Tie as tie
+
+mul-rows : tie.Need-mul-rows
+mul-rows c = omega (arith, c .pre)
+
+returns : tie.Need-returns
+returns c =
+    let a = c .before .before .args in
+    λ w eh ej ek eo ehe ene efh efn.
+    c .mismatch .ensures ∙ short-1 (a .n) (a .len) (a .count) (a .h-index) (a .j-index) (a .mask) (a .order) (a .heads) (a .nexts) (a .fixed-heads) (a .fixed-nexts) (c .before .if1 .taken) ∙ work-is (a .n) (a .len) (a .count) (a .h-index) (a .j-index) (a .mask) (a .order) (a .heads) (a .nexts) (a .fixed-heads) (a .fixed-nexts) w eh ej ek eo ehe ene efh efn
+
+returns-2 : tie.Need-returns-2
+returns-2 c =
+    let a = c .before .before .before .args in
+    λ w eh ej ek eo ehe ene efh efn.
+    c .mismatch2 .ensures ∙ short-2 (a .n) (a .len) (a .count) (a .h-index) (a .j-index) (a .mask) (a .order) (a .heads) (a .nexts) (a .fixed-heads) (a .fixed-nexts) (c .before .before .if1 .left) (c .before .if2 .taken) ∙ work-is (a .n) (a .len) (a .count) (a .h-index) (a .j-index) (a .mask) (a .order) (a .heads) (a .nexts) (a .fixed-heads) (a .fixed-nexts) w eh ej ek eo ehe ene efh efn
+
+returns-3 : tie.Need-returns-3
+returns-3 c =
+    let a = c .before .before .before .before .args in
+    λ w eh ej ek eo ehe ene efh efn.
+    c .mismatch3 .ensures ∙ short-3 (a .n) (a .len) (a .count) (a .h-index) (a .j-index) (a .mask) (a .order) (a .heads) (a .nexts) (a .fixed-heads) (a .fixed-nexts) (c .before .before .before .if1 .left) (c .before .before .if2 .left) (c .before .if3 .taken) ∙ work-is (a .n) (a .len) (a .count) (a .h-index) (a .j-index) (a .mask) (a .order) (a .heads) (a .nexts) (a .fixed-heads) (a .fixed-nexts) w eh ej ek eo ehe ene efh efn
+
+returns-4 : tie.Need-returns-4
+returns-4 c =
+    let a = c .before .before .before .before .before .args in
+    λ w eh ej ek eo ehe ene efh efn.
+    c .mismatch4 .ensures ∙ short-4 (a .n) (a .len) (a .count) (a .h-index) (a .j-index) (a .mask) (a .order) (a .heads) (a .nexts) (a .fixed-heads) (a .fixed-nexts) (c .before .before .before .before .if1 .left) (c .before .before .before .if2 .left) (c .before .before .if3 .left) (c .before .if4 .taken) ∙ work-is (a .n) (a .len) (a .count) (a .h-index) (a .j-index) (a .mask) (a .order) (a .heads) (a .nexts) (a .fixed-heads) (a .fixed-nexts) w eh ej ek eo ehe ene efh efn
+
+returns-5 : tie.Need-returns-5
+returns-5 c =
+    let a = c .before .before .before .before .before .before .args in
+    λ w eh ej ek eo ehe ene efh efn.
+    c .mismatch5 .ensures ∙ short-5 (a .n) (a .len) (a .count) (a .h-index) (a .j-index) (a .mask) (a .order) (a .heads) (a .nexts) (a .fixed-heads) (a .fixed-nexts) (c .before .before .before .before .before .if1 .left) (c .before .before .before .before .if2 .left) (c .before .before .before .if3 .left) (c .before .before .if4 .left) (c .before .if5 .taken) ∙ work-is (a .n) (a .len) (a .count) (a .h-index) (a .j-index) (a .mask) (a .order) (a .heads) (a .nexts) (a .fixed-heads) (a .fixed-nexts) w eh ej ek eo ehe ene efh efn
+
+returns-6 : tie.Need-returns-6
+returns-6 c =
+    let a = c .before .before .before .before .before .before .before .args in
+    λ w eh ej ek eo ehe ene efh efn.
+    c .mismatch6 .ensures ∙ short-6 (a .n) (a .len) (a .count) (a .h-index) (a .j-index) (a .mask) (a .order) (a .heads) (a .nexts) (a .fixed-heads) (a .fixed-nexts) (c .before .before .before .before .before .before .if1 .left) (c .before .before .before .before .before .if2 .left) (c .before .before .before .before .if3 .left) (c .before .before .before .if4 .left) (c .before .before .if5 .left) (c .before .if6 .taken) ∙ work-is (a .n) (a .len) (a .count) (a .h-index) (a .j-index) (a .mask) (a .order) (a .heads) (a .nexts) (a .fixed-heads) (a .fixed-nexts) w eh ej ek eo ehe ene efh efn
+
+returns-7 : tie.Need-returns-7
+returns-7 c =
+    let a = c .before .before .before .before .before .before .before .before .args in
+    λ w eh ej ek eo ehe ene efh efn.
+    c .mismatch7 .ensures ∙ short-7 (a .n) (a .len) (a .count) (a .h-index) (a .j-index) (a .mask) (a .order) (a .heads) (a .nexts) (a .fixed-heads) (a .fixed-nexts) (c .before .before .before .before .before .before .before .if1 .left) (c .before .before .before .before .before .before .if2 .left) (c .before .before .before .before .before .if3 .left) (c .before .before .before .before .if4 .left) (c .before .before .before .if5 .left) (c .before .before .if6 .left) (c .before .if7 .taken) ∙ work-is (a .n) (a .len) (a .count) (a .h-index) (a .j-index) (a .mask) (a .order) (a .heads) (a .nexts) (a .fixed-heads) (a .fixed-nexts) w eh ej ek eo ehe ene efh efn
+
+returns-8 : tie.Need-returns-8
+returns-8 c =
+    let a = c .before .before .before .before .before .before .before .before .before .args in
+    λ w eh ej ek eo ehe ene efh efn.
+    c .mismatch8 .ensures ∙ short-8 (a .n) (a .len) (a .count) (a .h-index) (a .j-index) (a .mask) (a .order) (a .heads) (a .nexts) (a .fixed-heads) (a .fixed-nexts) (c .before .before .before .before .before .before .before .before .if1 .left) (c .before .before .before .before .before .before .before .if2 .left) (c .before .before .before .before .before .before .if3 .left) (c .before .before .before .before .before .if4 .left) (c .before .before .before .before .if5 .left) (c .before .before .before .if6 .left) (c .before .before .if7 .left) (c .before .if8 .taken) ∙ work-is (a .n) (a .len) (a .count) (a .h-index) (a .j-index) (a .mask) (a .order) (a .heads) (a .nexts) (a .fixed-heads) (a .fixed-nexts) w eh ej ek eo ehe ene efh efn
+
+returns-9 : tie.Need-returns-9
+returns-9 c =
+    let a = c .before .before .before .before .before .before .before .before .args in
+    λ w eh ej ek eo ehe ene efh efn.
+    long-enough (a .n) (a .len) (a .count) (a .h-index) (a .j-index) (a .mask) (a .order) (a .heads) (a .nexts) (a .fixed-heads) (a .fixed-nexts) (c .before .before .before .before .before .before .before .if1 .left) (c .before .before .before .before .before .before .if2 .left) (c .before .before .before .before .before .if3 .left) (c .before .before .before .before .if4 .left) (c .before .before .before .if5 .left) (c .before .before .if6 .left) (c .before .if7 .left) (c .if8 .left) ∙ work-is (a .n) (a .len) (a .count) (a .h-index) (a .j-index) (a .mask) (a .order) (a .heads) (a .nexts) (a .fixed-heads) (a .fixed-nexts) w eh ej ek eo ehe ene efh efn
+
+pub check-work-spec : {M : Type 1} → statement M
+check-work-spec =
+    tie.close
+    (tie.spec
+    mul-rows
+    (λ c κs. search needs)
+    returns
+    (λ c κs. search needs)
+    returns-2
+    (λ c κs. search needs)
+    returns-3
+    (λ c κs. search needs)
+    returns-4
+    (λ c κs. search needs)
+    returns-5
+    (λ c κs. search needs)
+    returns-6
+    (λ c κs. search needs)
+    returns-7
+    (λ c κs. search needs)
+    returns-8
+    returns-9)

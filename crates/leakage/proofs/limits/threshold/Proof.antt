@@ -1,0 +1,16 @@
+-- SPDX-FileCopyrightText: 2026 The PPVM Authors
+-- SPDX-License-Identifier: Apache-2.0
+
+-- `limits::threshold` meets its contract. Assumes nothing.
+use Rattle.leakage.proofs.CheckLaws.{tau-zero, tau-given}
+use Rattle.leakage.proofs.limits.threshold.Statement.{statement}
+use Rattle.leakage.proofs.limits.threshold.Tie as tie
+
+returns : tie.Need-returns
+returns c = tau-zero (c .before .before .args .limits) (c .if1 .taken)
+
+returns-2 : tie.Need-returns-2
+returns-2 c = tau-given (c .before .before .args .limits) (c .if1 .left)
+
+pub threshold-spec : {M : Type 1} → statement M
+threshold-spec = tie.close (tie.spec returns returns-2)

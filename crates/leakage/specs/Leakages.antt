@@ -1,0 +1,232 @@
+-- SPDX-FileCopyrightText: 2026 The PPVM Authors
+-- SPDX-License-Identifier: Apache-2.0
+
+-- Leakage over a lent model, basis and protected list: limits and their defaults, refusals in their order, the answer, and every
+-- lent table afterwards.
+use Prim.Native.Nat.{ℕ, _-_, _*_, _/_, _≤_, min, max}
+use mathlib.Core.Path.{_≡_}
+use mathlib.Core.Bool.{cond}
+use mathlib.Core.List.{List}
+use lib.Dec.{ltb, eqb}
+use lib.Ieee.{Float}
+use lib.ListN.{length, take, set, replicate}
+use Rattle.refusal.specs.declared.Refusal.{Refusal}
+use Rattle.refusal.specs.declared.Refusal.the-variants.{TableFull}
+use Rattle.refusal.specs.declared.Answer.{Answer}
+use Rattle.refusal.specs.declared.Answer.the-variants as Tests
+use Rattle.word.specs.Flat.{words, layWord}
+use Rattle.number.specs.Floats.{float0}
+use Rattle.candidates.specs.Log.{Rows, table}
+use Rattle.model.specs.Stored.{Tables}
+use Rattle.model.specs.Given.{Read, got, refused}
+use Rattle.model.specs.Tested.{counted, lent, testModel}
+use Rattle.model.specs.Built.{andThen, equal}
+use Rattle.model.specs.Laid.{laid}
+use Rattle.model.specs.declared.tables.Model.{Model}
+use Rattle.action.specs.Acts.{listPlaces}
+use Rattle.action.specs.Counts.{maxWords, rowLanes, insideTo, AllInside}
+use Rattle.action.specs.declared.act.Acted.{Acted}
+use Rattle.action.specs.declared.act.Acted.the-variants.{Listed, Refused}
+use Rattle.basis.specs.Tests.{finiteTo, finiteThreshold}
+use Rattle.leakage.specs.Leaks.{candidatesOf, above, wordsOf, sumsOf, Holding}
+use Rattle.leakage.specs.declared.limits.Limits.{Limits}
+use Rattle.leakage.specs.declared.taken.Taken.{Taken}
+use Rattle.leakage.specs.declared.taken.Taken.the-variants as Steps
+
+-- ---- limits
+-- an absent admit_basis means max_basis, and less than max_basis is raised to it
+unfoldable pub limitOf : Limits → ℕ
+limitOf l = cond (eqb (l .«admit_given») 0) (l .«max_basis») (max (l .«max_basis») (l .«admit_basis»))
+
+-- an absent tau_add means 0
+unfoldable pub tauOf : Limits → Float
+tauOf l = cond (eqb (l .«tau_given») 0) float0 (l .«tau_add»)
+
+-- 8 for a word limit, and 7 for a threshold, each where it is given
+unfoldable pub limitTests : Limits → Answer
+limitTests l = counted maxWords (l .«max_basis») (cond (eqb (l .«admit_given») 0) Tests.Accepted (counted maxWords (l .«admit_basis») Tests.Accepted))
+
+unfoldable pub tauTests : ℕ → Limits → Answer
+tauTests count l = cond (eqb (l .«tau_given») 0) Tests.Accepted (finiteThreshold count (l .«tau_add») Tests.Accepted)
+
+-- ---- what is lent
+-- the first len places of the words and coefficients are the basis
+pub record Basis : Type 0 where
+  pub lanes : List ℕ
+  pub coeffs : List Float
+  pub len : ℕ
+  pub protected : List ℕ
+
+abbrev pub basisOf : List ℕ → List Float → ℕ → List ℕ → Basis
+basisOf lanes coeffs len protected = record { lanes = lanes; coeffs = coeffs; len = len; protected = protected }
+
+pub record Work : Type 0 where
+  pub hIndex : List ℕ
+  pub jIndex : List ℕ
+  pub mask : List ℕ
+  pub workWords : List ℕ
+  pub workSums : List Float
+  pub order : List ℕ
+  pub heads : List ℕ
+  pub nexts : List ℕ
+  pub fixedHeads : List ℕ
+  pub fixedNexts : List ℕ
+  pub logWords : List ℕ
+  pub logValues : List Float
+  pub candWords : List ℕ
+  pub candSums : List Float
+  pub nextWords : List ℕ
+  pub nextSums : List Float
+  pub placeOrder : List ℕ
+  pub placeWork : List ℕ
+  pub placeKept : List ℕ
+
+abbrev pub workOf : List ℕ → List ℕ → List ℕ → List ℕ → List Float → List ℕ → List ℕ → List ℕ → List ℕ → List ℕ → List ℕ → List Float → List ℕ → List Float → List ℕ → List Float → List ℕ → List ℕ → List ℕ → Work
+workOf hIndex jIndex mask workWords workSums order heads nexts fixedHeads fixedNexts logWords logValues candWords candSums nextWords nextSums placeOrder placeWork placeKept = record {
+  hIndex = hIndex;
+  jIndex = jIndex;
+  mask = mask;
+  workWords = workWords;
+  workSums = workSums;
+  order = order;
+  heads = heads;
+  nexts = nexts;
+  fixedHeads = fixedHeads;
+  fixedNexts = fixedNexts;
+  logWords = logWords;
+  logValues = logValues;
+  candWords = candWords;
+  candSums = candSums;
+  nextWords = nextWords;
+  nextSums = nextSums;
+  placeOrder = placeOrder;
+  placeWork = placeWork;
+  placeKept = placeKept;
+}
+
+abbrev pub zeroed : Work → Work
+zeroed w = record {
+  hIndex = replicate (length (w .hIndex)) 0;
+  jIndex = replicate (length (w .jIndex)) 0;
+  mask = replicate (length (w .mask)) 0;
+  workWords = replicate (length (w .workWords)) 0;
+  workSums = replicate (length (w .workSums)) float0;
+  order = replicate (length (w .order)) 0;
+  heads = replicate (length (w .heads)) 0;
+  nexts = replicate (length (w .nexts)) 0;
+  fixedHeads = replicate (length (w .fixedHeads)) 0;
+  fixedNexts = replicate (length (w .fixedNexts)) 0;
+  logWords = replicate (length (w .logWords)) 0;
+  logValues = replicate (length (w .logValues)) float0;
+  candWords = replicate (length (w .candWords)) 0;
+  candSums = replicate (length (w .candSums)) float0;
+  nextWords = replicate (length (w .nextWords)) 0;
+  nextSums = replicate (length (w .nextSums)) float0;
+  placeOrder = replicate (length (w .placeOrder)) 0;
+  placeWork = replicate (length (w .placeWork)) 0;
+  placeKept = replicate (length (w .placeKept)) 0;
+}
+
+-- the places of table 1, words touched by one action, and of table 2, candidates: those of the shortest table that holds them
+abbrev pub orderPlaces : Work → ℕ
+orderPlaces w = min (length (w .placeOrder)) (length (w .placeWork))
+
+unfoldable pub sumPlaces : Work → ℕ
+sumPlaces w = min (min (length (w .workWords) / 4) (length (w .workSums) / 2)) (min (min (length (w .logWords) / 4) (length (w .logValues))) (orderPlaces w))
+
+unfoldable pub candidatePlaces : Work → ℕ
+candidatePlaces w =
+    min (min (min (length (w .candWords) / 4) (length (w .candSums))) (min (length (w .nextWords) / 4) (length (w .nextSums)))) (min (orderPlaces w) (length (w .placeKept)))
+
+-- ---- the tests
+-- 9 for the tables whose lengths the input fixes: rows of an index, places for each basis word, and for each protected word
+unfoldable pub workTests : ℕ → ℕ → ℕ → Work → Answer
+workTests n len count w =
+    lent (rowLanes * n) (length (w .hIndex))
+    (lent (rowLanes * n) (length (w .jIndex))
+    (lent rowLanes (length (w .mask))
+    (lent len (length (w .order))
+    (lent len (length (w .heads))
+    (lent len (length (w .nexts))
+    (lent count (length (w .fixedHeads))
+    (lent count (length (w .fixedNexts))
+    Tests.Accepted)))))))
+
+-- 11, 7
+unfoldable pub entryTests : ℕ → Basis → Answer
+entryTests n b = insideTo (b .len) (b .lanes) n (insideTo (length (b .protected) / 4) (b .protected) n (finiteTo 0 (b .len) (b .coeffs) Tests.Accepted))
+
+-- the model, 8, 9, 11, 7
+unfoldable pub leakTests : Model → Tables → Basis → Limits → Work → Answer
+leakTests m t b l w =
+    andThen (testModel m t)
+    (counted maxWords (b .len)
+    (counted maxWords (length (b .protected) / 4)
+    (andThen (limitTests l)
+    (lent (b .len) (length (b .lanes) / 4)
+    (lent (b .len) (length (b .coeffs))
+    (equal (length (b .protected) / 4 * 4) (length (b .protected))
+    (andThen (workTests (m .qubits) (b .len) (length (b .protected) / 4) w)
+    (andThen (entryTests (m .qubits) b)
+    (tauTests (b .len) l)))))))))
+
+-- ---- the answer, the list, and the lent tables afterwards
+pub record Out : Type 0 where
+  pub answer : Acted
+  pub outWords : List ℕ
+  pub outValues : List Float
+
+-- those above tau_add, in word order; 13 where there are more than places
+unfoldable pub listing : Float → List ℕ → List Float → Read Rows → Out
+listing tau outWords outValues (refused r) = record { answer = Refused r; outWords = outWords; outValues = outValues }
+listing tau outWords outValues (got T) =
+    cond (ltb (listPlaces outWords outValues) (length (above tau T)))
+    (record { answer = Refused (TableFull 3 (listPlaces outWords outValues)); outWords = outWords; outValues = outValues })
+    (record { answer = Listed (length (above tau T)); outWords = laid layWord 0 (wordsOf (above tau T)) outWords; outValues = laid set 0 (sumsOf (above tau T)) outValues })
+
+-- the candidates after the last pass, of so many basis words
+unfoldable pub leakCourse : Model → Tables → Basis → Limits → Work → Read Rows
+leakCourse m t b l w =
+    candidatesOf m t (take (b .len) (words (b .lanes))) (take (b .len) (b .coeffs)) (words (b .protected)) (sumPlaces w) (candidatePlaces w) (limitOf l - b .len)
+
+pub record Leaking : Type 0 where
+  pub out : Out
+  pub work : Work
+
+module _ (outWords : List ℕ) (outValues : List Float) (w : Work) where
+  -- a refusal by a test changes nothing; work tables are zero after acceptance, 13 and 14
+  abbrev pub tested : Answer → Out → Leaking
+  tested Tests.Accepted out = record { out = out; work = zeroed w }
+  tested (Tests.Refused r) out = record { out = record { answer = Refused r; outWords = outWords; outValues = outValues }; work = w }
+
+  unfoldable pub leak : Model → Tables → Basis → Limits → Leaking
+  leak m t b l = tested (leakTests m t b l w) (listing (tauOf l) outWords outValues (leakCourse m t b l w))
+
+-- ---- for the functions that work on lent tables
+-- a tested model, and places for its index and a mask
+pub record ModelLent (m : Model) (t : Tables) (hIndex jIndex mask : List ℕ) : Type 0 where
+  pub accepted : testModel m t ≡ Tests.Accepted
+  pub h-rows : 64 * m .qubits ≤ length hIndex
+  pub j-rows : 64 * m .qubits ≤ length jIndex
+  pub row : 64 ≤ length mask
+
+-- basis words inside the register, a coefficient and a place of each table for each, and at least as many slots
+pub record BasisLent (n : ℕ) (basis : List ℕ) (coeffs : List Float) (order heads nexts : List ℕ) : Type 0 where
+  pub each : 4 * length coeffs ≡ length basis
+  pub inside : AllInside basis n
+  pub order-each : length order ≡ length coeffs
+  pub nexts-each : length nexts ≡ length coeffs
+  pub slots-enough : length coeffs ≤ length heads
+
+pub record FixedLent (protected heads nexts : List ℕ) : Type 0 where
+  pub each : 4 * length nexts ≡ length protected
+  pub slots-enough : length nexts ≤ length heads
+
+-- the candidates that a step left in lent tables
+abbrev pub stepRows : Taken → List ℕ → List Float → Read Rows
+stepRows (Steps.Held n) lanes sums = got (table n lanes sums)
+stepRows (Steps.Refused r) lanes sums = refused r
+
+-- as many rows as a step says that it holds
+pub record HeldInside (r : Taken) (lanes : List ℕ) (sums : List Float) : Type 0 where
+  pub inside : (n : ℕ) → r ≡ Steps.Held n → Holding n n lanes sums

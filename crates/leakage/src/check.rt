@@ -1,0 +1,171 @@
+// SPDX-FileCopyrightText: 2026 The PPVM Authors
+// SPDX-License-Identifier: Apache-2.0
+
+// What leakage asks of what it is lent: the model, 8, 9, 11, 7.
+ghost use mathlib.Core.Path.{_≡_};
+ghost use Prim.Native.Nat.{_≤_};
+ghost use lib.ListN.{length};
+ghost use Rattle.model.specs.Stored.{tables};
+ghost use Rattle.leakage.specs.Leakages.{limitTests, tauTests, workTests, leakTests, basisOf, Work};
+use crate::limits::Limits;
+use action::words::MAX_WORDS;
+use action::words::ROW_LANES;
+use basis::checks::check_entries;
+use model::lengths::mismatch;
+use model::tables::Model;
+use model::test::test_model;
+use number::scalar::is_finite;
+use refusal::Answer;
+use refusal::Refusal;
+use word::flat::WORD_LANES;
+
+fn check_limits(limits: Limits) -> Answer
+    ensures { λ r. ⌜ r ≡ limitTests limits ⌝ }
+{
+    if MAX_WORDS < limits.max_basis {
+        return Answer::Refused(Refusal::CountAboveLimit {
+            count: limits.max_basis,
+        });
+    }
+    if limits.admit_given == 0 {
+        return Answer::Accepted;
+    }
+    if MAX_WORDS < limits.admit_basis {
+        return Answer::Refused(Refusal::CountAboveLimit {
+            count: limits.admit_basis,
+        });
+    }
+    Answer::Accepted
+}
+
+fn check_threshold(limits: Limits, count: usize) -> Answer
+    ensures { λ r. ⌜ r ≡ tauTests count limits ⌝ }
+{
+    if limits.tau_given == 0 {
+        return Answer::Accepted;
+    }
+    let finite = is_finite(limits.tau_add);
+    if !finite {
+        return Answer::Refused(Refusal::NumberOutOfRange { index: count });
+    }
+    Answer::Accepted
+}
+
+// The tables whose lengths the input fixes.
+fn check_work(
+    n: usize,
+    len: usize,
+    count: usize,
+    h_index: usize,
+    j_index: usize,
+    mask: usize,
+    order: usize,
+    heads: usize,
+    nexts: usize,
+    fixed_heads: usize,
+    fixed_nexts: usize,
+) -> Answer
+    requires { ⌜ n ≤ 128 ⌝ }
+    ensures { λ r. ⌜ ((w : Work) → (length (w .hIndex) ≡ «h_index») → (length (w .jIndex) ≡ «j_index») → (length (w .mask) ≡ mask) → (length (w .order) ≡ order) → (length (w .heads) ≡ heads) → (length (w .nexts) ≡ nexts) → (length (w .fixedHeads) ≡ «fixed_heads») → (length (w .fixedNexts) ≡ «fixed_nexts») → r ≡ workTests n len count w) ⌝ }
+{
+    let rows = ROW_LANES * n;
+    if h_index < rows {
+        return mismatch(rows, h_index);
+    }
+    if j_index < rows {
+        return mismatch(rows, j_index);
+    }
+    if mask < ROW_LANES {
+        return mismatch(ROW_LANES, mask);
+    }
+    if order < len {
+        return mismatch(len, order);
+    }
+    if heads < len {
+        return mismatch(len, heads);
+    }
+    if nexts < len {
+        return mismatch(len, nexts);
+    }
+    if fixed_heads < count {
+        return mismatch(count, fixed_heads);
+    }
+    if fixed_nexts < count {
+        return mismatch(count, fixed_nexts);
+    }
+    Answer::Accepted
+}
+
+pub fn check_leakage(
+    m: Model,
+    h_words: &[u64],
+    h_coeffs: &[f64],
+    jumps: &[u64],
+    rates: &[f64],
+    t_words: &[u64],
+    t_numbers: &[f64],
+    words: &[u64],
+    coeffs: &[f64],
+    len: usize,
+    protected: &[u64],
+    limits: Limits,
+    h_index: usize,
+    j_index: usize,
+    mask: usize,
+    order: usize,
+    heads: usize,
+    nexts: usize,
+    fixed_heads: usize,
+    fixed_nexts: usize,
+) -> Answer
+    ensures { λ r. ⌜ ((w : Work) → (length (w .hIndex) ≡ «h_index») → (length (w .jIndex) ≡ «j_index») → (length (w .mask) ≡ mask) → (length (w .order) ≡ order) → (length (w .heads) ≡ heads) → (length (w .nexts) ≡ nexts) → (length (w .fixedHeads) ≡ «fixed_heads») → (length (w .fixedNexts) ≡ «fixed_nexts») → r ≡ leakTests m (tables (now («h_words» .entry)) (now («h_coeffs» .entry)) (now (jumps .entry)) (now (rates .entry)) (now («t_words» .entry)) (now («t_numbers» .entry))) (basisOf (now (words .entry)) (now (coeffs .entry)) len (now (protected .entry))) limits w) ⌝ }
+{
+    let model = test_model(m, h_words, h_coeffs, jumps, rates, t_words, t_numbers);
+    let Answer::Accepted = model else {
+        return model;
+    };
+    if MAX_WORDS < len {
+        return Answer::Refused(Refusal::CountAboveLimit { count: len });
+    }
+    let count = protected.len() / WORD_LANES;
+    if MAX_WORDS < count {
+        return Answer::Refused(Refusal::CountAboveLimit { count });
+    }
+    let counts = check_limits(limits);
+    let Answer::Accepted = counts else {
+        return counts;
+    };
+    let places = words.len() / WORD_LANES;
+    if places < len {
+        return mismatch(len, places);
+    }
+    if coeffs.len() < len {
+        return mismatch(len, coeffs.len());
+    }
+    let lanes = count * WORD_LANES;
+    if protected.len() != lanes {
+        return mismatch(lanes, protected.len());
+    }
+    let n = m.qubits;
+    let work = check_work(
+        n,
+        len,
+        count,
+        h_index,
+        j_index,
+        mask,
+        order,
+        heads,
+        nexts,
+        fixed_heads,
+        fixed_nexts,
+    );
+    let Answer::Accepted = work else {
+        return work;
+    };
+    let entries = check_entries(n, words, coeffs, len, protected);
+    let Answer::Accepted = entries else {
+        return entries;
+    };
+    check_threshold(limits, len)
+}

@@ -1,0 +1,57 @@
+-- SPDX-FileCopyrightText: 2026 The PPVM Authors
+-- SPDX-License-Identifier: Apache-2.0
+
+-- What leakage answers in plain numbers, and the lengths of its work tables.
+use Prim.Native.Nat.{ℕ, _*_, min, max}
+use mathlib.Core.Path.{_≡_}
+use mathlib.Core.List.{List}
+use lib.Ieee.{Float}
+use Rattle.word.specs.Word.{maxQubits}
+use Rattle.action.specs.Counts.{maxWords, rowLanes}
+use Rattle.leakage.specs.Leakages.{Leaking, Work}
+use Rattle.pebblelinen.specs.Actions.{listedOf}
+use Rattle.pebblelinen.specs.declared.actions.ListedWords.{ListedWords}
+use Rattle.pebblelinen.specs.declared.leakages.LeakageSizes.{LeakageSizes}
+
+-- what leakage answers, and the lent tables afterwards
+pub record LeavesLeakage (k : Leaking) (r : ListedWords) (outWords : List ℕ) (outValues : List Float) (w : Work) : Type 0 where
+  pub answers : r ≡ listedOf (k .out .answer)
+  pub out-words : outWords ≡ k .out .outWords
+  pub out-values : outValues ≡ k .out .outValues
+  pub work-is : w ≡ k .work
+
+-- more places than any table of sums or candidates is lent
+abbrev pub maxPlaces : ℕ
+maxPlaces = 4294967295
+
+-- the lengths for a register, a basis of so many entries, so many protected words, actions that touch so many words, and so many
+-- candidates at a time: twice as many slots as words, and a log of as many entries as the candidates or the words of one action
+unfoldable pub leakageSizes : ℕ → ℕ → ℕ → ℕ → ℕ → LeakageSizes
+leakageSizes qubits entries protected touched candidates =
+    let rows : ℕ = rowLanes * min qubits maxQubits in
+    let e : ℕ = min entries maxWords in
+    let p : ℕ = min protected maxWords in
+    let t : ℕ = min touched maxPlaces in
+    let c : ℕ = min candidates maxPlaces in
+    let l : ℕ = max t c in
+    record {
+      «h_index» = rows;
+      «j_index» = rows;
+      mask = rowLanes;
+      «work_words» = 4 * t;
+      «work_sums» = 2 * t;
+      order = e;
+      heads = 2 * e;
+      nexts = e;
+      «fixed_heads» = 2 * p;
+      «fixed_nexts» = p;
+      «log_words» = 4 * l;
+      «log_values» = l;
+      «cand_words» = 4 * c;
+      «cand_sums» = c;
+      «next_words» = 4 * c;
+      «next_sums» = c;
+      «place_order» = l;
+      «place_work» = l;
+      «place_kept» = c;
+    }

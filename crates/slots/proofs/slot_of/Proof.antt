@@ -1,0 +1,15 @@
+-- SPDX-FileCopyrightText: 2026 The PPVM Authors
+-- SPDX-License-Identifier: Apache-2.0
+
+-- `slot_of` meets its contract. Assumes nothing.
+use borrow.Author.Needs.{needs}
+use Rattle.slots.specs.Slots.{slotOf}
+use Rattle.slots.proofs.slot_of.Statement.{statement}
+use Rattle.slots.proofs.slot_of.Tie as tie
+
+returns : tie.Need-returns
+unfolding slotOf
+returns c = rw (c .word-hash .ensures)
+
+pub slot-of-spec : {M : Type 1} → statement M
+slot-of-spec = tie.close (tie.spec (λ c κs. search needs) (λ c. search needs) (λ c. search needs) returns)

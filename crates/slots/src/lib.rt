@@ -1,0 +1,92 @@
+// SPDX-FileCopyrightText: 2026 The PPVM Authors
+// SPDX-License-Identifier: Apache-2.0
+
+// Where a word stands in a flat list of words, by chains of places whose words have the same slot. More
+// slots than words keep the chains short; the answers do not depend on their number.
+ghost use mathlib.Core.Path.{_≡_};
+ghost use Prim.Native.Nat.{_*_, _≤_, _<_};
+ghost use lib.ListN.{length};
+ghost use Rattle.word.specs.Flat.{words};
+ghost use Rattle.order.specs.Places.{isAmong};
+ghost use Rattle.slots.specs.Slots.{laneHash, wordHash, slotOf, lastOf, Slotted};
+use table::clear::clear_lanes;
+use word::flat::WORD_LANES;
+use word::flat::word_at;
+use word::word::Word;
+use word::word::same_word;
+
+const HALF: u64 = 4_294_967_296;
+
+fn lane_hash(a: u64, b: u64, lane: u64) -> u64
+    requires { ⌜ (a < 4294967296) × (b < 4294967296) ⌝ }
+    ensures { λ r. ⌜ r ≡ laneHash a b lane ⌝ }
+{
+    ((lane % HALF) * a) ^ ((lane / HALF) * b)
+}
+
+fn word_hash(w: Word) -> u64
+    ensures { λ r. ⌜ r ≡ wordHash w ⌝ }
+{
+    let x0 = lane_hash(0x9e37_79b1, 0x85eb_ca77, w.x[0]);
+    let x1 = lane_hash(0xc2b2_ae3d, 0x27d4_eb2f, w.x[1]);
+    let z0 = lane_hash(0x1656_67b1, 0xd3a2_646d, w.z[0]);
+    let z1 = lane_hash(0xfd70_46c5, 0xb55a_4f09, w.z[1]);
+    (x0 ^ x1) ^ (z0 ^ z1)
+}
+
+// The slot of a word.
+fn slot_of(w: Word, slots: usize) -> usize
+    requires { ⌜ 0 < slots ⌝ }
+    ensures { λ r. ⌜ r ≡ slotOf slots w ⌝ }
+{
+    let h = word_hash(w);
+    let folded = (h ^ (h / HALF)) % HALF;
+    (folded * 0x9e37_79b1 / 1_048_576) as usize % slots
+}
+
+// Lays the chains of all words of a list; a place of nexts for each word, and at least as many slots.
+pub fn lay_slots(lanes: &[u64], heads: &mut [u64], nexts: &mut [u64])
+    requires { ⌜ (4 * length (now nexts) ≡ length (now lanes)) × (length (now nexts) ≤ length (now heads)) ⌝ }
+    ensures { λ _. ⌜ Slotted (words (now (lanes .entry))) (now (heads .exit)) (now (nexts .exit)) ⌝ }
+{
+    clear_lanes(heads);
+    let slots = heads.len();
+    let mut i = 0;
+    while i < nexts.len() {
+        let w = word_at(lanes, i);
+        let s = slot_of(w, slots);
+        nexts[i] = heads[s];
+        heads[s] = i as u64 + 1;
+        i += 1;
+    }
+}
+
+// One more than the last place of w, or 0.
+pub fn last_place(lanes: &[u64], heads: &[u64], nexts: &[u64], w: Word) -> usize
+    requires { ⌜ Slotted (words (now lanes)) (now heads) (now nexts) ⌝ }
+    ensures { λ r. ⌜ r ≡ lastOf w (words (now (lanes .entry))) (length (words (now (lanes .entry)))) ⌝ }
+{
+    let slots = heads.len();
+    if slots == 0 {
+        return 0;
+    }
+    let s = slot_of(w, slots);
+    let mut at = heads[s] as usize;
+    while 0 < at {
+        let v = word_at(lanes, at - 1);
+        if same_word(v, w) {
+            return at;
+        }
+        at = nexts[at - 1] as usize;
+    }
+    0
+}
+
+// Whether w is one of the words.
+pub fn has_word(lanes: &[u64], heads: &[u64], nexts: &[u64], w: Word) -> bool
+    requires { ⌜ Slotted (words (now lanes)) (now heads) (now nexts) ⌝ }
+    ensures { λ r. ⌜ r ≡ isAmong w (words (now (lanes .entry))) ⌝ }
+{
+    let at = last_place(lanes, heads, nexts, w);
+    at != 0
+}
