@@ -7,8 +7,8 @@
 //! and the room rule had to choose between no equals; its list is put in word order and laid over that
 //! of the rules. A difference is expected where two words have one hash, which is all that the Rust
 //! looks at, and where a number of the model is near a tolerance, which the Rust compares with a hypot;
-//! and only if the Rust answers as the rules with hashes or with hypots do. Cases of the first sort are
-//! counted by themselves.
+//! and only if the Rust answers as the rules with hashes or with hypots do, or, where these have to choose
+//! between equals, with numbers as large. Cases of the first sort are counted by themselves.
 
 use super::models::by_answer;
 use super::standing::Standing;
@@ -130,8 +130,15 @@ impl Asked {
         course.map_or(Vec::new(), |course| course.list(-1.0))
     }
 
-    /// The list of the rules by hashes, and perhaps by hypots; nothing where it ties.
-    fn by_hashes(&self, rng: &mut Rng, case: &Case, hypots: bool) -> Option<Vec<(Word, f64)>> {
+    /// Whether a list is that of the rules by hashes, and perhaps by hypots; where these tie at the cut, one
+    /// of numbers as large.
+    fn by_hashes(
+        &self,
+        rng: &mut Rng,
+        case: &Case,
+        hypots: bool,
+        list: &[(Word, f64)],
+    ) -> Option<bool> {
         let Entries { words, coeffs } = &self.entries;
         let is_outside = published::outside_by_hash(self.n_qubits(), words, &case.protected);
         let other;
@@ -144,8 +151,24 @@ impl Asked {
             }
         };
         let course = rules::course(acting, &is_outside, case.free())?;
-        (!course.tied).then(|| course.list(threshold(case.given.limits)))
+        let by_rules = course.list(threshold(case.given.limits));
+        Some(match course.tied {
+            false => bits_of(&by_rules) == bits_of(list),
+            true => sizes_of(&by_rules) == sizes_of(list),
+        })
     }
+}
+
+/// The words of a list with their numbers' bits.
+fn bits_of(list: &[(Word, f64)]) -> Vec<(Word, u64)> {
+    list.iter().map(|&(w, x)| (w, x.to_bits())).collect()
+}
+
+/// The magnitudes in a list, in order.
+fn sizes_of(list: &[(Word, f64)]) -> Vec<u64> {
+    let mut sizes: Vec<u64> = list.iter().map(|(_, x)| x.abs().to_bits()).collect();
+    sizes.sort_unstable();
+    sizes
 }
 
 /// What leakage of a basis is asked with.
@@ -204,17 +227,16 @@ fn leak(rng: &mut Rng, tallies: &mut Tallies, asked: &Asked, case: &Case, room: 
     let port = answer(port::leakage_with_prune);
     let accepted = rules.listed.status.refusal == 0;
     let tied = accepted && case.is_tied();
-    let rust = match &asked.rust {
-        Some(model) if accepted && !tied => Some(rules.with(&rust_list(model, asked, case))),
+    let list = match &asked.rust {
+        Some(model) if accepted && !tied => Some(rust_list(model, asked, case)),
         _ => None,
     };
-    let differs = rust.as_ref().filter(|rust| **rust != rules);
-    let mut gives = |rust: &Outcome, hypots: bool| {
-        let list = asked.by_hashes(rng, case, hypots);
-        list.is_some_and(|list| *rust == rules.with(&list))
-    };
-    let one_hash = differs.is_some_and(|rust| gives(rust, false));
-    let listed = one_hash || differs.is_some_and(|rust| gives(rust, true));
+    let rust = list.as_ref().map(|list| rules.with(list));
+    let differs = list.filter(|_| rust.as_ref() != Some(&rules));
+    let mut gives =
+        |list: &[(Word, f64)], hypots: bool| asked.by_hashes(rng, case, hypots, list) == Some(true);
+    let one_hash = differs.as_ref().is_some_and(|list| gives(list, false));
+    let listed = one_hash || differs.as_ref().is_some_and(|list| gives(list, true));
     let tally = match rules.listed.status.refusal {
         _ if one_hash => &mut tallies.one_hash,
         _ if tied => &mut tallies.tied,

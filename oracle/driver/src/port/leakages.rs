@@ -80,6 +80,33 @@ pub struct LeakRoom {
 }
 
 impl LeakRoom {
+    /// Tables of these lengths, and so many places to list into.
+    pub fn of(lengths: &LeakageSizes, listed: usize) -> Self {
+        Self {
+            h_index: vec![0; lengths.h_index],
+            j_index: vec![0; lengths.j_index],
+            mask: vec![0; lengths.mask],
+            work_words: vec![0; lengths.work_words],
+            work_sums: vec![0.0; lengths.work_sums],
+            order: vec![0; lengths.order],
+            heads: vec![0; lengths.heads],
+            nexts: vec![0; lengths.nexts],
+            fixed_heads: vec![0; lengths.fixed_heads],
+            fixed_nexts: vec![0; lengths.fixed_nexts],
+            log_words: vec![0; lengths.log_words],
+            log_values: vec![0.0; lengths.log_values],
+            cand_words: vec![0; lengths.cand_words],
+            cand_sums: vec![0.0; lengths.cand_sums],
+            next_words: vec![0; lengths.next_words],
+            next_sums: vec![0.0; lengths.next_sums],
+            place_order: vec![0; lengths.place_order],
+            place_work: vec![0; lengths.place_work],
+            place_kept: vec![0; lengths.place_kept],
+            out_words: vec![0; 4 * listed],
+            out_values: vec![0.0; listed],
+        }
+    }
+
     /// The tables of lanes and places that are work tables.
     pub fn work_lanes(&mut self) -> [&mut Vec<u64>; 15] {
         [
