@@ -2,7 +2,7 @@
 // SPDX-License-Identifier: Apache-2.0
 
 // Compares the port with answers of the published Rust, recorded on standard input, bit for bit; kinds
-// 6, 8, 11, 15 and 18 have answers of document 01 that the Rust does not give.
+// 6, 8, 11, 15, 18 and 24 have answers of document 01 that the Rust does not give.
 //
 // A case is a line of lower-case hexadecimal numbers with a space between two; the first is its
 // kind, which says what the others are. `#` starts a comment to the end of the line. The program
@@ -11,9 +11,12 @@
 mod actions;
 mod bases;
 mod float;
+mod generators;
 mod judge;
 mod leakages;
 mod models;
+mod norms;
+mod products;
 mod read;
 mod tally;
 mod words;
@@ -40,7 +43,22 @@ fn replay_case(kind: u64, line: &[u8], c: Cursor) -> Verdict {
         5..=11 => models::build(line, c, kind),
         12..=14 => bases::call(line, c, kind),
         15 => bases::named_call(line, c),
-        16..=18 => models::build(line, c, kind),
+        16..=21 => models::build(line, c, kind),
+        22 => products::multiply(line, c),
+        23 => norms::degree(line, c),
+        24 => replay_named(line, c),
+        _ => Verdict::Malformed,
+    }
+}
+
+// A case of the kind that comes first on the line: of generators, norms and products.
+fn replay_named(line: &[u8], c: Cursor) -> Verdict {
+    let Read::Number(kind, c1) = read::number(line, c) else {
+        return Verdict::Malformed;
+    };
+    match kind {
+        19..=21 => models::build(line, c1, kind),
+        22 => products::multiply(line, c1),
         _ => Verdict::Malformed,
     }
 }

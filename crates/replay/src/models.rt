@@ -12,7 +12,9 @@
 //   8 as 7, for refusals that the Rust does not have
 // Numbers are recorded by their bits. Where the Rust or document 01 refused, the recorded counts are 0.
 use crate::actions;
+use crate::generators;
 use crate::leakages;
+use crate::norms;
 use crate::read;
 use crate::read::Cursor;
 use crate::read::Filled;
@@ -54,7 +56,7 @@ fn judged_build(line: &[u8], c: Cursor, answer: BuiltModel) -> Verdict {
     tally::judged(agrees)
 }
 
-// The same, or, for the kinds about actions and leakage, those of what was built against the recorded ones.
+// The same, or, for the other kinds, what they ask about what was built against the recorded answers.
 fn judged(
     line: &[u8],
     c: Cursor,
@@ -69,6 +71,33 @@ fn judged(
 ) -> Verdict {
     if kind < 9 {
         return judged_build(line, c, built);
+    }
+    if kind == 21 {
+        return norms::degree_of(
+            line,
+            c,
+            built,
+            h_words,
+            h_coeffs,
+            jumps,
+            rates,
+            t_words,
+            t_numbers,
+        );
+    }
+    if 18 < kind {
+        return generators::generate(
+            line,
+            c,
+            kind,
+            built,
+            h_words,
+            h_coeffs,
+            jumps,
+            rates,
+            t_words,
+            t_numbers,
+        );
     }
     if 15 < kind {
         return leakages::leak(
@@ -427,7 +456,7 @@ fn build_texts(line: &[u8], c: Cursor, kind: u64, n_qubits: usize, texts: &mut [
     build_lengths(line, c2, kind, n_qubits, texts, &mut room[0..n])
 }
 
-// Kinds 5 to 11 and 16 to 18.
+// Kinds 5 to 11 and 16 to 21.
 pub fn build(line: &[u8], c: Cursor, kind: u64) -> Verdict {
     let Read::Number(n_qubits, c1) = read::number(line, c) else {
         return Verdict::Malformed;

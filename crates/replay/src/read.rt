@@ -145,6 +145,24 @@ pub fn numbers(line: &[u8], c: Cursor, out: &mut [u64]) -> Filled {
     Filled::Whole(next)
 }
 
+// As many numbers below 2^32 as there are places.
+pub fn narrow(line: &[u8], c: Cursor, out: &mut [u32]) -> Filled {
+    let mut next = c;
+    let mut i = 0;
+    while i < out.len() {
+        let Read::Number(value, after) = number(line, next) else {
+            return Filled::Malformed;
+        };
+        if 0xffff_ffff < value {
+            return Filled::Malformed;
+        }
+        out[i] = value as u32;
+        next = after;
+        i += 1;
+    }
+    Filled::Whole(next)
+}
+
 // As many f64 numbers, recorded by their bits, as there are places.
 pub fn floats(line: &[u8], c: Cursor, out: &mut [f64]) -> Filled {
     let mut next = c;

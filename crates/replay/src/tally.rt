@@ -27,7 +27,7 @@ pub fn same_status(a: Status, b: Status) -> bool {
 }
 
 // Kinds are counted from 1; place 0 stays empty.
-const KINDS: usize = 19;
+const KINDS: usize = 25;
 
 // The lines that are named before the counts; more would hide them.
 const NAMED: u64 = 10;
@@ -86,14 +86,14 @@ impl Tally {
     }
 
     fn with_case(mut self, k: usize) -> Tally
-        requires { ⌜ k < 19 ⌝ }
+        requires { ⌜ k < 25 ⌝ }
     {
         self.cases[k] = one_more(self.cases[k]);
         self
     }
 
     fn with_disagreement(mut self, k: usize, line_number: u64) -> Tally
-        requires { ⌜ k < 19 ⌝ }
+        requires { ⌜ k < 25 ⌝ }
     {
         self.disagreements[k] = one_more(self.disagreements[k]);
         self.naming(line_number, b" disagrees\n")
@@ -149,6 +149,20 @@ impl Tally {
             b"leakage without the Rust",
             self.cases[18],
             self.disagreements[18],
+        );
+        print_kind(b"generators", self.cases[19], self.disagreements[19]);
+        print_kind(b"matrices by rows", self.cases[20], self.disagreements[20]);
+        print_kind(b"norms and degrees", self.cases[21], self.disagreements[21]);
+        print_kind(
+            b"products of matrices",
+            self.cases[22],
+            self.disagreements[22],
+        );
+        print_kind(b"degrees", self.cases[23], self.disagreements[23]);
+        print_kind(
+            b"generators, norms and products without the Rust",
+            self.cases[24],
+            self.disagreements[24],
         );
         text(b"malformed lines: ");
         number(self.malformed);
