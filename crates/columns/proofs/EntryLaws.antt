@@ -7,8 +7,8 @@ use mathlib.Core.List.{List, [], _∷_, _++_, map}
 use Prim.Native.Nat.{ℕ, zero, suc, _+_, _≤_, _<_}
 use native.Mathlib.Numerals.{add-one}
 use native.Mathlib.Omega.{arith}
-use lib.Ieee.{Float}
-use lib.ListN.{length, take, set}
+use lib.Ieee.{Float, nan}
+use lib.ListN.{length, getD, take, set}
 use lib.Seq.{take-suc-set, length-take-le}
 use Rattle.columns.specs.Entries.{Entry, entry, entries, staged}
 
@@ -63,3 +63,12 @@ staged-values (suc n) [] cs vs a b d = absurd (omega arith)
 staged-values (suc n) (x ∷ rs) [] vs a b d = absurd (omega arith)
 staged-values (suc n) (x ∷ rs) (y ∷ cs) [] a b d = refl
 staged-values (suc n) (x ∷ rs) (y ∷ cs) (z ∷ vs) a b d = ap (λ (l : List Float). z ∷ l) (staged-values n rs cs vs (omega arith) (omega arith) (omega arith))
+
+pub staged-at : (n : ℕ) (rs cs : List ℕ) (vs : List Float) (k : ℕ) (d : Entry) → k < n → n ≤ length rs → n ≤ length cs → n ≤ length vs → getD (staged n rs cs vs) k d ≡ entry (getD rs k 0) (getD cs k 0) (getD vs k nan)
+unfolding entries
+staged-at zero rs cs vs k d h a b e = absurd (omega arith)
+staged-at (suc n) [] cs vs k d h a b e = absurd (omega arith)
+staged-at (suc n) (x ∷ rs) [] vs k d h a b e = absurd (omega arith)
+staged-at (suc n) (x ∷ rs) (y ∷ cs) [] k d h a b e = absurd (omega arith)
+staged-at (suc n) (x ∷ rs) (y ∷ cs) (z ∷ vs) zero d h a b e = refl
+staged-at (suc n) (x ∷ rs) (y ∷ cs) (z ∷ vs) (suc k) d h a b e = staged-at n rs cs vs k d (omega arith) (omega arith) (omega arith) (omega arith)
