@@ -5,7 +5,8 @@
 // slots than words keep the chains short; the answers do not depend on their number.
 ghost use mathlib.Core.Path.{_≡_};
 ghost use Prim.Native.Nat.{_*_, _≤_, _<_};
-ghost use lib.ListN.{length};
+ghost use lib.ListN.{length, getD};
+ghost use Rattle.word.specs.Word.{identity};
 ghost use Rattle.word.specs.Flat.{words};
 ghost use Rattle.order.specs.Places.{isAmong};
 ghost use Rattle.slots.specs.Slots.{laneHash, wordHash, slotOf, lastOf, Slotted};
@@ -72,6 +73,23 @@ pub fn last_place(lanes: &[u64], heads: &[u64], nexts: &[u64], w: Word) -> usize
     }
     let s = slot_of(w, slots);
     let mut at = heads[s] as usize;
+    while 0 < at {
+        let v = word_at(lanes, at - 1);
+        if same_word(v, w) {
+            return at;
+        }
+        at = nexts[at - 1] as usize;
+    }
+    0
+}
+
+// One more than the last place before i of the word at i, or 0.
+pub fn place_before(lanes: &[u64], heads: &[u64], nexts: &[u64], i: usize) -> usize
+    requires { ⌜ Slotted (words (now lanes)) (now heads) (now nexts) × (i < length (words (now lanes))) ⌝ }
+    ensures { λ r. ⌜ r ≡ lastOf (getD (words (now (lanes .entry))) i identity) (words (now (lanes .entry))) i ⌝ }
+{
+    let w = word_at(lanes, i);
+    let mut at = nexts[i] as usize;
     while 0 < at {
         let v = word_at(lanes, at - 1);
         if same_word(v, w) {
