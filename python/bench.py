@@ -136,13 +136,14 @@ def compare(what, package, direct, rounds):
 
 
 def loading():
-    """Seconds until a word was read, in a fresh process."""
+    """Seconds until a word was read, in a fresh process: the clock's and the processor's."""
     program = (
-        "import time; start = time.perf_counter(); import pebblelinen; pebblelinen.Word('X', n=1);"
-        "print(time.perf_counter() - start)"
+        "import time; clocks = time.perf_counter, time.process_time; start = [c() for c in clocks];"
+        "import pebblelinen; pebblelinen.Word('X', n=1);"
+        "print(*(c() - s for c, s in zip(clocks, start)))"
     )
-    ran = [subprocess.run([sys.executable, "-c", program], capture_output=True, text=True) for _ in range(9)]
-    return min(float(each.stdout) for each in ran)
+    ran = [subprocess.run([sys.executable, "-c", program], capture_output=True, text=True) for _ in range(15)]
+    return [min(times) for times in zip(*(map(float, each.stdout.split()) for each in ran))]
 
 
 def main():
@@ -175,9 +176,9 @@ def main():
     worst = max(
         compare(what, package, direct(), options.rounds) for what, package, direct in comparisons
     )
-    load = loading()
-    print(f"loading: {load:.3f} s")
-    return 0 if worst < 0.05 and load < 0.3 else 1
+    clock, processor = loading()
+    print(f"loading: {clock:.3f} s, {processor:.3f} s of the processor")
+    return 0 if worst < 0.05 and processor < 0.3 else 1
 
 
 if __name__ == "__main__":

@@ -5,6 +5,7 @@
 Only what cannot be handed over is turned away here. Ranges and limits are the library's to judge: a NaN,
 a rate below 0 or 70,000 words go through."""
 import operator
+from collections.abc import Mapping
 
 import numpy as np
 
@@ -62,9 +63,9 @@ def shown(given):
 
 def pairs(given, what, path=()):
     """A list of pairs, given as such or as a mapping."""
-    items = listed(given.items() if hasattr(given, "items") else given, what, path)
+    items = listed(given.items() if isinstance(given, Mapping) else given, what, path)
     for place, item in enumerate(items):
-        if isinstance(item, (str, bytes)) or not hasattr(item, "__len__") or len(item) != 2:
+        if isinstance(item, (str, bytes, Mapping)) or not hasattr(item, "__len__") or len(item) != 2:
             raise InputError(f"{what} {place} is {shown(item)}: a pair is needed", (*path, place))
     return items
 

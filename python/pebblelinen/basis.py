@@ -6,11 +6,23 @@ from typing import NamedTuple
 
 import numpy as np
 
-from . import _given, _library, words
+from . import _given, _library
 from ._tables import work_tables, zeros
 from .errors import InputError, Refusal
 from .terms import Terms
-from .words import Position, Qubit, Word
+from .words import (
+    MAX_QUBITS,
+    AnyWord,
+    Position,
+    Qubit,
+    Word,
+    lanes_of,
+    made,
+    qubits,
+    register,
+    table,
+    text_refusal,
+)
 
 # The most words of a list, and the largest word limit.
 MAX_WORDS = 65_536
@@ -35,21 +47,21 @@ class Basis:
     mapping.
     """
 
-    def __init__(self, n, entries=()):
-        self.n = words.register(n)
+    def __init__(self, n: int, entries=()):
+        self.n = register(n)
         terms = Terms.of(entries, n=self.n)
         self._hold(terms.lanes, terms.values, own=not isinstance(entries, Terms))
 
     @classmethod
-    def from_arrays(cls, n, words_, coefficients=None):
+    def from_arrays(cls, n: int, words, coefficients=None) -> "Basis":
         """The basis of an array of lanes, of the shape (entries, 4), and one of coefficients, which are
         0 where none are given.
 
         Arrays that can be lent as they are are not copied: the basis reads them where they are, and
         takes a copy of its own before it changes anything."""
         self = object.__new__(cls)
-        self.n = words.register(n)
-        lanes = _given.lanes(words_, "words")
+        self.n = register(n)
+        lanes = _given.lanes(words, "words")
         if coefficients is None:
             coefficients = np.zeros(len(lanes) // 4)
         self._hold(lanes, _given.numbers(coefficients, "coefficients"), own=False)
@@ -67,12 +79,12 @@ class Basis:
         # The library reads and writes the tables while other threads run.
         self._lock = threading.RLock()
 
-    def copy(self):
+    def copy(self) -> "Basis":
         with self._lock:
-            made = object.__new__(Basis)
-            made.n = self.n
-            made._hold(self.lanes.copy(), self.coefficients.copy(), own=True)
-            return made
+            other = object.__new__(Basis)
+            other.n = self.n
+            other._hold(self.lanes.copy(), self.coefficients.copy(), own=True)
+            return other
 
     __copy__ = copy
 
@@ -111,63 +123,63 @@ class Basis:
     def __len__(self):
         return self._len
 
-    def entry(self, *, position):
+    def entry(self, *, position: Position | int) -> Entry:
         """The entry at a position."""
         p = int(Position(position))
         if p >= self._len:
             raise InputError(f"position {p} is outside the basis of {self._len} entries")
         lanes = self._lanes[4 * p : 4 * p + 4].tolist()
-        return Entry(Position(p), words.made(lanes, self.n), float(self._coefficients[p]))
+        return Entry(Position(p), made(lanes, self.n), float(self._coefficients[p]))
 
     def __iter__(self):
         for p in range(self._len):
             yield self.entry(position=p)
 
-    def positions(self, word):
+    def positions(self, word: AnyWord) -> list[Position]:
         """The positions at which a word stands."""
-        lanes = np.array(words.lanes_of(word, self.n), np.uint64)
+        lanes = np.array(lanes_of(word, self.n), np.uint64)
         return [Position(p) for p in np.flatnonzero((self.words == lanes).all(axis=1)).tolist()]
 
-    def touching(self, *, qubit):
+    def touching(self, *, qubit: Qubit | int) -> list[Position]:
         """The positions whose words have a letter other than I at a qubit."""
         q = int(Qubit(qubit))
-        if q >= min(self.n, words.MAX_QUBITS):
-            raise InputError(f"qubit {q} is outside the register of {words.qubits(self.n)}")
+        if q >= min(self.n, MAX_QUBITS):
+            raise InputError(f"qubit {q} is outside the register of {qubits(self.n)}")
         lane, bit = q // 64, np.uint64(1 << q % 64)
         found = (self.words[:, lane] | self.words[:, 2 + lane]) & bit
         return [Position(p) for p in np.flatnonzero(found).tolist()]
 
-    def by_site(self):
+    def by_site(self) -> dict[str, float]:
         """The coefficients by the words' texts: {"X12 Z40": 0.5}. Of a word that comes twice, the
         last."""
         return {entry.word.by_site: entry.coefficient for entry in self}
 
     def __str__(self):
-        lines = [f"basis of {self._len} entries on {words.qubits(self.n)}"]
+        lines = [f"basis of {self._len} entries on {qubits(self.n)}"]
         lines += [str(self.entry(position=p)) for p in range(min(self._len, _SHOWN))]
         if self._len > _SHOWN:
             lines.append(f".. and {self._len - _SHOWN} more")
         return "\n".join(lines)
 
     def __repr__(self):
-        return f"Basis of {self._len} entries on {words.qubits(self.n)}"
+        return f"Basis of {self._len} entries on {qubits(self.n)}"
 
     # ---- changes ----
 
-    def prune(self, *, drop_tol, protected=()):
+    def prune(self, *, drop_tol: float, protected=()) -> int:
         """Drops the entries whose coefficient is below drop_tol in magnitude, but for those of protected
         words. Returns how many entries there are then."""
         drop_tol = _given.real(drop_tol, "drop_tol")
         return self._shorten("prune_basis", drop_tol, protected, {}, {"drop_tol": drop_tol})
 
-    def cap(self, *, limit, protected=()):
+    def cap(self, *, limit: int, protected=()) -> int:
         """Keeps the entries of protected words and the largest others, so many that there are limit in
         all; of equally large ones the lower positions. Returns how many entries there are then."""
         limit = _given.whole(limit, "limit")
         return self._shorten("cap_basis", limit, protected, {"limit": limit}, {})
 
     def _shorten(self, name, number, protected, limits, thresholds):
-        fixed = words.table(protected, self.n, "protected")
+        fixed = table(protected, self.n, "protected")
         with self._lock:
             self._take_over()
             fixed = self._apart(fixed)
@@ -188,7 +200,7 @@ class Basis:
             self._len = kept.entries
             return self._len
 
-    def admit(self, listed, *, limit):
+    def admit(self, listed, *, limit: int) -> int:
         """Appends words, each with coefficient 0, in the order in which they are listed: as many as
         there is room for below limit, those whose listed value is largest in magnitude. Returns how many
         entries there are then.
@@ -216,9 +228,11 @@ class Basis:
                         work,
                         flags,
                     )
-                if kept.status.refusal != 13:
+                # Places for the entries and all that is listed are enough.
+                places, enough = kept.status.second, self._len + len(list_) // 4
+                if kept.status.refusal != 13 or places >= enough:
                     break
-                self._reserve(min(2 * kept.status.second + 64, self._len + len(list_) // 4))
+                self._reserve(min(2 * places + 64, enough))
             if kept.status.refusal:
                 raise refusal(kept.status, self, "listed", list_, {"limit": limit}, {}, values)
             self._len = kept.entries
@@ -242,7 +256,7 @@ class Basis:
         self._lanes, self._coefficients = lanes, coefficients
 
 
-def refusal(status, basis, others, lanes, limits, thresholds, values=None):
+def refusal(status, basis, others="", lanes=(), limits={}, thresholds={}, values=None):
     """The refusal of a call on a basis, with its values under names.
 
     others       what a second list of words is called, and its lanes; its values, where it has some
@@ -251,7 +265,7 @@ def refusal(status, basis, others, lanes, limits, thresholds, values=None):
     """
     number, first, second = status.refusal, status.first, status.second
     if number == 1:
-        return words.text_refusal(status, "", basis.n)
+        return text_refusal(status, "", basis.n)
     if number == 8:
         said = _count_said(first, basis, others, lanes, limits)
         return Refusal(8, f"{said}: at most {MAX_WORDS}", {"count": first, "limit": MAX_WORDS})
@@ -264,7 +278,7 @@ def refusal(status, basis, others, lanes, limits, thresholds, values=None):
     if number == 11:
         return _outside(first, basis, others)
     if number == 7:
-        return _not_finite(first, basis, others, thresholds)
+        return _number_refusal(first, basis, others, thresholds)
     if number == 12:
         entry = basis.entry(position=first)
         said = f"the word {entry.word.by_site} at position {first} stood at a lower position"
@@ -275,11 +289,10 @@ def refusal(status, basis, others, lanes, limits, thresholds, values=None):
     return too_short(status)
 
 
-def too_short(status):
+def too_short(status, why=""):
     """Refusal 13, where there are no more places to lend."""
-    table, places = status.first, status.second
-    said = f"table {table} needs more than {places} places"
-    return Refusal(13, said, {"table": table, "places": places})
+    said = f"table {status.first} needs more than {status.second} places{why}"
+    return Refusal(13, said, {"table": status.first, "places": status.second})
 
 
 def _count_said(count, basis, others, lanes, limits):
@@ -302,16 +315,21 @@ def _outside(place, basis, others):
     return Refusal(11, said, {"place": place, "qubits": basis.n}, (place,))
 
 
-def _not_finite(index, basis, others, thresholds):
+def _number_refusal(index, basis, others, thresholds):
     """Coefficients are tested first, then listed values or thresholds, which count on from them."""
     if index < len(basis):
         coefficient = basis.entry(position=index).coefficient
         said = f"the coefficient at position {index} is {coefficient}: a finite number is needed"
         return Refusal(7, said, {"position": Position(index)})
-    if not thresholds:
-        place = index - len(basis)
-        said = f"the value of the {others} word in place {place} is not finite"
-        return Refusal(7, said, {"place": place}, (place,))
+    if thresholds:
+        return not_finite(thresholds)
+    place = index - len(basis)
+    said = f"the value of the {others} word in place {place} is not finite"
+    return Refusal(7, said, {"place": place}, (place,))
+
+
+def not_finite(thresholds):
+    """The refusal of the first number that is not finite."""
     name = next((name for name, x in thresholds.items() if not np.isfinite(x)), "a threshold")
     said = f"{name} is {thresholds.get(name)}: a finite number is needed"
     return Refusal(7, said, {"threshold": name})

@@ -42,7 +42,7 @@ def csr(offsets, columns, values):
     return made
 
 
-def product(matrix, vector, *, out=None, add=False):
+def product(matrix, vector, *, out: np.ndarray | None = None, add: bool = False) -> np.ndarray:
     """The product of a CSR matrix, as Model.csr gives it, with a vector: by row, summed in the order of
     columns, zeros of the vector skipped. It is written to `out`, or added to what is there, where an
     array of float64 is given; `out` is returned."""
@@ -65,7 +65,7 @@ def product(matrix, vector, *, out=None, add=False):
     return out
 
 
-def row(matrix, *, position):
+def row(matrix, *, position: Position | int) -> tuple[np.ndarray, np.ndarray]:
     """The row of a CSR matrix at a position: its columns, which are positions, and its values, as parts
     of the matrix' arrays."""
     p = int(Position(position))
@@ -76,7 +76,7 @@ def row(matrix, *, position):
     return columns[found.start : found.end], values[found.start : found.end]
 
 
-def select_ms(t, drop_tol=0.0):
+def select_ms(t: float, drop_tol: float = 0.0) -> Choice:
     """How an exponential whose exponent has the norm t is to be computed: s stages of m products."""
     degree = _library.call("select_ms", _given.real(t, "t"), _given.real(drop_tol, "drop_tol"))
     return Choice(degree.m, degree.s)

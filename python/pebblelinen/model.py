@@ -5,12 +5,12 @@ from typing import NamedTuple
 
 import numpy as np
 
-from . import _building, _given, _library, matrix, words
+from . import _building, _given, _library, matrix
 from ._tables import MOST_TOUCHED, work_tables
-from .basis import MAX_WORDS, Basis, refusal, too_short
+from .basis import MAX_WORDS, Basis, not_finite, refusal, too_short
 from .errors import InputError, Refusal
 from .terms import Terms
-from .words import Position
+from .words import AnyWord, Position, lanes_of, qubits, register, same_register, site_text, struct_of, table
 
 # Positions that leakage takes in a pass.
 _PASS = 4096
@@ -43,8 +43,8 @@ class Model:
     Words are texts, or letters by site; see pebblelinen.words. A model cannot be changed.
     """
 
-    def __init__(self, n, hamiltonian=(), jumps=(), matrices=()):
-        n = words.register(n)
+    def __init__(self, n: int, hamiltonian=(), jumps=(), matrices=()):
+        n = register(n)
         hamiltonian = _building.hamiltonian_of(hamiltonian, n)
         jumps = _building.jumps_of(jumps, n)
         matrices = _building.matrices_of(matrices, n)
@@ -65,66 +65,92 @@ class Model:
         self.pairs = counts.jumps - len(jumps)
         self._counts = (counts.qubits, counts.hamiltonian, counts.jumps, counts.terms)
         self._tables = _building.trimmed(tables, counts)
-        # Places to begin with, which grow where the library asks for more.
+        # Places to begin with: words that an action touches, candidates, and entries of a generator. They
+        # grow where the library asks for more.
         self._touched = 256
         self._candidates = 0
         self._entries = 0
 
     def __repr__(self):
         return (
-            f"Model of {words.qubits(self.n)}: {self.hamiltonian_terms} Hamiltonian terms,"
+            f"Model of {qubits(self.n)}: {self.hamiltonian_terms} Hamiltonian terms,"
             f" {self.jumps} jumps, {self.pairs} pairs"
         )
 
     def _check(self, basis):
         if not isinstance(basis, Basis):
             raise InputError(f"{_given.shown(basis)} stands where a basis is needed")
-        words.same_register(basis, self.n, "basis")
+        same_register(basis, self.n, "basis")
 
     def _lent(self):
         return [_library.Model(*self._counts), *self._tables.values()]
 
-    # ---- the action on a word ----
-
-    def action(self, word):
-        """What the model does to a word, in the Heisenberg picture: the words with their numbers, in word
-        order."""
-        lanes = words.lanes_of(word, self.n)
+    def _lending(self, attempt, places=0, most=lambda touched: 0):
+        """The answer of attempt(touched, places), where touched are the places of table 1 and `places` those
+        of table 2 or 3. They are more each time that the library refuses them as too few, up to what can be
+        needed: every word that a model can touch, and `most` of the others. Also those other places."""
+        status = None
         while True:
             touched = self._touched
-            out_words, out_values = np.empty(4 * touched, np.uint64), np.empty(touched)
+            try:
+                answer = attempt(touched, places)
+            except MemoryError:
+                if status is None:
+                    raise
+                raise too_short(status, ": there is no memory for more") from None
+            status = answer.status
+            if status.refusal != 13:
+                break
+            if status.first == 1 and touched < MOST_TOUCHED:
+                self._touched = max(self._touched, min(4 * touched, MOST_TOUCHED))
+            elif status.first != 1 and places < most(touched):
+                places = min(2 * places + 64, most(touched))
+            else:
+                break
+        return answer, places
+
+    # ---- the action on a word ----
+
+    def action(self, word: AnyWord) -> Terms:
+        """What the model does to a word, in the Heisenberg picture: the words with their numbers, in word
+        order."""
+        lanes = lanes_of(word, self.n)
+        out = []
+
+        def attempt(touched, _):
+            # An action lists no more words than it touches.
+            out[:] = np.empty(4 * touched, np.uint64), np.empty(touched)
             with work_tables() as work:
-                listed = _library.call(
+                return _library.call(
                     "compute_action_terms",
                     *self._lent(),
-                    words.struct_of(lanes),
+                    struct_of(lanes),
                     work.table("work_words", 4 * touched),
                     work.table("work_sums", 2 * touched),
-                    out_words,
-                    out_values,
+                    *out,
                 )
-            if not self._more_touched(listed.status, touched):
-                break
+
+        listed, _ = self._lending(attempt)
         status = listed.status
         if status.refusal == 11:
-            shown = words.site_text(lanes)
-            said = f"the word {shown} has a bit at or above qubit {self.n}"
+            said = f"the word {site_text(lanes)} has a bit at or above qubit {self.n}"
             raise Refusal(11, said, {"position": Position(status.first), "qubits": self.n})
         if status.refusal:
             raise too_short(status)
-        count = listed.count
-        return Terms(self.n, out_words[: 4 * count].copy(), out_values[:count].copy())
-
-    def _more_touched(self, status, touched):
-        """Whether to lend again: an action touched more words than there were places."""
-        if status.refusal != 13 or status.first not in (1, 3) or touched >= MOST_TOUCHED:
-            return False
-        self._touched = max(self._touched, min(4 * touched, MOST_TOUCHED))
-        return True
+        words, values = out
+        return Terms(self.n, words[: 4 * listed.count].copy(), values[: listed.count].copy())
 
     # ---- leakage out of a basis ----
 
-    def leakage(self, basis, *, max_basis, admit_basis=None, tau_add=None, protected=()):
+    def leakage(
+        self,
+        basis: Basis,
+        *,
+        max_basis: int,
+        admit_basis: int | None = None,
+        tau_add: float | None = None,
+        protected=(),
+    ) -> Terms:
         """What the model moves out of a basis, onto words neither in it nor protected: at most as many as
         there is room for below max_basis, or admit_basis where that is larger, and those larger than
         tau_add in magnitude, in word order."""
@@ -140,26 +166,26 @@ class Model:
             tau_add is not None,
             thresholds.get("tau_add", 0.0),
         )
-        fixed = words.table(protected, self.n, "protected")
+        fixed = table(protected, self.n, "protected")
         with basis._lock:
+            # No more words are listed than there is room for.
             room = max(min(max(limits.values()), MAX_WORDS) - len(basis), 0)
-            status, terms = self._leak(basis, fixed, passed, room)
-            if status.refusal:
-                raise refusal(status, basis, "protected", fixed, limits, thresholds)
-        return terms
+            out = np.empty(4 * room, np.uint64), np.empty(room)
+            listed = self._leak(basis, fixed, passed, room, out)
+            if listed.status.refusal:
+                raise refusal(listed.status, basis, "protected", fixed, limits, thresholds)
+        words, values = out
+        return Terms(self.n, words[: 4 * listed.count], values[: listed.count])
 
-    def _leak(self, basis, fixed, limits, room):
+    def _leak(self, basis, fixed, limits, room, out):
         entries = len(basis)
-        out_words, out_values = np.empty(4 * room, np.uint64), np.empty(room)
-        wanted = 0
-        while True:
-            touched = self._touched
-            candidates = self._candidates_for(entries, room, wanted)
+
+        def attempt(touched, candidates):
             lengths = _library.call(
                 "leakage_sizes", self.n, entries, len(fixed) // 4, touched, candidates
             )
             with work_tables() as work:
-                listed = _library.call(
+                return _library.call(
                     "leakage_with_prune",
                     *self._lent(),
                     basis._lanes,
@@ -168,84 +194,65 @@ class Model:
                     fixed,
                     limits,
                     *work.lend(lengths),
-                    out_words,
-                    out_values,
+                    *out,
                 )
-            status = listed.status
-            if status.refusal == 13 and status.first == 2:
-                wanted = self._candidates = 2 * candidates
-            elif not self._more_touched(status, touched):
-                break
-        return status, Terms(self.n, out_words[: 4 * listed.count], out_values[: listed.count])
 
-    def _candidates_for(self, entries, room, wanted):
-        """Places for candidates. There are never more than the words of a pass's actions and, from
-        earlier passes, those that there was room for."""
-        each = self._touched
-        most = min(entries, _PASS) * each + min(room, entries * each)
-        usual = 32 * min(entries, _PASS) + min(room, 32 * entries)
-        return max(min(max(usual, self._candidates), most), wanted, 64)
+        def candidates(each):
+            """Those of a pass, and those of earlier passes that there was room for."""
+            return min(entries, _PASS) * each + min(room, entries * each)
+
+        first = min(max(candidates(32), self._candidates), candidates(self._touched))
+        listed, places = self._lending(attempt, first, candidates)
+        self._candidates = max(self._candidates, places)
+        return listed
 
     # ---- the generator over a basis ----
 
-    def generator(self, basis):
+    def generator(self, basis: Basis):
         """The model over a basis, as a scipy COO matrix: rows and columns are positions, and the column at
         a position holds the action on its word, as far as it stays in the basis. Entries stand by column,
         then by word."""
+        rows, columns, values = self._generated("generator", basis, None)
+        return matrix.coo(len(basis), rows, columns, values)
 
-        def out(entries):
-            return [
-                np.empty(entries, np.uint32),
-                np.empty(entries, np.uint32),
-                np.empty(entries, np.float64),
-            ]
-
-        count, (rows, columns, values) = self._generated("generator", basis, out)
-        return matrix.coo(len(basis), rows[:count], columns[:count], values[:count])
-
-    def csr(self, basis):
+    def csr(self, basis: Basis):
         """The same as a scipy CSR matrix, with ascending columns in every row."""
-
-        def out(entries):
-            return [
-                np.empty(len(basis) + 1, np.uint64),
-                np.empty(entries, np.uint32),
-                np.empty(entries, np.float64),
-            ]
-
-        count, (offsets, columns, values) = self._generated("build_csr", basis, out)
-        return matrix.csr(offsets, columns[:count], values[:count])
-
-    def _generated(self, name, basis, out):
-        """How many entries there are, and the tables that they stand in."""
         self._check(basis)
+        offsets = np.empty(len(basis) + 1, np.uint64)
+        return matrix.csr(offsets, *self._generated("build_csr", basis, offsets)[1:])
+
+    def _generated(self, name, basis, offsets):
+        """Rows or offsets, columns and values."""
+        self._check(basis)
+        len_ = len(basis)
+        out = []
+
+        def attempt(touched, entries):
+            rows = np.empty(entries, np.uint32) if offsets is None else offsets
+            out[:] = rows, np.empty(entries, np.uint32), np.empty(entries)
+            lengths = _library.call("generator_sizes", self.n, len_, touched, entries)
+            with work_tables() as work:
+                return _library.call(name, *self._lent(), basis._lanes, len_, *work.lend(lengths), *out)
+
+        def entries(each):
+            return len_ * min(each, len_)
+
         with basis._lock:
-            len_, wanted = len(basis), 0
-            while True:
-                touched = self._touched
-                most = len_ * min(touched, len_)
-                entries = max(min(max(8 * len_, self._entries), most), wanted)
-                lengths = _library.call("generator_sizes", self.n, len_, touched, entries)
-                tables = out(entries)
-                with work_tables() as work:
-                    listed = _library.call(
-                        name, *self._lent(), basis._lanes, len_, *work.lend(lengths), *tables
-                    )
-                status = listed.status
-                if status.refusal == 13 and status.first == 3:
-                    wanted = self._entries = 2 * entries + 64
-                elif not self._more_touched(status, touched):
-                    break
-            if status.refusal:
-                raise refusal(status, basis, "", (), {}, {})
-        return listed.count, tables
+            first = min(max(entries(8), self._entries), entries(self._touched))
+            listed, places = self._lending(attempt, first, entries)
+            self._entries = max(self._entries, places)
+            if listed.status.refusal:
+                raise refusal(listed.status, basis)
+        return [table if table is offsets else table[: listed.count] for table in out]
 
-    def norm(self, basis):
+    # ---- the exponential of the generator ----
+
+    def norm(self, basis: Basis) -> Norm:
         """The norm that bounds the generator over a basis: of the largest column, shifted by mu."""
-        normed = self._normed("norm", basis, ())
-        return Norm(normed.norm, normed.mu)
+        found = self._normed("norm", basis, {})
+        return Norm(found.norm, found.mu)
 
-    def degree(self, basis, *, dt, drop_tol=0.0):
+    def degree(self, basis: Basis, *, dt: float, drop_tol: float = 0.0) -> Degree:
         """How the exponential of dt times the generator is to be computed: s stages of m products, with
         the norm that they come from. A drop_tol of at least 1e-4 asks for less accuracy."""
         numbers = {"dt": _given.real(dt, "dt"), "drop_tol": _given.real(drop_tol, "drop_tol")}
@@ -254,33 +261,27 @@ class Model:
 
     def _normed(self, name, basis, numbers):
         self._check(basis)
+        len_ = len(basis)
+
+        def attempt(touched, _):
+            lengths = _library.call("generator_sizes", self.n, len_, touched, 0)
+            names = "h_index j_index mask work_words work_sums".split()
+            with work_tables() as work:
+                return _library.call(
+                    name,
+                    *self._lent(),
+                    basis._lanes,
+                    len_,
+                    *numbers.values(),
+                    *(work.table(each, getattr(lengths, each)) for each in names),
+                    work.table("raws", len_),
+                    work.table("diags", len_),
+                )
+
         with basis._lock:
-            len_ = len(basis)
-            while True:
-                touched = self._touched
-                lengths = _library.call("generator_sizes", self.n, len_, touched, 0)
-                with work_tables() as work:
-                    answer = _library.call(
-                        name,
-                        *self._lent(),
-                        basis._lanes,
-                        len_,
-                        *dict(numbers).values(),
-                        work.table("h_index", lengths.h_index),
-                        work.table("j_index", lengths.j_index),
-                        work.table("mask", lengths.mask),
-                        work.table("work_words", lengths.work_words),
-                        work.table("work_sums", lengths.work_sums),
-                        work.table("raws", len_),
-                        work.table("diags", len_),
-                    )
-                if not self._more_touched(answer.status, touched):
-                    break
-            status = answer.status
-            if status.refusal == 7:
-                name = next((name for name, x in numbers.items() if not np.isfinite(x)), "dt")
-                said = f"{name} is {numbers[name]}: a finite number is needed"
-                raise Refusal(7, said, {"threshold": name})
-            if status.refusal:
-                raise refusal(status, basis, "", (), {}, {})
+            answer, _ = self._lending(attempt)
+            if answer.status.refusal == 7:
+                raise not_finite(numbers)
+            if answer.status.refusal:
+                raise refusal(answer.status, basis)
         return answer

@@ -48,7 +48,7 @@ class ModelFile(NamedTuple):
     protected: list
 
 
-def load(path):
+def load(path: str | os.PathLike) -> ModelFile:
     """Reads a model file."""
     name = os.fspath(path)
     data = _read(name)

@@ -1,7 +1,8 @@
 # SPDX-FileCopyrightText: 2026 The PPVM Authors
 # SPDX-License-Identifier: Apache-2.0
 """Words with a value each, as actions and leakages list them."""
-from . import _given, words
+from . import _given
+from .words import made, qubits, register, same_register, site_text, table
 
 
 class Terms:
@@ -14,19 +15,19 @@ class Terms:
     Arrays that are given are not copied where they can be lent as they are.
     """
 
-    def __init__(self, n, words_, values):
-        self.n = words.register(n)
-        self.lanes = _given.lanes(words_, "words")
+    def __init__(self, n: int, words, values):
+        self.n = register(n)
+        self.lanes = _given.lanes(words, "words")
         self.values = _given.numbers(values, "values")
 
     @classmethod
-    def of(cls, given, *, n):
+    def of(cls, given, *, n: int) -> "Terms":
         """The terms of (word, value) pairs or of a mapping; terms are taken as they are."""
         if isinstance(given, Terms):
-            return words.same_register(given, n, "list")
+            return same_register(given, n, "list")
         items = _given.pairs(given, "term")
-        values = [_given.real(value, f"the value of term {i}", (i,)) for i, (_, value) in enumerate(items)]
-        return cls(n, words.table((word for word, _ in items), n, "words"), values)
+        lanes = table([word for word, _ in items], n, "words")
+        return cls(n, lanes, [_given.real(x, f"value {i}", (i,)) for i, (_, x) in enumerate(items)])
 
     @property
     def words(self):
@@ -38,13 +39,13 @@ class Terms:
     def __iter__(self):
         """(word, value), one after another."""
         for lanes, value in zip(self.words.tolist(), self.values.tolist()):
-            yield words.made(lanes, self.n), value
+            yield made(lanes, self.n), value
 
-    def by_site(self):
+    def by_site(self) -> dict[str, float]:
         """The values by the words' texts: {"X12 Z40": 0.5}. Of a word that comes twice, the last."""
-        return dict(zip(map(words.site_text, self.words.tolist()), self.values.tolist()))
+        return dict(zip(map(site_text, self.words.tolist()), self.values.tolist()))
 
-    def largest(self):
+    def largest(self) -> float:
         """The largest magnitude; 0 where there are no words."""
         return float(abs(self.values).max(initial=0.0))
 
@@ -54,4 +55,4 @@ class Terms:
         return "\n".join(f"{text:{width}}  {' ' * (value >= 0)}{value!r}" for text, value in shown)
 
     def __repr__(self):
-        return f"Terms of {len(self)} words on {words.qubits(self.n)}"
+        return f"Terms of {len(self)} words on {qubits(self.n)}"

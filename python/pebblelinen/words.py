@@ -90,7 +90,7 @@ class Word:
 
     __slots__ = ("n", "lanes")
 
-    def __init__(self, word, *, n):
+    def __init__(self, word: "AnyWord", *, n: int):
         n = register(n)
         _set(self, n, lanes_of(word, n))
 
@@ -98,7 +98,7 @@ class Word:
         raise AttributeError("a word cannot be changed")
 
     @classmethod
-    def from_lanes(cls, lanes, *, n):
+    def from_lanes(cls, lanes, *, n: int) -> "Word":
         """The word of four lanes x[0], x[1], z[0], z[1]: qubit q is bit q % 64 of lane q / 64. Calls
         that take the word test it."""
         lanes = tuple(_given.whole(lane, "a lane") for lane in _given.listed(lanes, "lanes"))
@@ -107,7 +107,7 @@ class Word:
         return made(lanes, register(n))
 
     @classmethod
-    def from_codes(cls, codes):
+    def from_codes(cls, codes) -> "Word":
         """The word of codes, one for each qubit: I 0, X 1, Z 2, Y 3."""
         if isinstance(codes, (bytes, bytearray)):
             codes = list(codes)
@@ -123,7 +123,7 @@ class Word:
         return made((*parsed.word.x, *parsed.word.z), given.size)
 
     @property
-    def codes(self):
+    def codes(self) -> np.ndarray:
         """The codes of all qubits: I 0, X 1, Z 2, Y 3."""
         out = np.zeros(min(self.n, MAX_QUBITS), np.uint8)
         status = _library.call("codes_from_word", self.struct(), self.n, out)
@@ -138,36 +138,36 @@ class Word:
         return out
 
     @property
-    def text(self):
+    def text(self) -> str:
         """One letter for each qubit, qubit 0 first."""
         return "".join(_LETTERS[code] for code in self.codes)
 
     @property
-    def letters(self):
+    def letters(self) -> Mapping[Qubit, str]:
         """The letters other than I by their qubits, in the order of qubits."""
         return MappingProxyType({Qubit(q): letter for q, letter in _sites(self.lanes)})
 
     @property
-    def by_site(self):
+    def by_site(self) -> str:
         """The letters other than I with their qubits: "X12 Z40". The identity is "I0"."""
         return site_text(self.lanes)
 
-    def letter(self, *, qubit):
+    def letter(self, *, qubit: Qubit | int) -> str:
         """The letter at a qubit of the register."""
         q = int(Qubit(qubit))
         if q >= self.n:
             raise InputError(f"qubit {q} is outside the register of {qubits(self.n)}")
         return dict(_sites(self.lanes)).get(q, "I")
 
-    def times(self, other):
+    def times(self, other: "AnyWord") -> tuple[int, "Word"]:
         """The product with another word: (phase, word), which stands for i^phase times the word."""
         product = _library.call("pauli_mul", self.struct(), self._other(other).struct())
         return product.phase, made((*product.word.x, *product.word.z), self.n)
 
-    def anticommutes(self, other):
+    def anticommutes(self, other: "AnyWord") -> bool:
         return _library.call("anti_commutes", self.struct(), self._other(other).struct())
 
-    def shares_qubit(self, other):
+    def shares_qubit(self, other: "AnyWord") -> bool:
         """Whether some qubit has a letter other than I in both words."""
         return _library.call("shares_qubit", self.struct(), self._other(other).struct())
 
@@ -199,6 +199,10 @@ class Word:
 
     def __reduce__(self):
         return made, (self.lanes, self.n)
+
+
+# The ways to give a word.
+AnyWord = str | Mapping[int, str] | Word
 
 
 def _set(word, n, lanes):
