@@ -32,7 +32,7 @@ def junk(rng):
     numbers = np.array([0.5, rng.choice([NAN, INF, -INF, 1e308, 0.0])])
     return rng.choice(
         [
-            None, True, -1, 0, 1, 2, 3, 128, 129, 65_536, 65_537, 1 << 63, 1 << 64, 10**400, 0.0, -0.0, 0.5, 1e308,
+            None, True, -1, 0, 1, 2, 3, 128, 129, 65_536, 65_537, 1 << 63, 1 << 64, 10**400, 10**5000, 0.0, -0.0, 0.5, 1e308,
             NAN, INF, -INF, 1j, complex(NAN, 1), "", "X", "x", "XYZ", "X0 Z2", "X5", "X0 X0", "é", "X\udcff", "\0",
             "X" * 200, "X99999", b"XYZ", bytearray(b"X"), [], {}, (), set(), [[]], [None], ["X"], ["XYZ"], [1, 2],
             [("XYZ", 1)], [("XYZ", NAN)], {"XYZ": 1}, {"XYZ": 1j}, {0: "X"}, {0: "XX"}, {-1: "X"}, {5: "Z"},

@@ -5,11 +5,15 @@
 Only what cannot be handed over is turned away here. Ranges and limits are the library's to judge: a NaN,
 a rate below 0 or 70,000 words go through."""
 import operator
+import reprlib
 from collections.abc import Mapping
 
 import numpy as np
 
 from .errors import InputError
+
+_short = reprlib.Repr()
+_short.maxstring = _short.maxother = _short.maxlong = 60
 
 
 def whole(given, what, path=()):
@@ -22,7 +26,7 @@ def whole(given, what, path=()):
         else:
             if 0 <= value < 1 << 64:
                 return value
-            raise InputError(f"{what} is {value}: from 0 to 2^64 - 1 is needed", path)
+            raise InputError(f"{what} is {shown(value)}: from 0 to 2^64 - 1 is needed", path)
     raise InputError(f"{what} is {shown(given)}: a whole number is needed", path)
 
 
@@ -53,12 +57,11 @@ def _is_number(given):
 
 
 def shown(given):
-    """What was given, in few letters."""
+    """What was given, in few letters, and quickly, however much it is."""
     try:
-        text = repr(given)
+        return _short.repr(given)
     except Exception:
-        text = f"a {type(given).__name__}"
-    return text if len(text) <= 60 else f"{text[:45]} .. {text[-10:]}"
+        return f"a {type(given).__name__}"
 
 
 def pairs(given, what, path=()):

@@ -72,8 +72,8 @@ class Words(unittest.TestCase):
         ]:  # fmt: skip
             with self.subTest(given=given), self.assertRaises(InputError):
                 Word(given, n=2)
-        for n in -1, 1.5, "2", None, True, 1 << 64, [2], Position(2):
-            with self.subTest(n=n), self.assertRaises(InputError):
+        for n in -1, 1.5, "2", None, True, 1 << 64, 10**5000, [2], Position(2), [[0]] * 10**6:
+            with self.assertRaises(InputError):
                 Word("XX", n=n)
 
     def test_texts_that_the_library_refuses(self):
