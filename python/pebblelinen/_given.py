@@ -64,6 +64,11 @@ def shown(given):
         return f"a {type(given).__name__}"
 
 
+def counted(count, one, many=None):
+    """1 word, 2 words."""
+    return f"{count} {one if count == 1 else many or one + 's'}"
+
+
 def pairs(given, what, path=()):
     """A list of pairs, given as such or as a mapping."""
     items = listed(given.items() if isinstance(given, Mapping) else given, what, path)

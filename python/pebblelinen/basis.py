@@ -115,7 +115,7 @@ class Basis:
     def coefficients(self, given):
         given = _given.numbers(given, "coefficients")
         if len(given) != self._len:
-            raise InputError(f"{len(given)} coefficients for {self._len} entries")
+            raise InputError(f"{len(given)} coefficients for {self._shown_len()}")
         with self._lock:
             self._take_over()
             self._coefficients[: self._len] = given
@@ -127,7 +127,7 @@ class Basis:
         """The entry at a position."""
         p = int(Position(position))
         if p >= self._len:
-            raise InputError(f"position {p} is outside the basis of {self._len} entries")
+            raise InputError(f"position {p} is outside the basis of {self._shown_len()}")
         lanes = self._lanes[4 * p : 4 * p + 4].tolist()
         return Entry(Position(p), made(lanes, self.n), float(self._coefficients[p]))
 
@@ -155,14 +155,17 @@ class Basis:
         return {entry.word.by_site: entry.coefficient for entry in self}
 
     def __str__(self):
-        lines = [f"basis of {self._len} entries on {qubits(self.n)}"]
+        lines = [f"basis of {self._shown_len()} on {qubits(self.n)}"]
         lines += [str(self.entry(position=p)) for p in range(min(self._len, _SHOWN))]
         if self._len > _SHOWN:
             lines.append(f".. and {self._len - _SHOWN} more")
         return "\n".join(lines)
 
     def __repr__(self):
-        return f"Basis of {self._len} entries on {qubits(self.n)}"
+        return f"Basis of {self._shown_len()} on {qubits(self.n)}"
+
+    def _shown_len(self):
+        return _given.counted(self._len, "entry", "entries")
 
     # ---- changes ----
 

@@ -9,6 +9,7 @@ import math
 import sys
 
 from . import _given, demo, modelfile
+from ._given import counted
 from ._progress import working
 from .basis import Basis
 from .errors import InputError, PebblelinenError, Refusal
@@ -158,7 +159,7 @@ def _action(options):
         yield str(model)
         for word, terms in act():
             yield ""
-            yield f"action on {word.by_site}: {_count(len(terms), 'word')}"
+            yield f"action on {word.by_site}: {counted(len(terms), 'word')}"
             yield from _listed(terms, options.all)
 
     return answer, lines
@@ -180,10 +181,10 @@ def _leakage(options):
 
     def lines():
         yield str(file.model)
-        protected = f", {_count(len(file.protected), 'protected word')}" if file.protected else ""
-        yield f"basis: {_count(len(file.basis), 'position')}{protected}"
+        protected = f", {counted(len(file.protected), 'protected word')}" if file.protected else ""
+        yield f"basis: {counted(len(file.basis), 'position')}{protected}"
         yield ""
-        yield f"leakage: {_count(len(terms), 'word')}, largest {terms.largest()!r}"
+        yield f"leakage: {counted(len(terms), 'word')}, largest {terms.largest()!r}"
         yield from _listed(terms, options.all)
 
     return answer, lines
@@ -204,8 +205,8 @@ def _generator(options):
         yield str(file.model)
         yield ""
         yield (
-            f"generator over {_count(len(words), 'position')}:"
-            f" {_count(len(entries), 'entry', 'entries')}, by column, then by word"
+            f"generator over {counted(len(words), 'position')}:"
+            f" {counted(len(entries), 'entry', 'entries')}, by column, then by word"
         )
         shown = [
             (f"position {row}: {words[row]}", f"position {column}: {words[column]}", repr(value))
@@ -237,7 +238,7 @@ def _degree_answer(degree):
 
 
 def _degree_lines(positions, dt, degree):
-    yield f"generator over {_count(positions, 'position')}:"
+    yield f"generator over {counted(positions, 'position')}:"
     yield from _aligned(
         [
             ("norm", repr(degree.norm)),
@@ -351,7 +352,3 @@ def _aligned(rows):
         cells = [f"{cell:{width}}" for cell, width in zip(row[:-1], widths)]
         signed = row[-1] if row[-1].startswith("-") else f" {row[-1]}"
         yield "  " + "  ".join([*cells, signed])
-
-
-def _count(count, one, many=None):
-    return f"{count} {one if count == 1 else many or one + 's'}"

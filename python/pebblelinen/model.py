@@ -72,10 +72,9 @@ class Model:
         self._entries = 0
 
     def __repr__(self):
-        return (
-            f"Model of {qubits(self.n)}: {self.hamiltonian_terms} Hamiltonian terms,"
-            f" {self.jumps} jumps, {self.pairs} pairs"
-        )
+        terms = _given.counted(self.hamiltonian_terms, "Hamiltonian term")
+        jumps, pairs = _given.counted(self.jumps, "jump"), _given.counted(self.pairs, "pair")
+        return f"Model of {qubits(self.n)}: {terms}, {jumps}, {pairs}"
 
     def _check(self, basis):
         if not isinstance(basis, Basis):

@@ -55,4 +55,4 @@ class Terms:
         return "\n".join(f"{text:{width}}  {' ' * (value >= 0)}{value!r}" for text, value in shown)
 
     def __repr__(self):
-        return f"Terms of {len(self)} words on {qubits(self.n)}"
+        return f"Terms of {_given.counted(len(self), 'word')} on {qubits(self.n)}"

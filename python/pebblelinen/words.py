@@ -218,7 +218,7 @@ def made(lanes, n):
 
 
 def qubits(n):
-    return "1 qubit" if n == 1 else f"{n} qubits"
+    return _given.counted(n, "qubit")
 
 
 def struct_of(lanes):
@@ -344,7 +344,7 @@ def text_refusal(status, word, n, path=()):
             values["qubit"] = Qubit(outside)
             said = f"{shown} has a letter at qubit {outside}, and the register has {qubits(n)}"
             return Refusal(2, said + (f", 0 to {n - 1}" if n else ""), values, path)
-        said = f"{shown} has {second} letters, and the register has {qubits(n)}"
+        said = f"{shown} has {_given.counted(second, 'letter')}, and the register has {qubits(n)}"
         return Refusal(2, said, values, path)
     byte = f"byte {first}" + (f" ({chr(first)!r})" if first < 128 else "")
     said = f"{byte} at place {second} of {shown} is not I, X, Y or Z"

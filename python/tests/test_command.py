@@ -65,7 +65,7 @@ class Commands(Case):
         self.assertEqual(
             out.splitlines(),
             [
-                "Model of 3 qubits: 2 Hamiltonian terms, 1 jumps, 0 pairs",
+                "Model of 3 qubits: 2 Hamiltonian terms, 1 jump, 0 pairs",
                 "",
                 "action on Z0: 3 words",
                 "  I0      0.5",
@@ -86,7 +86,7 @@ class Commands(Case):
         self.assertEqual(
             out.splitlines(),
             [
-                "Model of 3 qubits: 2 Hamiltonian terms, 1 jumps, 0 pairs",
+                "Model of 3 qubits: 2 Hamiltonian terms, 1 jump, 0 pairs",
                 "basis: 2 positions, 1 protected word",
                 "",
                 "leakage: 2 words, largest 2.0",

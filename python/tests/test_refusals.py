@@ -123,7 +123,7 @@ class Models(Case):
         said = "jump 1 has 17 terms: at most 16"
         values = {"jump": 1, "count": 17, "limit": 16}
         self.refused(8, values, said, model(1, [("XX", 1)] * 17), operator)
-        said = "term 1 of jump 1: the word 'X' has 1 letters, and the register has 2 qubits"
+        said = "term 1 of jump 1: the word 'X' has 1 letter, and the register has 2 qubits"
         values = {"jump": 1, "expected": 2, "got": 1}
         self.refused(2, values, said, model(1, {"XX": 1, "X": 1}), (*operator, 1))
         said = f"term 1 of jump 1 has the number (1+infj): {needed}"
