@@ -1,10 +1,11 @@
 // SPDX-FileCopyrightText: 2026 The PPVM Authors
 // SPDX-License-Identifier: Apache-2.0
 
-// Runs the examples of document 01, a small model, a matrix, their actions and a basis through the
+// Runs the examples of document 01, a small model, a matrix, their actions, a basis and its leakage through the
 // exported functions and prints a line for each. Each section has its module.
 mod actions;
 mod bases;
+mod leakages;
 mod matrices;
 mod models;
 mod print;
@@ -15,4 +16,5 @@ fn main() {
     models::run();
     matrices::run();
     bases::run();
+    leakages::run();
 }

@@ -291,24 +291,19 @@ fn replay_in(
     judged(line, c1, answer, words, coeffs)
 }
 
-// Not 0 where there is no room for a recorded length.
-fn lacking(length: u64, places: usize) -> u64 {
-    length ^ read::at_most(length, places) as u64
-}
-
 pub fn call(line: &[u8], c: Cursor, call: u64) -> Verdict {
     let mut head = [0u64; 11];
     let Filled::Whole(c1) = read::numbers(line, c, &mut head) else {
         return Verdict::Malformed;
     };
-    let slices = lacking(head[3], LANES)
-        | lacking(head[4], PLACES)
-        | lacking(head[5], LANES)
-        | lacking(head[6], PLACES);
-    let work = lacking(head[7], PLACES)
-        | lacking(head[8], PLACES)
-        | lacking(head[9], PLACES)
-        | lacking(head[10], PLACES);
+    let slices = read::lacking(head[3], LANES)
+        | read::lacking(head[4], PLACES)
+        | read::lacking(head[5], LANES)
+        | read::lacking(head[6], PLACES);
+    let work = read::lacking(head[7], PLACES)
+        | read::lacking(head[8], PLACES)
+        | read::lacking(head[9], PLACES)
+        | read::lacking(head[10], PLACES);
     if slices | work != 0 {
         return Verdict::Malformed;
     }

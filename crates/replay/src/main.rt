@@ -2,7 +2,7 @@
 // SPDX-License-Identifier: Apache-2.0
 
 // Compares the port with answers of the published Rust, recorded on standard input, bit for bit; kinds
-// 6, 8, 11 and 15 have answers of document 01 that the Rust does not give.
+// 6, 8, 11, 15 and 18 have answers of document 01 that the Rust does not give.
 //
 // A case is a line of lower-case hexadecimal numbers with a space between two; the first is its
 // kind, which says what the others are. `#` starts a comment to the end of the line. The program
@@ -11,6 +11,7 @@
 mod actions;
 mod bases;
 mod float;
+mod leakages;
 mod models;
 mod read;
 mod tally;
@@ -38,6 +39,7 @@ fn replay_case(kind: u64, line: &[u8], c: Cursor) -> Verdict {
         5..=11 => models::build(line, c, kind),
         12..=14 => bases::call(line, c, kind),
         15 => bases::named_call(line, c),
+        16..=18 => models::build(line, c, kind),
         _ => Verdict::Malformed,
     }
 }

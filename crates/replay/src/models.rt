@@ -12,6 +12,7 @@
 //   8 as 7, for refusals that the Rust does not have
 // Numbers are recorded by their bits. Where the Rust or document 01 refused, the recorded counts are 0.
 use crate::actions;
+use crate::leakages;
 use crate::read;
 use crate::read::Cursor;
 use crate::read::Filled;
@@ -53,7 +54,7 @@ fn judged_build(line: &[u8], c: Cursor, answer: BuiltModel) -> Verdict {
     tally::judged(agrees)
 }
 
-// The same, or, for the kinds about actions, those of what was built against the recorded ones.
+// The same, or, for the kinds about actions and leakage, those of what was built against the recorded ones.
 fn judged(
     line: &[u8],
     c: Cursor,
@@ -68,6 +69,19 @@ fn judged(
 ) -> Verdict {
     if kind < 9 {
         return judged_build(line, c, built);
+    }
+    if 15 < kind {
+        return leakages::leak(
+            line,
+            c,
+            built,
+            h_words,
+            h_coeffs,
+            jumps,
+            rates,
+            t_words,
+            t_numbers,
+        );
     }
     actions::act(
         line,
@@ -84,7 +98,7 @@ fn judged(
 
 fn is_matrix(kind: u64) -> bool {
     match kind {
-        7 | 8 | 10 => true,
+        7 | 8 | 10 | 17 => true,
         _ => false,
     }
 }
@@ -413,7 +427,7 @@ fn build_texts(line: &[u8], c: Cursor, kind: u64, n_qubits: usize, texts: &mut [
     build_lengths(line, c2, kind, n_qubits, texts, &mut room[0..n])
 }
 
-// Kinds 5 to 11.
+// Kinds 5 to 11 and 16 to 18.
 pub fn build(line: &[u8], c: Cursor, kind: u64) -> Verdict {
     let Read::Number(n_qubits, c1) = read::number(line, c) else {
         return Verdict::Malformed;

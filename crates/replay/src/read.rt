@@ -206,3 +206,8 @@ pub fn at_most(length: u64, places: usize) -> usize
     }
     n
 }
+
+// Not 0 where there is no room for a recorded length.
+pub fn lacking(length: u64, places: usize) -> u64 {
+    length ^ at_most(length, places) as u64
+}

@@ -27,7 +27,7 @@ pub fn same_status(a: Status, b: Status) -> bool {
 }
 
 // Kinds are counted from 1; place 0 stays empty.
-const KINDS: usize = 16;
+const KINDS: usize = 19;
 
 // The lines that are named before the counts; more would hide them.
 const NAMED: u64 = 10;
@@ -86,14 +86,14 @@ impl Tally {
     }
 
     fn with_case(mut self, k: usize) -> Tally
-        requires { ⌜ k < 16 ⌝ }
+        requires { ⌜ k < 19 ⌝ }
     {
         self.cases[k] = one_more(self.cases[k]);
         self
     }
 
     fn with_disagreement(mut self, k: usize, line_number: u64) -> Tally
-        requires { ⌜ k < 16 ⌝ }
+        requires { ⌜ k < 19 ⌝ }
     {
         self.disagreements[k] = one_more(self.disagreements[k]);
         self.naming(line_number, b" disagrees\n")
@@ -138,6 +138,17 @@ impl Tally {
             b"bases without the Rust",
             self.cases[15],
             self.disagreements[15],
+        );
+        print_kind(b"leakage", self.cases[16], self.disagreements[16]);
+        print_kind(
+            b"leakage of matrices",
+            self.cases[17],
+            self.disagreements[17],
+        );
+        print_kind(
+            b"leakage without the Rust",
+            self.cases[18],
+            self.disagreements[18],
         );
         text(b"malformed lines: ");
         number(self.malformed);

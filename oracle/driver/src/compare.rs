@@ -114,7 +114,7 @@ impl Tally {
             disagreements,
             ..
         } = self;
-        println!("{operation:<16} {cases:>9} {disagreements:>13} {expected:>9} {port_alone:>10}");
+        println!("{operation:<18} {cases:>9} {disagreements:>13} {expected:>9} {port_alone:>10}");
         for (_, shown) in &self.smallest {
             println!("  {shown}");
         }
@@ -143,7 +143,7 @@ pub fn run(seed: u64, cases: usize, only: Option<&str>) -> ExitCode {
     let compare = |(_, compare): &&(&str, fn(u64, usize) -> Vec<Tally>)| compare(seed, cases);
     let tallies: Vec<Tally> = parts.iter().flat_map(compare).collect();
 
-    println!("operation            cases disagreements  expected port alone");
+    println!("operation              cases disagreements  expected port alone");
     tallies.iter().for_each(Tally::print);
     println!("`expected` differ as document 01 lists; `port alone` were checked against it only.");
 

@@ -9,8 +9,10 @@
 
 mod actions;
 mod bases;
+mod leakages;
 mod matrices;
 mod models;
+mod standing;
 mod words;
 
 use crate::port::{Status, Word};
@@ -70,5 +72,6 @@ pub fn run(seed: u64, cases: usize) -> ExitCode {
     matrices::record(seed, cases * 3 / 40);
     actions::record(seed, cases / 8);
     bases::record(seed, cases / 16);
+    leakages::record(seed, cases / 16);
     ExitCode::SUCCESS
 }

@@ -7,8 +7,9 @@
 //! and the room rule had to choose between no equals; its list is put in word order and laid over that
 //! of the rules. A difference is expected where two words have one hash, which is all that the Rust
 //! looks at, and where a number of the model is near a tolerance, which the Rust compares with a hypot;
-//! and only if the Rust answers as the rules with hashes or with hypots do, or, where these have to choose
-//! between equals, with numbers as large. Cases of the first sort are counted by themselves.
+//! and only if the Rust answers as the rules with hashes or with hypots do. Where these in turn have to
+//! choose between equals, the Rust is held to numbers as large, not to the words. Words of one hash, and
+//! cases that are held to sizes alone, are counted by themselves.
 
 use super::models::by_answer;
 use super::standing::Standing;
@@ -18,10 +19,10 @@ use crate::inputs::actions as action_inputs;
 use crate::inputs::leakages::{self as inputs, Entries};
 use crate::inputs::matrices::Matrix;
 use crate::inputs::models::{Items, spoil_model};
-use crate::port::Word;
 use crate::port::actions::Listed;
 use crate::port::leakages::{self as port, Given, LeakRoom, Limits};
 use crate::port::models::{Lent, Model};
+use crate::port::{Status, Word};
 use crate::published::bases::{RustBasis, rust_words};
 use crate::published::leakages as published;
 use crate::published::models::RustModel;
@@ -29,6 +30,7 @@ use crate::rules::actions::MAX_WORDS;
 use crate::rules::leakages::{
     self as rules, Acting, Course, Places, outside, threshold, word_limit,
 };
+use crate::rules::models::Complex;
 use crate::rules::{refusal, word_of};
 
 /// One in so many small cases has something wrong.
@@ -42,6 +44,7 @@ pub fn compare(seed: u64, cases: usize) -> Vec<Tally> {
     let mut tallies = Tallies {
         leaked: by_answer("leakage"),
         one_hash: Tally::new("leakage, one hash"),
+        by_sizes: Tally::new("leakage, sizes"),
         tied: Tally::new("leakage, tied"),
         untouched: Tally::new("given after it"),
         sizes: Tally::new("lengths of work"),
@@ -55,11 +58,18 @@ pub fn compare(seed: u64, cases: usize) -> Vec<Tally> {
     let Tallies {
         leaked,
         one_hash,
+        by_sizes,
         tied,
         untouched,
         sizes,
     } = tallies;
-    let all = leaked.into_iter().chain([one_hash, tied, untouched, sizes]);
+    println!(
+        "leakage: {} listed differences of the Rust are held to the sizes of its numbers alone, {} of \
+         one hash bit for bit",
+        by_sizes.cases, one_hash.cases
+    );
+    let others = [one_hash, by_sizes, tied, untouched, sizes];
+    let all = leaked.into_iter().chain(others);
     all.filter(|tally| tally.cases > 0).collect()
 }
 
@@ -67,6 +77,9 @@ struct Tallies {
     leaked: Vec<Tally>,
     /// Cases in which the Rust takes a word for another one.
     one_hash: Tally,
+    /// Cases in which the rules by hashes or by hypots chose between equals, so that only the sizes of the
+    /// Rust's numbers could be compared.
+    by_sizes: Tally,
     /// Cases in which the room rule chose between equals.
     tied: Tally,
     /// Whether what is only read is as it was.
@@ -95,6 +108,13 @@ impl Outcome {
         }
         outcome
     }
+}
+
+/// How a list of the Rust's is that of the rules by hashes or by hypots.
+#[derive(Clone, Copy, PartialEq)]
+enum Likeness {
+    BitForBit,
+    InSizes,
 }
 
 /// A model and a basis, with the Rust's where they can be asked, and the action on each of its words.
@@ -130,15 +150,15 @@ impl Asked {
         course.map_or(Vec::new(), |course| course.list(-1.0))
     }
 
-    /// Whether a list is that of the rules by hashes, and perhaps by hypots; where these tie at the cut, one
-    /// of numbers as large.
+    /// Whether, and how, a list is that of the rules by hashes, and perhaps by hypots: where these tie at the
+    /// cut, one of numbers as large.
     fn by_hashes(
         &self,
         rng: &mut Rng,
         case: &Case,
         hypots: bool,
         list: &[(Word, f64)],
-    ) -> Option<bool> {
+    ) -> Option<Likeness> {
         let Entries { words, coeffs } = &self.entries;
         let is_outside = published::outside_by_hash(self.n_qubits(), words, &case.protected);
         let other;
@@ -152,10 +172,11 @@ impl Asked {
         };
         let course = rules::course(acting, &is_outside, case.free())?;
         let by_rules = course.list(threshold(case.given.limits));
-        Some(match course.tied {
-            false => bits_of(&by_rules) == bits_of(list),
-            true => sizes_of(&by_rules) == sizes_of(list),
-        })
+        if bits_of(&by_rules) == bits_of(list) {
+            return Some(Likeness::BitForBit);
+        }
+        let as_large = course.tied && sizes_of(&by_rules) == sizes_of(list);
+        as_large.then_some(Likeness::InSizes)
     }
 }
 
@@ -233,12 +254,17 @@ fn leak(rng: &mut Rng, tallies: &mut Tallies, asked: &Asked, case: &Case, room: 
     };
     let rust = list.as_ref().map(|list| rules.with(list));
     let differs = list.filter(|_| rust.as_ref() != Some(&rules));
-    let mut gives =
-        |list: &[(Word, f64)], hypots: bool| asked.by_hashes(rng, case, hypots, list) == Some(true);
-    let one_hash = differs.as_ref().is_some_and(|list| gives(list, false));
-    let listed = one_hash || differs.as_ref().is_some_and(|list| gives(list, true));
+    let by_hash = differs
+        .as_ref()
+        .and_then(|list| asked.by_hashes(rng, case, false, list));
+    let likeness = by_hash.or_else(|| {
+        let list = differs.as_ref()?;
+        asked.by_hashes(rng, case, true, list)
+    });
+    let listed = likeness.is_some();
     let tally = match rules.listed.status.refusal {
-        _ if one_hash => &mut tallies.one_hash,
+        _ if likeness == Some(Likeness::InSizes) => &mut tallies.by_sizes,
+        _ if by_hash.is_some() => &mut tallies.one_hash,
         _ if tied => &mut tallies.tied,
         refusal => &mut tallies.leaked[refusal as usize],
     };
@@ -388,31 +414,40 @@ fn sizes(rng: &mut Rng, tally: &mut Tally) {
     tally.count(0, || format!("{q}, {e}, {p}, {t}, {c}"), answers);
 }
 
-/// The smallest inputs to which the document and the Rust answer differently, and the readings that
-/// tempt, with the answers.
-fn known(rng: &mut Rng, tallies: &mut Tallies) {
+type Texts<'a> = &'a [(&'a str, f64)];
+
+fn entries_of(texts: Texts) -> Vec<(Word, f64)> {
     let word = |text: &str| word_of(text.as_bytes());
-    let list = |list: &[(&str, f64)]| -> Vec<(Word, f64)> {
-        list.iter().map(|&(text, x)| (word(text), x)).collect()
-    };
-    type Texts<'a> = &'a [(&'a str, f64)];
-    let mut ask = |h: Texts,
-                   basis: Texts,
-                   max_basis,
-                   tau_add,
-                   document: Result<Texts, _>,
-                   rust: Option<Texts>| {
+    texts.iter().map(|&(text, x)| (word(text), x)).collect()
+}
+
+/// A leakage with the list or the refusal of the document, and with the Rust's list; or nothing where that
+/// has as many words, but not these.
+#[derive(Clone)]
+struct Known<'a> {
+    hamiltonian: Texts<'a>,
+    matrices: Vec<Matrix>,
+    basis: Texts<'a>,
+    max_basis: usize,
+    tau_add: f64,
+    document: Result<Texts<'a>, Status>,
+    rust: Option<Texts<'a>>,
+}
+
+impl Known<'_> {
+    fn ask(self, rng: &mut Rng, tallies: &mut Tallies) {
+        let item = |(text, x): &(&str, f64)| (text.as_bytes().to_vec(), *x);
         let items = Items {
-            n_qubits: basis[0].0.len(),
-            hamiltonian: h.iter().map(|(t, x)| (t.as_bytes().to_vec(), *x)).collect(),
+            n_qubits: self.basis[0].0.len(),
+            hamiltonian: self.hamiltonian.iter().map(item).collect(),
             jumps: Vec::new(),
         };
-        let (words, coeffs) = list(basis).into_iter().unzip();
-        let asked = Asked::new(rng, items, Vec::new(), Entries { words, coeffs });
+        let (words, coeffs) = entries_of(self.basis).into_iter().unzip();
+        let asked = Asked::new(rng, items, self.matrices, Entries { words, coeffs });
         let limits = Limits {
-            max_basis,
+            max_basis: self.max_basis,
             tau_given: 1,
-            tau_add,
+            tau_add: self.tau_add,
             ..Limits::default()
         };
         let case = Case::new(rng, &asked, Vec::new(), limits);
@@ -422,40 +457,68 @@ fn known(rng: &mut Rng, tallies: &mut Tallies) {
         let Standing { model, lent, .. } = &asked.standing;
         let listed = rules::leakage_with_prune(*model, lent, &case.given, &mut room);
         let answer = room.list(listed.count);
-        match document {
-            Ok(document) => assert_eq!(answer, list(document)),
+        match self.document {
+            Ok(document) => assert_eq!(answer, entries_of(document)),
             Err(status) => assert_eq!(listed.status, status),
         }
         let model = asked.rust.as_ref().expect("texts are ASCII");
         let others = rust_list(model, &asked, &case);
-        match rust {
-            Some(rust) => assert_eq!(others, list(rust)),
+        match self.rust {
+            Some(rust) => assert_eq!(others, entries_of(rust)),
             None => assert!(others.len() == answer.len() && others != answer),
         }
+    }
+}
+
+/// The smallest inputs to which the document and the Rust answer differently, and the readings that
+/// tempt, with the answers.
+fn known(rng: &mut Rng, tallies: &mut Tallies) {
+    let one_word = Known {
+        hamiltonian: &[],
+        matrices: Vec::new(),
+        basis: &[],
+        max_basis: 2,
+        tau_add: 0.0,
+        document: Ok(&[]),
+        rust: Some(&[]),
     };
 
     // A tie at the cut, where the Rust takes the first of its map: which one, its hash decides.
-    let three = [("ZII", 0.5), ("IZI", 0.5), ("IIZ", 0.5)];
-    let lower = [("YXX", -1.0)];
-    ask(&three, &[("XXX", 1.0)], 2, 0.0, Ok(&lower), None);
+    Known {
+        hamiltonian: &[("ZII", 0.5), ("IZI", 0.5), ("IIZ", 0.5)],
+        basis: &[("XXX", 1.0)],
+        document: Ok(&[("YXX", -1.0)]),
+        rust: None,
+        ..one_word.clone()
+    }
+    .ask(rng, tallies);
 
     // A sum that is not finite.
-    let infinite = [("Y", f64::NEG_INFINITY)];
-    ask(
-        &[("Z", 1.0)],
-        &[("X", 1.5e308)],
-        2,
-        0.0,
-        Err(refusal(14, 0, 0)),
-        Some(&infinite),
-    );
+    Known {
+        hamiltonian: &[("Z", 1.0)],
+        basis: &[("X", 1.5e308)],
+        document: Err(refusal(14, 0, 0)),
+        rust: Some(&[("Y", f64::NEG_INFINITY)]),
+        ..one_word.clone()
+    }
+    .ask(rng, tallies);
 
     // Sums of 0 are candidates: below 0 the threshold lists them.
-    let two = [("ZI", 0.5), ("IZ", 0.5)];
-    let both = [("XX", 1.0), ("YY", 1.0)];
-    let zeros = [("YX", 0.0), ("XY", 0.0)];
-    ask(&two, &both, 4, 0.0, Ok(&[]), Some(&[]));
-    ask(&two, &both, 4, -1.0, Ok(&zeros), Some(&zeros));
+    let two: Texts = &[("ZI", 0.5), ("IZ", 0.5)];
+    let both: Texts = &[("XX", 1.0), ("YY", 1.0)];
+    let zeros: Texts = &[("YX", 0.0), ("XY", 0.0)];
+    for (tau_add, list) in [(0.0, &[] as Texts), (-1.0, zeros)] {
+        Known {
+            hamiltonian: two,
+            basis: both,
+            max_basis: 4,
+            tau_add,
+            document: Ok(list),
+            rust: Some(list),
+            ..one_word.clone()
+        }
+        .ask(rng, tallies);
+    }
 
     // The word that is lost in the Rust has the hash of the basis word.
     let text = |at: &[(usize, u8)]| {
@@ -466,12 +529,47 @@ fn known(rng: &mut Rng, tallies: &mut Tallies) {
     };
     let h = text(&[(63, b'X'), (68, b'X')]);
     let (from, to) = (text(&[(63, b'Z')]), text(&[(63, b'Y'), (68, b'X')]));
-    ask(
-        &[(&h, 0.5)],
-        &[(&from, 1.0)],
-        2,
-        0.0,
-        Ok(&[(&to, 1.0)]),
-        Some(&[]),
-    );
+    Known {
+        hamiltonian: &[(&h, 0.5)],
+        basis: &[(&from, 1.0)],
+        document: Ok(&[(&to, 1.0)]),
+        ..one_word.clone()
+    }
+    .ask(rng, tallies);
+
+    // Numbers at a tolerance, which decide otherwise by a hypot: a word of the product that the Rust
+    // thins out, then a pair that it skips and one that it does not skip.
+    let operator = |text: &str, number: Complex| vec![(text.as_bytes().to_vec(), number)];
+    let matrix = |operators, k: [[Complex; 2]; 2]| {
+        let k = k.map(Vec::from).to_vec();
+        vec![Matrix { operators, k }]
+    };
+    let (zero, two) = ((0.0, 0.0), (2.0, 0.0));
+    let thin = vec![operator("X", (1.0, 0.0)), operator("Y", (6e-15, 8e-15))];
+    Known {
+        matrices: matrix(thin, [[zero, two], [two, zero]]),
+        basis: &[("Z", 1.0)],
+        document: Ok(&[("I", 6.4e-14)]),
+        rust: Some(&[("I", 3.2e-14)]),
+        ..one_word.clone()
+    }
+    .ask(rng, tallies);
+    let plain = || vec![operator("XI", (1.0, 0.0)), operator("IX", (1.0, 0.0))];
+    let edge = (7e-14, 0.0);
+    Known {
+        matrices: matrix(plain(), [[(7.0, 0.0), edge], [edge, zero]]),
+        basis: &[("ZZ", 1.0)],
+        document: Ok(&[("YY", 2.8e-13)]),
+        ..one_word.clone()
+    }
+    .ask(rng, tallies);
+    let edge = (5.400000000000001e-14, 7.2e-14);
+    let mirror = (edge.0, -edge.1);
+    Known {
+        matrices: matrix(plain(), [[(9.0, 0.0), edge], [mirror, zero]]),
+        basis: &[("ZZ", 1.0)],
+        rust: Some(&[("YY", 2.1600000000000003e-13)]),
+        ..one_word
+    }
+    .ask(rng, tallies);
 }

@@ -2,33 +2,24 @@
 // SPDX-License-Identifier: Apache-2.0
 
 //! Actions of models, and of matrices, on a few words each.
-//!
-//! A case stands in a line like that of a model or a matrix, without the answer to building.
 
-use super::models::given_line;
+use super::standing::Standing;
 use super::{Line, matrices};
 use crate::inputs::Rng;
 use crate::inputs::actions as inputs;
 use crate::inputs::matrices::Matrix;
-use crate::inputs::models::{self as model_inputs, Items};
 use crate::port::Word;
 use crate::port::actions::{Listed, Room};
-use crate::port::models::{Lent, Model, Sizes, model_sizes};
 use crate::published::actions as published;
-use crate::published::matrices::model as rust_model;
-use crate::rules::MAX_QUBITS;
 use crate::rules::actions as rules;
-use crate::rules::models::build_model;
+use crate::rules::{MAX_QUBITS, word_of};
 
 /// The words of a case, and those that they are chosen from.
 const WORDS: usize = 5;
 const CHOSEN_FROM: usize = 16;
 
-/// The numbers of a line; the bytes of a model's texts, its terms, and the words that an action
-/// touches and lists, which replaying has room for.
+/// The numbers of a line, and the words that an action touches and lists, which replaying has room for.
 const LONGEST: usize = 900;
-const BYTES: usize = 800;
-const TERM_PLACES: usize = 256;
 const SUM_PLACES: usize = 256;
 const LIST_PLACES: usize = 24;
 
@@ -39,60 +30,16 @@ pub fn record(seed: u64, cases: usize) {
         "#   out_words out_values, then words_len and for each word x0 x1 z0 z1 refusal first"
     );
     println!("#   second count, the lanes of the words listed and their values");
-    (0..cases).for_each(|case| answered(rng, |rng| of_model(rng, 9, case)).print());
+    (0..cases).for_each(|case| answered(rng, |rng| Standing::of_model(rng, 9, case)).print());
     println!("# a, as 9: actions of a matrix, given as in 7");
+    tempting(&mut Rng::new(seed)).print();
+    let of_matrix = |rng: &mut Rng| {
+        let matrix = inputs::matrix(rng);
+        Standing::of_matrix(rng, 10, matrix)
+    };
     (0..cases).for_each(|_| answered(rng, of_matrix).print());
     println!("# b, as 9: refusals of document 01 that the Rust does not have");
     (0..cases).for_each(|case| refused(rng, case).print());
-}
-
-/// A model that was built, with what it was built from and the line so far.
-struct Standing {
-    items: Items,
-    matrices: Vec<Matrix>,
-    line: Line,
-    model: Model,
-    lent: Lent,
-}
-
-/// A small model, or now and then one of many items. Nothing where there is no room for it.
-fn of_model(rng: &mut Rng, kind: u64, case: usize) -> Option<Standing> {
-    let items = match case % 8 {
-        0 => inputs::crowded(rng),
-        _ => inputs::model(rng).0,
-    };
-    let given = items.flat();
-    let sizes = model_sizes(items.hamiltonian.len(), items.jumps.len(), items.longest());
-    let sizes = Sizes {
-        t_words: sizes.t_words.min(4 * TERM_PLACES),
-        t_numbers: sizes.t_numbers.min(2 * TERM_PLACES),
-        ..sizes
-    };
-    let mut lent = model_inputs::lent(rng, sizes);
-    let built = build_model(&given, items.n_qubits, &mut lent);
-    (built.status.refusal == 0 && given.texts.len() <= BYTES).then(|| Standing {
-        line: given_line(kind, items.n_qubits, &given, sizes),
-        items,
-        matrices: Vec::new(),
-        model: built.model,
-        lent,
-    })
-}
-
-/// A small matrix. Nothing where there is no room for it.
-fn of_matrix(rng: &mut Rng) -> Option<Standing> {
-    let (n_qubits, matrix) = inputs::matrix(rng);
-    let case = matrices::Case::of(rng, n_qubits, matrix);
-    let given = case.matrix.flat();
-    let sizes = case.sizes(TERM_PLACES);
-    let (built, lent) = case.add(&given, sizes);
-    (built.status.refusal == 0 && given.texts.len() <= BYTES).then(|| Standing {
-        line: given_line(10, n_qubits, &case.given(given), sizes),
-        items: case.before,
-        matrices: vec![case.matrix],
-        model: built.model,
-        lent,
-    })
 }
 
 impl Standing {
@@ -144,6 +91,23 @@ impl Standing {
     }
 }
 
+/// The line of actions on these words, where there is room for it, something is listed, and the Rust gives the
+/// answers too.
+fn alike(rng: &mut Rng, standing: &Standing, words: &[Word]) -> Option<Line> {
+    let places = standing.places(words)?;
+    let (line, answers) = standing.acted(rng, words, places);
+    let model = standing.rust()?;
+    let bits = |list: &[(Word, f64)]| -> Vec<(Word, u64)> {
+        list.iter().map(|(w, x)| (*w, x.to_bits())).collect()
+    };
+    let alike = words
+        .iter()
+        .zip(&answers)
+        .all(|(&p, (_, list))| bits(&published::compute_action_terms(&model, p)) == bits(list));
+    let some = answers.iter().any(|(_, list)| !list.is_empty());
+    (alike && some && line.0.len() <= LONGEST).then_some(line)
+}
+
 /// A case whose answers the Rust gives too.
 fn answered(rng: &mut Rng, mut standing: impl FnMut(&mut Rng) -> Option<Standing>) -> Line {
     loop {
@@ -151,31 +115,29 @@ fn answered(rng: &mut Rng, mut standing: impl FnMut(&mut Rng) -> Option<Standing
             continue;
         };
         let words = standing.words(rng);
-        let Some(places) = standing.places(&words) else {
-            continue;
-        };
-        let (line, answers) = standing.acted(rng, &words, places);
-        let Some(model) = rust_model(&standing.items, &standing.matrices) else {
-            continue;
-        };
-        let bits = |list: &[(Word, f64)]| -> Vec<(Word, u64)> {
-            list.iter().map(|(w, x)| (*w, x.to_bits())).collect()
-        };
-        let alike = words
-            .iter()
-            .zip(&answers)
-            .all(|(&p, (_, list))| bits(&published::compute_action_terms(&model, p)) == bits(list));
-        let some = answers.iter().any(|(_, list)| !list.is_empty());
-        if alike && some && line.0.len() <= LONGEST {
+        if let Some(line) = alike(rng, &standing, &words) {
             return line;
         }
     }
 }
 
+/// A word of a product that is thinned out: its number's parts are together above the tolerance, and its square is
+/// below it.
+fn tempting(rng: &mut Rng) -> Line {
+    let (zero, large) = ((0.0, 0.0), (2.0, 0.0));
+    let matrix = Matrix {
+        operators: matrices::two((6e-15, 6e-15)),
+        k: vec![vec![zero, large], vec![large, (1.0, 0.0)]],
+    };
+    let standing = Standing::of_matrix(rng, 10, (2, matrix)).expect("there is room for it");
+    let words = ["IZ", "ZZ", "ZI", "YZ"].map(|text| word_of(text.as_bytes()));
+    alike(rng, &standing, &words).expect("a sound case")
+}
+
 /// A case with a word outside of the register, or with too few places for some word.
 fn refused(rng: &mut Rng, case: usize) -> Line {
     loop {
-        let Some(standing) = of_model(rng, 11, 1 + case % 7) else {
+        let Some(standing) = Standing::of_model(rng, 11, 1 + case % 7) else {
             continue;
         };
         let mut words = standing.words(rng);

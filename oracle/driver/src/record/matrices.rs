@@ -17,6 +17,7 @@ use crate::published::matrices::RustMatrix;
 use crate::published::models::RustItems;
 use crate::rules::MAX_QUBITS;
 use crate::rules::matrices as rules;
+use crate::rules::models::Complex;
 
 /// What the Rust answers as document 01 does, 0 for acceptance, and what it does not refuse.
 const ANSWERED: [u64; 8] = [0, 0, 0, 2, 3, 6, 9, 10];
@@ -31,6 +32,9 @@ pub fn record(seed: u64, cases: usize) {
     let rng = &mut Rng::new(seed);
     println!("# 7, as 5: a matrix added to a model of Hamiltonian terms I with these h_numbers; K");
     println!("#   stands for the rates, operators for the jumps");
+    for case in tempting() {
+        case.answered().expect("a sound case").print();
+    }
     for case in 0..cases {
         answered(rng, ANSWERED[case % ANSWERED.len()]).print();
     }
@@ -148,6 +152,17 @@ impl Case {
         }
     }
 
+    /// The line, where the Rust gives the answer of the rules too.
+    fn answered(&self) -> Option<Line> {
+        let given = self.matrix.flat();
+        let sizes = self.sizes(TERM_PLACES);
+        let (built, _) = self.add(&given, sizes);
+        let alike =
+            |rust: Built| rust.status == built.status && rust.model.jumps == built.model.jumps;
+        let line = || self.line(7, given, sizes, built);
+        self.rust().is_some_and(alike).then(line)
+    }
+
     fn line(&self, kind: u64, given: Given, sizes: Sizes, built: Built) -> Line {
         let n_qubits = self.before.n_qubits;
         line(kind, n_qubits, &self.given(given), sizes, built)
@@ -158,15 +173,41 @@ impl Case {
 fn answered(rng: &mut Rng, refusal: u64) -> Line {
     loop {
         let case = Case::new(rng);
-        let given = case.matrix.flat();
-        let sizes = case.sizes(TERM_PLACES);
-        let (built, _) = case.add(&given, sizes);
-        let alike =
-            |rust: Built| rust.status == built.status && rust.model.jumps == built.model.jumps;
-        if built.status.refusal == refusal && case.rust().is_some_and(alike) {
-            return case.line(7, given, sizes, built);
+        let (built, _) = case.add(&case.matrix.flat(), case.sizes(TERM_PLACES));
+        if built.status.refusal == refusal
+            && let Some(line) = case.answered()
+        {
+            return line;
         }
     }
+}
+
+/// The operators XI, and IX with a number.
+pub(super) fn two(number: Complex) -> Vec<Vec<(Vec<u8>, Complex)>> {
+    let operator = |text: &[u8], number| vec![(text.to_vec(), number)];
+    vec![operator(b"XI", (1.0, 0.0)), operator(b"IX", number)]
+}
+
+/// Parts that are together above a tolerance, and whose square is below it: a pair that is skipped, and a K that
+/// is Hermitian.
+fn tempting() -> Vec<Case> {
+    let (zero, one) = ((0.0, 0.0), (1.0, 0.0));
+    let rows = [
+        [[one, (6e-15, 6e-15)], [(6e-15, -6e-15), zero]],
+        [[one, (6e-11, 6e-11)], [zero, one]],
+    ];
+    let case = |k: [[Complex; 2]; 2]| Case {
+        before: Items {
+            n_qubits: 2,
+            hamiltonian: Vec::new(),
+            jumps: Vec::new(),
+        },
+        matrix: Matrix {
+            operators: two(one),
+            k: k.map(Vec::from).to_vec(),
+        },
+    };
+    rows.map(case).into()
 }
 
 /// A case with this answer, which is that of document 01 alone.
