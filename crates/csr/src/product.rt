@@ -1,0 +1,123 @@
+// SPDX-FileCopyrightText: 2026 The PPVM Authors
+// SPDX-License-Identifier: Apache-2.0
+
+// The product of a lent matrix by rows with a vector.
+ghost use mathlib.Core.Path.{_≡_};
+ghost use Prim.Native.Nat.{_+_, _≤_};
+ghost use lib.ListN.{length, replicate, take};
+ghost use Rattle.refusal.specs.declared.Answer.the-variants.{Accepted};
+ghost use Rattle.number.specs.Floats.{float0};
+ghost use Rattle.csr.specs.Products.{tableTests, tested, finished, multiply};
+ghost use Rattle.csr.specs.Walks.{Quick};
+use crate::check::check_lengths;
+use crate::check::check_tables;
+use crate::sums::sum_rows;
+use refusal::Answer;
+use refusal::Refusal;
+use table::clear::clear_numbers;
+
+// The numbers of one table over those of another.
+fn copy_numbers(from: &[f64], to: &mut [f64])
+    requires { ⌜ length (now to) ≤ length (now from) ⌝ }
+    ensures { λ _. ⌜ now (to .exit) ≡ take (length (now (to .entry))) (now (from .entry)) ⌝ }
+{
+    let mut k = 0;
+    while k < to.len() {
+        to[k] = from[k];
+        k += 1;
+    }
+}
+
+// What stands in work is stored, and work is zero again.
+fn store(output: &mut [f64], work: &mut [f64])
+    requires { ⌜ length (now output) ≤ length (now work) ⌝ }
+    ensures { λ _. ⌜ (now (output .exit) ≡ take (length (now (output .entry))) (now (work .entry))) × (now (work .exit) ≡ replicate (length (now (work .entry))) float0) ⌝ }
+{
+    copy_numbers(work, output);
+    clear_numbers(work);
+}
+
+// One walk, where all is well with the tables, the sums and the work places: whether it is so. Where it is
+// not, work is left as it was: the places written were zero before.
+fn try_rows(
+    offsets: &[u64],
+    columns: &[u32],
+    values: &[f64],
+    input: &[f64],
+    overwrite: bool,
+    output: &[f64],
+    work: &mut [f64],
+) -> bool
+    requires { ⌜ (length (now offsets) ≡ length (now input) + 1) × (length (now values) ≡ length (now columns)) × (length (now output) ≡ length (now input)) × (length (now input) ≤ length (now work)) ⌝ }
+    ensures { λ r. ⌜ Quick (now (offsets .entry)) (now (columns .entry)) (now (values .entry)) (now (input .entry)) overwrite (now (output .entry)) (now (work .entry)) r (now (work .exit)) ⌝ }
+{
+    let rows = input.len();
+    let first = offsets[0] as usize;
+    if 0 < first {
+        return false;
+    }
+    let last = offsets[rows] as usize;
+    if last != columns.len() {
+        return false;
+    }
+    let done = sum_rows(offsets, columns, values, input, overwrite, output, work);
+    if done < rows {
+        clear_numbers(&mut work[..done]);
+        return false;
+    }
+    true
+}
+
+// The product of tables whose lengths agree. Where the one walk does not do, what is amiss is looked for
+// in its order. If it is nothing, a work place was not zero or a sum is not finite, and the walk over a
+// work table that is zero tells which.
+fn multiply_rows(
+    offsets: &[u64],
+    columns: &[u32],
+    values: &[f64],
+    input: &[f64],
+    overwrite: bool,
+    output: &mut [f64],
+    work: &mut [f64],
+) -> Answer
+    requires { ⌜ (length (now offsets) ≡ length (now input) + 1) × (length (now values) ≡ length (now columns)) × (length (now output) ≡ length (now input)) × (length (now input) ≤ length (now work)) ⌝ }
+    ensures { λ r. ⌜ record { answer = r; output = now (output .exit); work = now (work .exit) } ≡ tested (length (now (input .entry))) (now (offsets .entry)) (now (columns .entry)) (now (values .entry)) (now (input .entry)) overwrite (now (output .entry)) (now (work .entry)) (tableTests (length (now (input .entry))) (now (offsets .entry)) (now (columns .entry)) (now (values .entry)) (now (input .entry)) overwrite (now (output .entry)) Accepted) (finished (length (now (input .entry))) (now (offsets .entry)) (now (columns .entry)) (now (values .entry)) (now (input .entry)) overwrite (now (output .entry)) (now (work .entry))) ⌝ }
+{
+    let rows = input.len();
+    let summed = try_rows(offsets, columns, values, input, overwrite, output, work);
+    if summed {
+        store(output, work);
+        return Answer::Accepted;
+    }
+    let answer = check_tables(rows, offsets, columns, values, input, overwrite, output);
+    let Answer::Accepted = answer else {
+        return answer;
+    };
+    clear_numbers(work);
+    let done = sum_rows(offsets, columns, values, input, overwrite, output, work);
+    if done < rows {
+        clear_numbers(work);
+        return Answer::Refused(Refusal::SumNotFinite { position: done });
+    }
+    store(output, work);
+    Answer::Accepted
+}
+
+pub fn dot(
+    rows: usize,
+    offsets: &[u64],
+    columns: &[u32],
+    values: &[f64],
+    input: &[f64],
+    overwrite: bool,
+    output: &mut [f64],
+    work: &mut [f64],
+) -> Answer
+    ensures { λ r. ⌜ record { answer = r; output = now (output .exit); work = now (work .exit) } ≡ multiply rows (now (offsets .entry)) (now (columns .entry)) (now (values .entry)) (now (input .entry)) overwrite (now (output .entry)) (now (work .entry)) ⌝ }
+{
+    let lengths = check_lengths(rows, offsets, columns, values, input, output, work);
+    let Answer::Accepted = lengths else {
+        return lengths;
+    };
+    multiply_rows(offsets, columns, values, input, overwrite, output, work)
+}
