@@ -4,5 +4,6 @@
 -- Laws of this crate.
 pub mod ColumnLaws
 pub mod EntryLaws
+pub mod GeneratorLaws
 pub mod RepeatLaws
 pub mod TermLaws
