@@ -35,11 +35,16 @@ module _ (m : Model) (t : Tables) (b : Basis) (l : Limits) where
   abbrev pub Ends : ℕ → Type 0
   Ends k = ended room (heldIn m t b l k) ≡ got (stayAfter m t b l (suc k))
 
+  -- ---- the room rule: the largest of what a pass holds stay
+  pub stay-largest : (k : ℕ) → stayAfter m t b l (suc k) ≡ largest room (heldIn m t b l k)
+  unfolding stayAfter
+  stay-largest k = refl
+
   -- ---- sums are numbers of the code
   pub stay-fits : (k : ℕ) → SumsFit (stayAfter m t b l k)
   unfolding stayAfter SumsFit
   stay-fits zero = tt
-  stay-fits (suc k) = largest-fits room (heldIn m t b l k) (gathered-fits (leaksOf m t b) (passOf b k) (stayAfter m t b l k) (stay-fits k))
+  stay-fits (suc k) = subst SumsFit (sym (stay-largest k)) (largest-fits room (heldIn m t b l k) (gathered-fits (leaksOf m t b) (passOf b k) (stayAfter m t b l k) (stay-fits k)))
 
   pub held-fits : (k : ℕ) → SumsFit (heldIn m t b l k)
   held-fits k = gathered-fits (leaksOf m t b) (passOf b k) (stayAfter m t b l k) (stay-fits k)
@@ -48,12 +53,7 @@ module _ (m : Model) (t : Tables) (b : Basis) (l : Limits) where
   stay-rising : (k : ℕ) → Rising before (stayAfter m t b l k)
   unfolding stayAfter Rising
   stay-rising zero = tt
-  stay-rising (suc k) = largest-rising room (heldIn m t b l k) (gathered-rising (leaksOf m t b) (passOf b k) (stayAfter m t b l k) (stay-rising k))
-
-  -- ---- the room rule
-  pub stay-largest : (k : ℕ) → stayAfter m t b l (suc k) ≡ largest room (heldIn m t b l k)
-  unfolding stayAfter
-  stay-largest k = refl
+  stay-rising (suc k) = subst (Rising before) (sym (stay-largest k)) (largest-rising room (heldIn m t b l k) (gathered-rising (leaksOf m t b) (passOf b k) (stayAfter m t b l k) (stay-rising k)))
 
   pub keeps-largest : (k : ℕ) → Ends k → LargestStay room (heldIn m t b l k) (stayAfter m t b l (suc k))
   keeps-largest k e =

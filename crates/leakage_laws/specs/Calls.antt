@@ -17,7 +17,7 @@ use Rattle.word.specs.declared.word.Word.{Word}
 use Rattle.number.specs.Floats.{float0}
 use Rattle.order.specs.Magnitudes.{byMagnitude, keyAt}
 use Rattle.truncate.specs.Retained.{pick}
-use Rattle.candidates.specs.Sums.{Rising}
+use Rattle.candidates.specs.Sums.{Row, Rising}
 use Rattle.candidates.specs.Log.{Rows, table, putRows}
 use Rattle.model.specs.Stored.{Tables}
 use Rattle.model.specs.Given.{Term}
@@ -50,15 +50,19 @@ roomOf b l = limitOf l - b .len
 abbrev pub passOf : Basis → ℕ → List ℕ
 passOf b k = take passSize (drop (k * passSize) (byMagnitude (basisCoeffs b)))
 
+-- pass k on top of what stayed before it
+abbrev pub takePass : Model → Tables → Basis → ℕ → Rows → Rows
+takePass m t b k R = gathered (leaksOf m t b) (passOf b k) R
+
 module _ (m : Model) (t : Tables) (b : Basis) (l : Limits) where
-  -- the candidates that stay after so many passes: the largest of what stayed before and of what the pass adds to
+  -- the candidates that stay after so many passes: after each the largest, as many as there is room for
   unfoldable pub stayAfter : ℕ → Rows
   stayAfter zero = []
-  stayAfter (suc k) = largest (roomOf b l) (gathered (leaksOf m t b) (passOf b k) (stayAfter k))
+  stayAfter (suc k) = largest (roomOf b l) (takePass m t b k (stayAfter k))
 
   -- those that pass k holds before the room rule
   abbrev pub heldIn : ℕ → Rows
-  heldIn k = gathered (leaksOf m t b) (passOf b k) (stayAfter k)
+  heldIn k = takePass m t b k (stayAfter k)
 
   -- after the last pass those above tau_add
   abbrev pub listOf : Rows
@@ -99,7 +103,7 @@ TauBelowZero l = lt (tauOf l) float0 ≡ true
 
 -- every word of the one list stands in the other, with the same value
 abbrev pub LosesNobody : Rows → Rows → Type 0
-LosesNobody R R′ = (r : _) → Member r R → Member r R′
+LosesNobody R R′ = (r : Row Word Float) → Member r R → Member r R′
 
 -- ---- reached words
 -- neither in the basis nor protected, and listed by the action on some basis word
