@@ -19,7 +19,8 @@ use Rattle.refusal.specs.declared.Refusal.the-variants.{TableFull, NumberOutOfR
 use Rattle.refusal.specs.declared.Answer.{Answer}
 use Rattle.refusal.specs.declared.Answer.the-variants as Tests
 use Rattle.word.specs.Word.{identity, Sound}
-use Rattle.word.specs.Flat.{layWord}
+use Rattle.word.specs.Flat.{words, layWord}
+use Rattle.word.proofs.FlatLaws.{words-high}
 use Rattle.word.specs.declared.word.Word.{Word}
 use Rattle.number.specs.Floats.{float0, isFinite}
 use Rattle.truncate.proofs.PruneLaws.{Number}
@@ -41,7 +42,7 @@ use Rattle.leakage.specs.Leakages.{Basis, Work, Out, Leaking, tauOf, limitTests
 use Rattle.leakage.specs.declared.limits.Limits.{Limits}
 use Rattle.leakage.proofs.GatherLaws.{leak-passed}
 use Rattle.leakage_laws.specs.Members.{Member, Has}
-use Rattle.leakage_laws.specs.Calls.{basisCoeffs, roomOf, stayAfter, heldIn, listOf, RoomForAll, listedBy, LargestStay, Looser, TauFits, TauBelowZero, LosesNobody, Reached, ListsReached}
+use Rattle.leakage_laws.specs.Calls.{basisWords, basisCoeffs, roomOf, stayAfter, heldIn, listOf, RoomForAll, listedBy, LargestStay, Looser, TauFits, TauBelowZero, LosesNobody, Reached, ListsReached}
 use Rattle.leakage_laws.proofs.KeepLaws.{member-fits, member-finite, largest-more, largest-in, above-of, above-in, above-lower, ended-finite}
 use Rattle.leakage_laws.proofs.CourseLaws.{Ends, course-passes, keeps-largest, held-fits}
 use Rattle.leakage_laws.proofs.ReadLaws.{read-back, list-sound}
@@ -95,6 +96,9 @@ module _ (outWords : List ℕ) (outValues : List Float) (w : Work) (m : Model) (
 
     coeffs-long : length (basisCoeffs b) ≡ b .len
     coeffs-long = length-take-le (b .len) (b .coeffs) (leak-passed m t b l w (accepts answers .tests) .coeffs-long)
+
+    pub words-each : length (basisWords b) ≡ b .len
+    words-each = length-take-le (b .len) (words (b .lanes)) (omega (arith, leak-passed m t b l w (accepts answers .tests) .words-long, words-high (b .lanes)))
 
     course-is : (accepts answers .rows ≡ stayAfter m t b l (passCount (b .len))) × ((i : ℕ) → i < passCount (b .len) → Ends m t b l i)
     unfolding leakCourse
