@@ -5,5 +5,6 @@
 pub mod ColumnLaws
 pub mod EntryLaws
 pub mod GeneratorLaws
+pub mod MemberLaws
 pub mod RepeatLaws
 pub mod TermLaws
