@@ -9,7 +9,8 @@
 //   10 the same for a matrix, as 7
 //   11 as 9, for refusals that the Rust does not have
 // Values are recorded by their bits.
-use crate::float;
+use crate::judge::same_lanes;
+use crate::judge::same_values;
 use crate::read;
 use crate::read::Cursor;
 use crate::read::Filled;
@@ -48,36 +49,6 @@ enum Acted {
     Agrees(Cursor),
     Differs,
     Malformed,
-}
-
-// The first lanes of a lent slice against the recorded ones.
-pub fn same_lanes(recorded: &[u64], words: &[u64]) -> bool {
-    if words.len() < recorded.len() {
-        return false;
-    }
-    let mut i = 0;
-    while i < recorded.len() {
-        if recorded[i] != words[i] {
-            return false;
-        }
-        i += 1;
-    }
-    true
-}
-
-// The first values of a lent slice against the recorded ones.
-pub fn same_values(recorded: &[u64], values: &[f64]) -> bool {
-    if values.len() < recorded.len() {
-        return false;
-    }
-    let mut i = 0;
-    while i < recorded.len() {
-        if recorded[i] != float::bits_of(values[i]) {
-            return false;
-        }
-        i += 1;
-    }
-    true
 }
 
 // Whether the action of a model on a word p in these tables is the recorded one.

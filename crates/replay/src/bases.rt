@@ -12,9 +12,9 @@
 //      their values follow them, and how many these are stands where 12 has 0
 //   15 the kind of a call, then as this: answers that the Rust does not give
 // Numbers are recorded by their bits.
-use crate::actions::same_lanes;
-use crate::actions::same_values;
 use crate::float;
+use crate::judge::same_lanes;
+use crate::judge::same_values;
 use crate::read;
 use crate::read::Cursor;
 use crate::read::Filled;

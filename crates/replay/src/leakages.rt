@@ -11,15 +11,16 @@
 //   17 the same for a matrix, as 7
 //   18 as 16, for answers that the Rust does not give
 // A basis of several passes is a few runs. Numbers are recorded by their bits.
-use crate::actions::same_lanes;
-use crate::actions::same_values;
 use crate::float;
+use crate::judge;
+use crate::judge::Agreement;
+use crate::judge::same_lanes;
+use crate::judge::same_values;
 use crate::read;
 use crate::read::Cursor;
 use crate::read::Filled;
 use crate::read::Read;
 use crate::read::ReadLanes;
-use crate::read::ReadStatus;
 use crate::tally;
 use crate::tally::Verdict;
 use leakage::limits::Limits;
@@ -221,33 +222,22 @@ fn judged_in(
 }
 
 // The answer and its list against what is recorded.
-pub fn judged(
-    line: &[u8],
-    c: Cursor,
-    answer: ListedWords,
-    words: &[u64],
-    values: &[f64],
-) -> Verdict {
-    let ReadStatus::Status(status, c1) = read::status(line, c) else {
-        return Verdict::Malformed;
-    };
-    let Read::Number(count, c2) = read::number(line, c1) else {
-        return Verdict::Malformed;
-    };
-    let own = answer.status;
-    if !tally::same_status(status, own) {
-        return Verdict::Differs;
+fn judged(line: &[u8], c: Cursor, answer: ListedWords, words: &[u64], values: &[f64]) -> Verdict {
+    let told = judge::told(line, c, answer);
+    match told {
+        Agreement::Differs => Verdict::Differs,
+        Agreement::Malformed => Verdict::Malformed,
+        Agreement::Alike(count, c1) => judged_list(line, c1, count, words, values),
     }
-    let own_count = answer.count as u64;
-    if count != own_count {
-        return Verdict::Differs;
-    }
+}
+
+fn judged_list(line: &[u8], c: Cursor, count: u64, words: &[u64], values: &[f64]) -> Verdict {
     let n = read::at_most(count, LIST);
     let mut recorded_words = [0u64; 4 * LIST];
     let mut recorded_values = [0u64; LIST];
     judged_in(
         line,
-        c2,
+        c,
         words,
         values,
         &mut recorded_words[0..n * 4],

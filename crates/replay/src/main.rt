@@ -11,6 +11,7 @@
 mod actions;
 mod bases;
 mod float;
+mod judge;
 mod leakages;
 mod models;
 mod read;

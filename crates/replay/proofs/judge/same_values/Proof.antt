@@ -1,0 +1,34 @@
+-- SPDX-FileCopyrightText: 2026 The PPVM Authors
+-- SPDX-License-Identifier: Apache-2.0
+
+-- `judge::same_values` meets its contract: each turn looks at one place of both. Assumes nothing.
+use Prim.Native.Nat.{_-_, _≤_}
+use lib.ListN.{length}
+use borrow.Author.Needs.{needs}
+use Rattle.replay.proofs.judge.same_values.Statement.{statement}
+use Rattle.replay.proofs.judge.same_values.Tie as tie
+
+abbrev Inv-loop : tie.InvT-loop
+Inv-loop recorded values i₀ i = (i ≤ length recorded) × (length recorded ≤ length values)
+
+abbrev μ-loop : tie.MeasureT-loop
+μ-loop recorded values i₀ i = length recorded - i
+
+pub same-values-spec : {M : Type 1} → statement M
+same-values-spec =
+    tie.close
+    (tie.spec
+    Inv-loop
+    μ-loop
+    (λ c. search needs)
+    (λ c. search needs)
+    (λ c. search needs)
+    (λ c. search needs)
+    (λ c. search needs)
+    (λ c. search needs)
+    (λ c κs. search needs)
+    (λ c. search needs)
+    (λ c. search needs)
+    (λ c. search needs)
+    (λ c. search needs)
+    (λ c. search needs))
