@@ -78,13 +78,13 @@ fn search_slots(lanes: &[u64], heads: &[u64], nexts: &[u64]) -> usize
     ensures { λ r. ⌜ r ≡ firstRepeat (words (now (lanes .entry))) ⌝ }
 {
     let count = nexts.len();
-    let mut k = 0;
-    while k < count {
-        let place = place_before(lanes, heads, nexts, k);
+    let mut i = 0;
+    while i < count {
+        let place = place_before(lanes, heads, nexts, i);
         if place != 0 {
-            return k;
+            return i;
         }
-        k += 1;
+        i += 1;
     }
     count
 }

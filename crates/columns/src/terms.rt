@@ -52,7 +52,8 @@ pub fn stage_terms(
                 if end == room {
                     return Added::Full;
                 }
-                rows[end] = (place - 1) as u32;
+                let row = place - 1;
+                rows[end] = row as u32;
                 columns[end] = column as u32;
                 values[end] = x;
                 end += 1;

@@ -65,10 +65,9 @@ place c =
     let l = c .before .before .before .before .before .before .before .before .loop in
     term-place (words (a .basis .now)) (a .column) (a .touched) (a .sum-words .now) (a .sums .now) (a .rows .now) (a .columns .now) (a .values .now) (a .room) (a .count) (c .before .before .before .before .before .before .before .before .before .before .before .before .before .before .before .before .before .pre .0) (c .before .before .before .before .before .before .before .before .before .before .before .before .before .before .before .before .before .pre .1) (c .before .before .before .before .before .before .before .before .before .before .before .before .before .before .before .before .before .pre .5) (l .rows) (l .columns) (l .values) (l .end) (l .i) (l .inv) (c .before .before .before .before .before .before .before .loop-test .taken) (onto (c .before .before .before .before .before .before .term-at .result)) (c .before .before .before .before .before .before .term-at .ensures) (sym (c .before .before .before .before .before .is-zero .ensures) ∙ c .before .before .before .before .if1 .left) (c .before .before .last-place .result) (c .before .before .last-place .ensures) (c .before .if2 .left) (c .if3 .left)
 
+-- rows and columns are numbers of 32 bits
 cast-rows : tie.Need-cast-rows Inv-loop μ-loop
-cast-rows c =
-    let h = place-low (words (c .before .before .before .before .before .before .before .before .before .before .before .before .before .before .before .before .before .args .basis .now)) _ (c .before .before .last-place .ensures) in
-    search (h, c .before .before .before .before .before .before .before .before .before .before .before .before .before .before .before .before .before .pre .3, needs)
+cast-rows c = let h = place-low (words (c .before .before .before .before .before .before .before .before .before .before .before .before .before .before .before .before .before .args .basis .now)) _ (c .before .before .last-place .ensures) in search (h, c .before .before .before .before .before .before .before .before .before .before .before .before .before .before .before .before .before .pre .3, c .before .before .before .before .before .before .before .before .before .before .before .before .before .before .before .before .before .pre .4, needs)
 
 mul-rows : tie.Need-mul-rows Inv-loop μ-loop
 mul-rows c = let p = place c in search (p .0, c .before .before .before .before .before .before .before .before .loop .inv .rows-same, c .before .before .before .before .before .before .before .before .before .before .before .before .before .before .before .before .before .good .1 .1 .1 .1 .1 .1 .1 .0, needs)
@@ -77,7 +76,7 @@ slice-write-rows : tie.Need-slice-write-rows Inv-loop μ-loop
 slice-write-rows c = place c .0
 
 cast-columns : tie.Need-cast-columns Inv-loop μ-loop
-cast-columns c = search (c .before .before .before .before .before .before .before .before .before .before .before .before .before .before .before .before .before .pre .4, needs)
+cast-columns c = let h = place-low (words (c .before .before .before .before .before .before .before .before .before .before .before .before .before .before .before .before .before .args .basis .now)) _ (c .before .before .last-place .ensures) in search (h, c .before .before .before .before .before .before .before .before .before .before .before .before .before .before .before .before .before .pre .3, c .before .before .before .before .before .before .before .before .before .before .before .before .before .before .before .before .before .pre .4, needs)
 
 mul-columns : tie.Need-mul-columns Inv-loop μ-loop
 mul-columns c = let p = place c in search (p .1, c .before .before .before .before .before .before .before .before .loop .inv .columns-same, c .before .before .before .before .before .before .before .before .before .before .before .before .before .before .before .before .before .good .1 .1 .1 .1 .1 .1 .1 .1 .0, needs)
