@@ -3,7 +3,7 @@
 
 -- Numbers in a product: which is +0.0, and that a sum is finite only if what was added is. Assumes nothing.
 use mathlib.Core.Path.{_≡_, refl, sym, ap, _∙_}
-use mathlib.Core.Bool.{Bool, true, false, not, _&&_, _||_, cond, Bool·beq, false≢true}
+use mathlib.Core.Bool.{Bool, true, false, not, cond, Bool·beq, false≢true}
 use Prim.Native.Nat.{ℕ, zero, suc}
 use borrow.Author.Tests.{eqb-true, eq-eqb}
 use lib.Dec.{T, eqb}
@@ -11,7 +11,7 @@ use lib.IntN.{pos, negsuc}
 use lib.Ieee.{Float, nan, inf, fin, binary64, add, mul, eq, fits, isNan, ofBits, toBits, unlike}
 use lib.Ieee.Bits.{ofBits-toBits}
 use Rattle.number.specs.Floats.{float0, isFinite}
-use Rattle.csr.specs.Walks.{isClear, isReady}
+use Rattle.csr.specs.Walks.{isClear}
 
 -- ---- +0.0
 pub clear-is : (x : Float) → isClear x ≡ true → x ≡ float0
@@ -80,48 +80,3 @@ add-finite (inf s) (fin t n d) e = absurd (false≢true e)
 add-finite (fin s m e) nan h = absurd (false≢true h)
 add-finite (fin s m e) (inf t) h = absurd (false≢true h)
 add-finite (fin s m e) (fin t n d) h = (refl, refl)
-
--- ---- ready
-module _ (overwrite : Bool) (x y w : Float) where
-  pub not-clear : {r : Bool} → r ≡ isClear w → r ≡ false → false ≡ isReady overwrite x y w
-  unfolding isReady
-  not-clear e f = rw (sym (sym f ∙ e))
-
-  module _ {r : Bool} (e : r ≡ isClear w) (f : r ≡ true) where
-    pub not-finite : {q : Bool} → q ≡ isFinite x → q ≡ false → false ≡ isReady overwrite x y w
-    unfolding isReady
-    not-finite g h = rw (sym (sym f ∙ e), sym (sym h ∙ g))
-
-    module _ {q : Bool} (g : q ≡ isFinite x) (h : q ≡ true) where
-      pub ready-over : overwrite ≡ true → true ≡ isReady overwrite x y w
-      unfolding isReady
-      ready-over o = rw (sym (sym f ∙ e), sym (sym h ∙ g), o)
-
-      pub ready-add : overwrite ≡ false → {p : Bool} → p ≡ isFinite y → p ≡ isReady overwrite x y w
-      unfolding isReady
-      ready-add o i = rw (sym (sym f ∙ e), sym (sym h ∙ g), o) i
-
-  -- what is known where a row is ready
-  pub record Ready : Type 0 where
-    pub clear : w ≡ float0
-    pub input : isFinite x ≡ true
-    pub output : overwrite ≡ false → isFinite y ≡ true
-
-  pub ready : isReady overwrite x y w ≡ true → Ready
-  unfolding isReady
-  ready e = go (isClear w) refl (isFinite x) refl overwrite refl (isFinite y) refl e
-    where
-      go : (a : Bool) → isClear w ≡ a → (b : Bool) → isFinite x ≡ b → (o : Bool) → overwrite ≡ o → (d : Bool) → isFinite y ≡ d → (a && (b && (o || d))) ≡ true → Ready
-      go true ea true eb true eo d ed h = record { clear = clear-is w ea; input = eb; output = λ n. absurd (false≢true (sym n ∙ eo)) }
-      go true ea true eb false eo true ed h = record { clear = clear-is w ea; input = eb; output = λ n. ed }
-      go true ea true eb false eo false ed h = absurd (false≢true h)
-      go true ea false eb o eo d ed h = absurd (false≢true h)
-      go false ea b eb o eo d ed h = absurd (false≢true h)
-
-  pub is-ready : isClear w ≡ true → isFinite x ≡ true → (overwrite ≡ false → isFinite y ≡ true) → isReady overwrite x y w ≡ true
-  unfolding isReady
-  is-ready e f g = rw (e, f) (go overwrite refl)
-    where
-      go : (o : Bool) → overwrite ≡ o → (o || isFinite y) ≡ true
-      go true h = refl
-      go false h = g h

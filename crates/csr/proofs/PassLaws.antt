@@ -1,8 +1,8 @@
 -- SPDX-FileCopyrightText: 2026 The PPVM Authors
 -- SPDX-License-Identifier: Apache-2.0
 
--- The walk against the tests: where no row stops it, all tests pass and all that is to be stored is finite; where all tests pass and
--- work is zero, a row stops it exactly if what is to be stored there is not finite. Assumes nothing.
+-- The walk against the tests: where no row stops it, all tests pass and all that is to be stored is finite; where all tests pass, a row
+-- stops it exactly if what is to be stored there is not finite. Assumes nothing.
 use mathlib.Core.Path.{_≡_, refl, sym, ap, _∙_}
 use mathlib.Core.Bool.{Bool, true, false, not, _&&_, _||_, cond, false≢true}
 use mathlib.Core.List.{List, [], _∷_, _++_}
@@ -10,18 +10,18 @@ use Prim.Native.Nat.{ℕ, zero, suc, _+_, _-_, _≤_, _<_}
 use native.Mathlib.Omega.{arith}
 use borrow.Author.Tests.{not-false, leb-true, le-leb}
 use lib.Dec.{leb}
-use lib.Ieee.{Float, nan, binary64, add, eq, ofBits}
+use lib.Ieee.{Float, nan, binary64, add, eq}
 use lib.ListN.{getD, length, drop, replicate}
 use Rattle.number.specs.Floats.{float0, isFinite}
 use Rattle.model.specs.Tested.{firstTo}
-use Rattle.model.proofs.Firsts.{NoneBefore, first-before, first-none, first-cong}
+use Rattle.model.proofs.Firsts.{NoneBefore, first-inside, first-before, first-none, first-cong}
 use Rattle.basis.specs.Tests.{notFinite}
 use Rattle.csr.specs.Rows.{partOf}
 use Rattle.csr.specs.Products.{beside, rowEntries, rowSum, storedAt, product, badColumn}
-use Rattle.csr.specs.Walks.{badPlace, stopsAt, isClear, isReady, rowPasses, rowStops}
+use Rattle.csr.specs.Walks.{badPlace, stopsAt, notClear, Ready, rowPasses, rowStops}
 use Rattle.csr.specs.declared.rows.Row.{Row}
 use Rattle.csr.proofs.RowLaws.{part-length, part-at}
-use Rattle.csr.proofs.NumberLaws.{add-finite, Ready, ready, is-ready}
+use Rattle.csr.proofs.NumberLaws.{clear-is, add-finite}
 use Rattle.csr.proofs.SumLaws.{added-finite}
 use Rattle.csr.proofs.OffsetLaws.{Rising, rising, none-bad, offset-inside, by-rows}
 use Rattle.csr.proofs.ColumnLaws.{place-is}
@@ -29,11 +29,10 @@ use Rattle.csr.proofs.CheckLaws.{Sound}
 use Rattle.csr.proofs.WalkLaws.{product-at, columns-here, values-here, passes-is}
 
 -- ---- tests taken apart
-three-hold : (a b d : Bool) → (not a || (not b || not d)) ≡ false → (a ≡ true) × (b ≡ true) × (d ≡ true)
-three-hold true true true e = (refl, refl, refl)
-three-hold true true false e = absurd (false≢true (sym e))
-three-hold true false d e = absurd (false≢true (sym e))
-three-hold false b d e = absurd (false≢true (sym e))
+two-hold : (a b : Bool) → (not a || not b) ≡ false → (a ≡ true) × (b ≡ true)
+two-hold true true e = (refl, refl)
+two-hold true false e = absurd (false≢true (sym e))
+two-hold false b e = absurd (false≢true (sym e))
 
 both-hold : (a b d : Bool) → ((a && b) && d) ≡ true → (a ≡ true) × (b ≡ true)
 both-hold true true d e = (refl, refl)
@@ -44,6 +43,10 @@ neither-holds : (a b : Bool) → (a || b) ≡ false → (a ≡ false) × (b ≡ 
 neither-holds true b e = absurd (false≢true (sym e))
 neither-holds false b e = (refl, e)
 
+-- a search that came to its end
+pub all-first : (n : ℕ) (f : ℕ → Bool) {x : ℕ} → x ≡ firstTo n f → n ≤ x → firstTo n f ≡ n
+all-first n f e h = let i = first-inside n f in omega arith
+
 -- a part that was zero is made so again
 pub restored : {A : Type 0} (z d : A) (l : List A) (n : ℕ) → n ≤ length l → ((k : ℕ) → k < n → getD l k d ≡ z) → replicate n z ++ drop n l ≡ l
 restored z d l zero h f = refl
@@ -51,7 +54,7 @@ restored z d [] (suc n) h f = absurd (omega arith)
 restored {A} z d (x ∷ l) (suc n) h f =
     ap (λ (y : A). y ∷ (replicate n z ++ drop n l)) (sym (f 0 (omega arith))) ∙ ap (λ (t : List A). x ∷ t) (restored z d l n (omega arith) (λ k m. f (suc k) (omega arith)))
 
-module _ (offsets columns : List ℕ) (values input : List Float) (overwrite : Bool) (output work₀ : List Float) (sized : length offsets ≡ length input + 1) (same : length values ≡ length columns) where
+module _ (offsets columns : List ℕ) (values input : List Float) (overwrite : Bool) (output : List Float) (sized : length offsets ≡ length input + 1) (same : length values ≡ length columns) where
   abbrev rows : ℕ
   rows = length input
 
@@ -59,7 +62,7 @@ module _ (offsets columns : List ℕ) (values input : List Float) (overwrite : B
   offset k = getD offsets k 0
 
   abbrev stops : ℕ → Bool
-  stops = rowStops offsets columns values input overwrite output work₀
+  stops = rowStops offsets columns values input overwrite output
 
   abbrev stored : ℕ → Float
   stored = storedAt rows offsets columns values input overwrite output
@@ -71,28 +74,26 @@ module _ (offsets columns : List ℕ) (values input : List Float) (overwrite : B
   here r = record { start = offset r; end = offset (r + 1) }
 
   -- ---- a row that does not stop the walk
-  pub record Clean (r : ℕ) : Type 0 where
-    pub numbers : Ready overwrite (getD input r nan) (getD output r nan) (getD work₀ r nan)
+  record Clean (r : ℕ) : Type 0 where
     pub ordered : offset r ≤ offset (r + 1)
     pub within : offset (r + 1) ≤ length columns
     pub passed : NoneBefore (stopsAt input (partOf (here r) columns) (partOf (here r) values)) (offset (r + 1) - offset r)
     pub finite : isFinite (stored r) ≡ true
 
-  pub clean : (r : ℕ) → r < rows → stops r ≡ false → Clean r
+  clean : (r : ℕ) → r < rows → stops r ≡ false → Clean r
   unfolding rowStops rowPasses
   clean r h e =
-      let t = three-hold (isReady overwrite (getD input r nan) (getD output r nan) (getD work₀ r nan)) (rowPasses offsets columns values input overwrite output work₀ r) (isFinite (stored r)) e in
-      let b = both-hold (leb (offset r) (offset (r + 1))) (leb (offset (r + 1)) (length columns)) _ (t .1) in
+      let t = two-hold (rowPasses offsets columns values input r) (isFinite (stored r)) e in
+      let b = both-hold (leb (offset r) (offset (r + 1))) (leb (offset (r + 1)) (length columns)) _ (t .0) in
       let o = leb-true (offset r) (offset (r + 1)) (b .0) in
       let w = leb-true (offset (r + 1)) (length columns) (b .1) in
-      let p = sym (passes-is offsets columns values input overwrite output work₀ r (omega arith) o w) ∙ t .1 in
+      let p = sym (passes-is offsets columns values input r (omega arith) o w) ∙ t .0 in
       let f = leb-true (offset (r + 1) - offset r) _ p in
       record {
-        numbers = ready overwrite (getD input r nan) (getD output r nan) (getD work₀ r nan) (t .0);
         ordered = o;
         within = w;
         passed = λ k m. first-before (offset (r + 1) - offset r) (stopsAt input (partOf (here r) columns) (partOf (here r) values)) k (omega arith);
-        finite = t .2;
+        finite = t .1;
       }
 
   module _ (r : ℕ) (h : r < rows) (c : Clean r) where
@@ -105,8 +106,8 @@ module _ (offsets columns : List ℕ) (values input : List Float) (overwrite : B
     sum-finite : isFinite (rowSum input (beside cs vs)) ≡ true
     unfolding storedAt rowEntries
     sum-finite =
-        let e = columns-here offsets columns values input overwrite output work₀ r (omega arith) (c .ordered) (c .within) in
-        let f = values-here offsets columns values input overwrite output work₀ r (omega arith) (c .ordered) (c .within) in
+        let e = columns-here offsets columns values input r (omega arith) (c .ordered) (c .within) in
+        let f = values-here offsets columns values input r (omega arith) (c .ordered) (c .within) in
         rw (e, f) at (go overwrite (c .finite))
       where
         go : (b : Bool) → isFinite (cond b (rowSum input (rowEntries offsets columns values r)) (add binary64 (getD output r nan) (rowSum input (rowEntries offsets columns values r)))) ≡ true
@@ -114,7 +115,7 @@ module _ (offsets columns : List ℕ) (values input : List Float) (overwrite : B
         go true g = g
         go false g = add-finite (getD output r nan) (rowSum input (rowEntries offsets columns values r)) g .1
 
-    pub place-clean : (k : ℕ) → k < offset (r + 1) - offset r → badPlace rows cs k ≡ false
+    place-clean : (k : ℕ) → k < offset (r + 1) - offset r → badPlace rows cs k ≡ false
     unfolding stopsAt
     place-clean k m = neither-holds (badPlace rows cs k) _ (c .passed k m) .0
 
@@ -129,46 +130,45 @@ module _ (offsets columns : List ℕ) (values input : List Float) (overwrite : B
             let lv = part-length (here r) values (c .ordered) (omega (arith, c .within)) in
             added-finite input float0 cs vs (lv ∙ sym lc) sum-finite k (omega arith) e
 
-    pub value-clean : (k : ℕ) → k < offset (r + 1) - offset r → notFinite values (offset r + k) ≡ false
+    value-clean : (k : ℕ) → k < offset (r + 1) - offset r → notFinite values (offset r + k) ≡ false
     unfolding notFinite
     value-clean k m =
         let i : offset (r + 1) ≤ length values = omega (arith, c .within) in
         ap not (sym (ap (λ (x : Float). isFinite x) (part-at (here r) values (c .ordered) i k nan m)) ∙ value-finite k m)
 
-  -- ---- no row stops the walk
-  module _ (none : NoneBefore stops rows) (first : offset 0 ≡ 0) (last : offset rows ≡ length columns) where
-    each : (r : ℕ) → r < rows → Clean r
-    each r h = clean r h (none r h)
+  -- ---- no row stops the walk, and the short tables are as it asks
+  module _ (work : List Float) (ready : Ready input overwrite output work) where
+    none-fails : (f : ℕ → Bool) → firstTo rows f ≡ rows → NoneBefore f rows
+    none-fails f e k m = first-before rows f k (omega arith)
 
-    rise : Rising rows (length columns) offsets
-    rise = record { first = first; rises = λ r h. each r h .ordered; last = last }
+    module _ (none : NoneBefore stops rows) (first : offset 0 ≡ 0) (last : offset rows ≡ length columns) where
+      each : (r : ℕ) → r < rows → Clean r
+      each r h = clean r h (none r h)
 
-    pub passed-sound : Sound rows offsets columns values input overwrite output
-    unfolding notFinite
-    passed-sound = record {
-      offsets-sound = none-bad rows (length columns) offsets rise;
-      columns-sound = by-rows rows (length columns) offsets rise (badColumn rows offsets columns) (λ r k h m. sym (place-is rows offsets columns sized rise r h k m) ∙ place-clean r h (each r h) k m);
-      values-sound = λ k m. by-rows rows (length columns) offsets rise (notFinite values) (λ r i h n. value-clean r h (each r h) i n) k (omega arith);
-      input-sound = λ r h. ap not (each r h .numbers .input);
-      output-sound = λ e r h. ap not (each r h .numbers .output e);
-    }
+      rise : Rising rows (length columns) offsets
+      rise = record { first = first; rises = λ r h. each r h .ordered; last = last }
 
-    pub passed-finite : NoneBefore (notFinite products) rows
-    unfolding notFinite
-    passed-finite r h = ap not (ap (λ (x : Float). isFinite x) (product-at offsets columns values input overwrite output work₀ r nan h) ∙ each r h .finite)
+      pub passed-sound : Sound rows offsets columns values input overwrite output
+      passed-sound = record {
+        offsets-sound = none-bad rows (length columns) offsets rise;
+        columns-sound = by-rows rows (length columns) offsets rise (badColumn rows offsets columns) (λ r k h m. sym (place-is rows offsets columns sized rise r h k m) ∙ place-clean r h (each r h) k m);
+        values-sound = λ k m. by-rows rows (length columns) offsets rise (notFinite values) (λ r i h n. value-clean r h (each r h) i n) k (omega arith);
+        input-sound = none-fails (notFinite input) (ready .finite);
+        output-sound = λ e. none-fails (notFinite output) (ready .added e);
+      }
 
-  -- ---- the rows before the one that stops it had zero in work
-  pub passed-clear : (d : ℕ) → d ≤ rows → rows ≤ length work₀ → NoneBefore stops d → replicate d float0 ++ drop d work₀ ≡ work₀
-  passed-clear d l m p = restored float0 nan work₀ d (omega arith) (λ k n. clean k (omega arith) (p k n) .numbers .clear)
+      pub passed-finite : NoneBefore (notFinite products) rows
+      unfolding notFinite
+      passed-finite r h = ap not (ap (λ (x : Float). isFinite x) (product-at offsets columns values input overwrite output r nan h) ∙ each r h .finite)
 
-  -- ---- all tests pass, and work is zero
-  module _ (s : Sound rows offsets columns values input overwrite output) (zeros : (r : ℕ) → r < rows → getD work₀ r nan ≡ float0) where
+    -- what is made zero again was zero
+    pub zero-again : rows ≤ length work → (d : ℕ) → d ≤ rows → replicate d float0 ++ drop d work ≡ work
+    zero-again m d l = restored float0 nan work d (omega arith) (λ k n. clear-is (getD work k nan) (not-false _ (none-fails (notClear work) (ready .clear) k (omega arith))))
+
+  -- ---- all tests pass
+  module _ (s : Sound rows offsets columns values input overwrite output) where
     risen : Rising rows (length columns) offsets
     risen = rising rows (length columns) offsets (s .offsets-sound)
-
-    clear-zero : isClear float0 ≡ true
-    unfolding isClear ofBits
-    clear-zero = refl
 
     module _ (r : ℕ) (h : r < rows) where
       is-inside : offset (r + 1) ≤ length columns
@@ -187,16 +187,15 @@ module _ (offsets columns : List ℕ) (values input : List Float) (overwrite : B
           never true = refl
           never false = refl
 
-      pub stops-is : stops r ≡ notFinite products r
+      stops-is : stops r ≡ notFinite products r
       unfolding rowStops notFinite
       stops-is =
           let w = is-inside in
           let o = risen .rises r h in
           let n = offset (r + 1) - offset r in
           let e = first-none n (stopsAt input (partOf (here r) columns) (partOf (here r) values)) none-stops in
-          let p = passes-is offsets columns values input overwrite output work₀ r (omega arith) o w ∙ le-leb n _ (omega arith) in
-          let q = is-ready overwrite (getD input r nan) (getD output r nan) (getD work₀ r nan) (ap isClear (zeros r h) ∙ clear-zero) (not-false _ (s .input-sound r h)) (λ f. not-false _ (s .output-sound f r h)) in
-          rw (q, p, product-at offsets columns values input overwrite output work₀ r nan h)
+          let p = passes-is offsets columns values input r (omega arith) o w ∙ le-leb n _ (omega arith) in
+          rw (p, product-at offsets columns values input overwrite output r nan h)
 
     pub stops-first : firstTo rows stops ≡ firstTo rows (notFinite products)
     stops-first = first-cong rows stops (notFinite products) stops-is

@@ -6,9 +6,10 @@
 use mathlib.Core.Path.{_≡_, refl, sym, ap, _∙_}
 use mathlib.Core.Bool.{Bool, true, false, _||_, false≢true}
 use mathlib.Core.List.{List}
-use Prim.Native.Nat.{ℕ, suc, _+_, _≤_, _<_}
+use Prim.Native.Nat.{ℕ, suc, _+_, _-_, _%_, _^_, _≤_, _<_}
 use native.Mathlib.Omega.{arith}
-use borrow.Author.Tests.{ltb-false, leb-false}
+use native.Mathlib.Decide.{decLt}
+use borrow.Author.Tests.{ltb-false, leb-false, lt-ltb, le-ltb, le-leb, lt-leb}
 use lib.Dec.{ltb, leb}
 use lib.ListN.{getD}
 use Rattle.csr.specs.Walks.{leastAt, misplaced, badPlace}
@@ -28,6 +29,16 @@ in-place least rows column e = go (ltb column least) refl (leb rows column) refl
     go true ea b eb h = absurd (false≢true (sym h))
     go false ea true eb h = absurd (false≢true (sym h))
     go false ea false eb h = (ltb-false column least ea, leb-false rows column eb)
+
+-- one test for both: what is below the least wraps around
+pub one-test : (column least rows step : ℕ) → least ≤ rows → rows < 2 ^ 64 → step < 2 ^ 64 → (step + least) % 2 ^ 64 ≡ column → leb (rows - least) step ≡ misplaced least rows column
+unfolding misplaced
+one-test column least rows step l m n e = go (decLt column least) (decLt column rows)
+  where
+    go : Dec (column < least) → Dec (column < rows) → leb (rows - least) step ≡ (ltb column least || leb rows column)
+    go (yes a) b = rw (lt-ltb column least a) (le-leb (rows - least) step (omega arith))
+    go (no a) (yes b) = rw (le-ltb column least (omega arith), lt-leb rows column b) (lt-leb (rows - least) step (omega arith))
+    go (no a) (no b) = rw (le-ltb column least (omega arith), le-leb rows column (omega arith)) (le-leb (rows - least) step (omega arith))
 
 -- ---- a walk that has passed the first k columns
 pub record Placed (rows : ℕ) (cs : List ℕ) (least k : ℕ) : Type 0 where

@@ -15,11 +15,11 @@ use lib.Seq.{length-take-le}
 use Rattle.number.specs.Floats.{isFinite}
 use Rattle.model.specs.Tested.{firstTo}
 use Rattle.model.proofs.Firsts.{NoneBefore, none-start, none-more, first-here, first-none, first-inside}
-use Rattle.truncate.proofs.WriteLaws.{written-more, unwritten}
+use Rattle.truncate.proofs.WriteLaws.{written-more}
 use Rattle.kernel.proofs.IndexLaws.{items-length, items-at}
 use Rattle.csr.specs.Rows.{rowAt, partOf, rowOf}
 use Rattle.csr.specs.Products.{rowEntries, rowSum, storedAt, product}
-use Rattle.csr.specs.Walks.{stopsAt, RowWalked, isReady, rowPasses, rowStops, Walked}
+use Rattle.csr.specs.Walks.{stopsAt, RowWalked, rowPasses, rowStops, Walked}
 use Rattle.csr.specs.declared.rows.Row.{Row}
 use Rattle.csr.specs.declared.sums.RowSum.{RowSum}
 use Rattle.csr.proofs.RowLaws.{row-is, part-length}
@@ -36,49 +36,12 @@ and-right : (a : Bool) {b : Bool} → b ≡ false → (a && b) ≡ false
 and-right true e = e
 and-right false e = refl
 
-module _ (offsets columns : List ℕ) (values input : List Float) (overwrite : Bool) (output work₀ : List Float) where
+module _ (offsets columns : List ℕ) (values input : List Float) where
   abbrev rows : ℕ
   rows = length input
 
-  abbrev stops : ℕ → Bool
-  stops = rowStops offsets columns values input overwrite output work₀
-
   abbrev passes : ℕ → Bool
-  passes = rowPasses offsets columns values input overwrite output work₀
-
-  abbrev storedHere : ℕ → Float
-  storedHere = storedAt rows offsets columns values input overwrite output
-
-  abbrev products : List Float
-  products = product rows offsets columns values input overwrite output
-
-  pub product-length : length products ≡ rows
-  unfolding product
-  product-length = items-length storedHere rows
-
-  pub product-at : (r : ℕ) (d : Float) → r < rows → getD products r d ≡ storedHere r
-  unfolding product
-  product-at r d h = items-at storedHere rows r d h
-
-  -- ---- where the walk stops, and where it goes on
-  abbrev readyAt : ℕ → Bool
-  readyAt r = isReady overwrite (getD input r nan) (getD output r nan) (getD work₀ r nan)
-
-  pub stops-unready : (r : ℕ) → readyAt r ≡ false → stops r ≡ true
-  unfolding rowStops
-  stops-unready r e = rw e
-
-  pub stops-row : (r : ℕ) → passes r ≡ false → stops r ≡ true
-  unfolding rowStops
-  stops-row r e = or-right (not (readyAt r)) (rw e)
-
-  pub stops-value : (r : ℕ) → isFinite (storedHere r) ≡ false → stops r ≡ true
-  unfolding rowStops
-  stops-value r e = or-right (not (readyAt r)) (or-right (not (passes r)) (rw e))
-
-  pub goes-on : (r : ℕ) → readyAt r ≡ true → passes r ≡ true → isFinite (storedHere r) ≡ true → stops r ≡ false
-  unfolding rowStops
-  goes-on r e f g = rw (e, f, g)
+  passes = rowPasses offsets columns values input
 
   -- ---- one row
   module _ (r : ℕ) where
@@ -135,43 +98,71 @@ module _ (offsets columns : List ℕ) (values input : List Float) (overwrite : B
               let e : found .passed ≡ length (partOf here columns) = omega (arith, found-is, long) in
               walked .summed e ∙ rw (columns-here, values-here)
 
-          pub stored-here : (v : Float) → v ≡ cond overwrite (found .sum) (add binary64 (getD output r nan) (found .sum)) → v ≡ storedHere r
+          pub stored-here : (overwrite : Bool) (output : List Float) (v : Float) → v ≡ cond overwrite (found .sum) (add binary64 (getD output r nan) (found .sum)) → v ≡ storedAt rows offsets columns values input overwrite output r
           unfolding storedAt
-          stored-here v e = e ∙ ap (λ (s : Float). cond overwrite s (add binary64 (getD output r nan) s)) sum-here
+          stored-here overwrite output v e = e ∙ ap (λ (s : Float). cond overwrite s (add binary64 (getD output r nan) s)) sum-here
 
-  -- ---- a walk that has passed the first r rows
-  pub record Walking (r : ℕ) (work : List Float) : Type 0 where
-    pub room : r ≤ rows
-    pub none : NoneBefore stops r
-    pub laid : work ≡ take r products ++ drop r work₀
+  module _ (overwrite : Bool) (output : List Float) where
+    abbrev stops : ℕ → Bool
+    stops = rowStops offsets columns values input overwrite output
 
-  pub walking-start : Walking 0 work₀
-  walking-start = record { room = omega arith; none = none-start stops; laid = refl }
+    abbrev storedHere : ℕ → Float
+    storedHere = storedAt rows offsets columns values input overwrite output
 
-  module _ (r : ℕ) (work : List Float) (w : Walking r work) where
-    pub stopped-here : r < rows → stops r ≡ true → Walked offsets columns values input overwrite output work₀ r work
-    stopped-here h e = record { stopped = sym (first-here rows stops r h (w .none) e); laid = w .laid }
+    abbrev products : List Float
+    products = product rows offsets columns values input overwrite output
 
-    pub stopped-never : rows ≤ r → Walked offsets columns values input overwrite output work₀ rows work
-    stopped-never h =
-        let e : r ≡ rows = omega (arith, w .room) in
-        record { stopped = sym (first-none rows stops (λ i m. w .none i (omega arith))); laid = w .laid ∙ ap (λ (n : ℕ). take n products ++ drop n work₀) e }
+    pub product-length : length products ≡ rows
+    unfolding product
+    product-length = items-length storedHere rows
 
-    module _ (enough : rows ≤ length work₀) where
-      pub work-long : length work ≡ length work₀
-      work-long =
-          let l = product-length in
-          ap length (w .laid) ∙ rw (length-append, length-take-le r products (omega (arith, w .room)), length-drop) (omega (arith, w .room))
+    pub product-at : (r : ℕ) (d : Float) → r < rows → getD products r d ≡ storedHere r
+    unfolding product
+    product-at r d h = items-at storedHere rows r d h
 
-      module _ (h : r < rows) where
-        pub work-at : getD work r nan ≡ getD work₀ r nan
-        work-at = let l = product-length in unwritten nan products work₀ work r (omega arith) (omega arith) (w .laid)
+    -- ---- where the walk stops, and where it goes on
+    pub stops-row : (r : ℕ) → passes r ≡ false → stops r ≡ true
+    unfolding rowStops
+    stops-row r e = rw e
 
-        pub walking-next : (v : Float) → v ≡ storedHere r → stops r ≡ false → Walking (r + 1) (set work r v)
-        walking-next v e f =
-            let l = product-length in
-            record {
-              room = omega arith;
-              none = none-more stops r (w .none) f;
-              laid = written-more nan products work₀ work (set work r v) r v (omega arith) (omega arith) (w .laid) (e ∙ sym (product-at r nan h)) refl;
-            }
+    pub stops-value : (r : ℕ) → isFinite (storedHere r) ≡ false → stops r ≡ true
+    unfolding rowStops
+    stops-value r e = or-right (not (passes r)) (rw e)
+
+    pub goes-on : (r : ℕ) → passes r ≡ true → isFinite (storedHere r) ≡ true → stops r ≡ false
+    unfolding rowStops
+    goes-on r e f = rw (e, f)
+
+    -- ---- a walk that has passed the first r rows
+    module _ (work₀ : List Float) where
+      pub record Walking (r : ℕ) (work : List Float) : Type 0 where
+        pub room : r ≤ rows
+        pub none : NoneBefore stops r
+        pub laid : work ≡ take r products ++ drop r work₀
+
+      pub walking-start : Walking 0 work₀
+      walking-start = record { room = omega arith; none = none-start stops; laid = refl }
+
+      module _ (r : ℕ) (work : List Float) (w : Walking r work) where
+        pub stopped-here : r < rows → stops r ≡ true → Walked offsets columns values input overwrite output work₀ r work
+        stopped-here h e = record { stopped = sym (first-here rows stops r h (w .none) e); laid = w .laid }
+
+        pub stopped-never : rows ≤ r → Walked offsets columns values input overwrite output work₀ rows work
+        stopped-never h =
+            let e : r ≡ rows = omega (arith, w .room) in
+            record { stopped = sym (first-none rows stops (λ i m. w .none i (omega arith))); laid = w .laid ∙ ap (λ (n : ℕ). take n products ++ drop n work₀) e }
+
+        module _ (enough : rows ≤ length work₀) where
+          pub work-long : length work ≡ length work₀
+          work-long =
+              let l = product-length in
+              ap length (w .laid) ∙ rw (length-append, length-take-le r products (omega (arith, w .room)), length-drop) (omega (arith, w .room))
+
+          pub walking-next : r < rows → (v : Float) → v ≡ storedHere r → stops r ≡ false → Walking (r + 1) (set work r v)
+          walking-next h v e f =
+              let l = product-length in
+              record {
+                room = omega arith;
+                none = none-more stops r (w .none) f;
+                laid = written-more nan products work₀ work (set work r v) r v (omega arith) (omega arith) (w .laid) (e ∙ sym (product-at r nan h)) refl;
+              }

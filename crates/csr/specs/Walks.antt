@@ -1,8 +1,7 @@
 -- SPDX-FileCopyrightText: 2026 The PPVM Authors
 -- SPDX-License-Identifier: Apache-2.0
 
--- The one walk of the product: it passes a row where all is well, and stops at the first where anything is amiss, be it a number, a
--- column, or a work place that is not zero.
+-- The one walk of the product: it passes a row where all is well, and stops at the first where anything is amiss.
 use Prim.Native.Nat.{ℕ, zero, suc, _+_}
 use mathlib.Core.Path.{_≡_}
 use mathlib.Core.Bool.{Bool, true, false, not, _&&_, _||_}
@@ -51,28 +50,32 @@ isClear (fin false (suc m) e) = false
 isClear (fin false zero (negsuc k)) = false
 isClear (fin false zero (pos k)) = eqb k 0
 
--- what is asked of the numbers at a row: of input, of output where it is added to, and of work
-unfoldable pub isReady : Bool → Float → Float → Float → Bool
-isReady overwrite x y w = isClear w && (isFinite x && (overwrite || isFinite y))
+abbrev pub notClear : List Float → ℕ → Bool
+notClear l k = not (isClear (getD l k nan))
 
-module _ (offsets columns : List ℕ) (values input : List Float) (overwrite : Bool) (output work : List Float) where
+-- the first numbers of work are +0.0; those of input are finite, and those of output where they are added to
+pub record Ready (input : List Float) (overwrite : Bool) (output work : List Float) : Type 0 where
+  pub clear : firstTo (length input) (notClear work) ≡ length input
+  pub finite : firstTo (length input) (notFinite input) ≡ length input
+  pub added : overwrite ≡ false → firstTo (length input) (notFinite output) ≡ length input
+
+module _ (offsets columns : List ℕ) (values input : List Float) where
   -- whether row r stands inside, and all its entries are passed
   unfoldable pub rowPasses : ℕ → Bool
   rowPasses r =
       (leb (getD offsets r 0) (getD offsets (r + 1) 0) && leb (getD offsets (r + 1) 0) (length columns))
       && leb (length (rowOf offsets columns r)) (firstTo (length (rowOf offsets columns r)) (stopsAt input (rowOf offsets columns r) (partOf (rowAt offsets (length columns) r) values)))
 
-  unfoldable pub rowStops : ℕ → Bool
-  rowStops r =
-      not (isReady overwrite (getD input r nan) (getD output r nan) (getD work r nan))
-      || (not (rowPasses r) || not (isFinite (storedAt (length input) offsets columns values input overwrite output r)))
+  module _ (overwrite : Bool) (output : List Float) where
+    unfoldable pub rowStops : ℕ → Bool
+    rowStops r = not (rowPasses r) || not (isFinite (storedAt (length input) offsets columns values input overwrite output r))
 
-  -- how many rows were passed; what is to be stored there stands in work
-  pub record Walked (done : ℕ) (work′ : List Float) : Type 0 where
-    pub stopped : done ≡ firstTo (length input) rowStops
-    pub laid : work′ ≡ take done (product (length input) offsets columns values input overwrite output) ++ drop done work
+    -- how many rows were passed; what is to be stored there stands in work
+    pub record Walked (work : List Float) (done : ℕ) (work′ : List Float) : Type 0 where
+      pub stopped : done ≡ firstTo (length input) rowStops
+      pub laid : work′ ≡ take done (product (length input) offsets columns values input overwrite output) ++ drop done work
 
-  -- the walk of all rows, or nothing changed
-  pub record Quick (summed : Bool) (work′ : List Float) : Type 0 where
-    pub passed : summed ≡ true → (tableTests (length input) offsets columns values input overwrite output Accepted ≡ Accepted) × (firstTo (length input) (notFinite (product (length input) offsets columns values input overwrite output)) ≡ length input) × (work′ ≡ product (length input) offsets columns values input overwrite output ++ drop (length input) work)
-    pub kept : summed ≡ false → work′ ≡ work
+    -- all tests pass, all that is to be stored is finite, and it stands in work; or nothing is changed
+    pub record Quick (work : List Float) (summed : Bool) (work′ : List Float) : Type 0 where
+      pub passed : summed ≡ true → (tableTests (length input) offsets columns values input overwrite output Accepted ≡ Accepted) × (firstTo (length input) (notFinite (product (length input) offsets columns values input overwrite output)) ≡ length input) × (work′ ≡ product (length input) offsets columns values input overwrite output ++ drop (length input) work)
+      pub kept : summed ≡ false → work′ ≡ work

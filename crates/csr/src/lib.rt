@@ -6,3 +6,4 @@ pub mod check;
 pub mod product;
 pub mod rows;
 pub mod sums;
+pub mod work;

@@ -3,38 +3,41 @@
 
 // The product of a lent matrix by rows with a vector.
 ghost use mathlib.Core.Path.{_≡_};
+ghost use mathlib.Core.Bool.{true};
 ghost use Prim.Native.Nat.{_+_, _≤_};
-ghost use lib.ListN.{length, replicate, take};
+ghost use lib.ListN.{length};
 ghost use Rattle.refusal.specs.declared.Answer.the-variants.{Accepted};
-ghost use Rattle.number.specs.Floats.{float0};
 ghost use Rattle.csr.specs.Products.{tableTests, tested, finished, multiply};
-ghost use Rattle.csr.specs.Walks.{Quick};
+ghost use Rattle.csr.specs.Walks.{Ready, Quick};
 use crate::check::check_lengths;
 use crate::check::check_tables;
 use crate::sums::sum_rows;
+use crate::work::first_not_clear;
+use crate::work::store;
+use basis::tests::first_not_finite;
 use refusal::Answer;
 use refusal::Refusal;
 use table::clear::clear_numbers;
 
-// The numbers of one table over those of another.
-fn copy_numbers(from: &[f64], to: &mut [f64])
-    requires { ⌜ length (now to) ≤ length (now from) ⌝ }
-    ensures { λ _. ⌜ now (to .exit) ≡ take (length (now (to .entry))) (now (from .entry)) ⌝ }
+// Whether the numbers of the short tables are as the one walk asks.
+fn are_ready(input: &[f64], overwrite: bool, output: &[f64], work: &[f64]) -> bool
+    requires { ⌜ (length (now output) ≡ length (now input)) × (length (now input) ≤ length (now work)) ⌝ }
+    ensures { λ r. ⌜ (r ≡ true → Ready (now (input .entry)) overwrite (now (output .entry)) (now (work .entry))) ⌝ }
 {
-    let mut k = 0;
-    while k < to.len() {
-        to[k] = from[k];
-        k += 1;
+    let rows = input.len();
+    let clear = first_not_clear(work, rows);
+    if clear < rows {
+        return false;
     }
-}
-
-// What stands in work is stored, and work is zero again.
-fn store(output: &mut [f64], work: &mut [f64])
-    requires { ⌜ length (now output) ≤ length (now work) ⌝ }
-    ensures { λ _. ⌜ (now (output .exit) ≡ take (length (now (output .entry))) (now (work .entry))) × (now (work .exit) ≡ replicate (length (now (work .entry))) float0) ⌝ }
-{
-    copy_numbers(work, output);
-    clear_numbers(work);
+    let finite = first_not_finite(input, rows);
+    if finite < rows {
+        return false;
+    }
+    if overwrite {
+        return true;
+    }
+    let added = first_not_finite(output, rows);
+    rows <= added
 }
 
 // One walk, where all is well with the tables, the sums and the work places: whether it is so. Where it is
@@ -60,6 +63,10 @@ fn try_rows(
     if last != columns.len() {
         return false;
     }
+    let ready = are_ready(input, overwrite, output, work);
+    if !ready {
+        return false;
+    }
     let done = sum_rows(offsets, columns, values, input, overwrite, output, work);
     if done < rows {
         clear_numbers(&mut work[..done]);
@@ -69,8 +76,7 @@ fn try_rows(
 }
 
 // The product of tables whose lengths agree. Where the one walk does not do, what is amiss is looked for
-// in its order. If it is nothing, a work place was not zero or a sum is not finite, and the walk over a
-// work table that is zero tells which.
+// in its order. If it is nothing, a work place was not zero or a sum is not finite: a second walk tells.
 fn multiply_rows(
     offsets: &[u64],
     columns: &[u32],
@@ -93,7 +99,6 @@ fn multiply_rows(
     let Answer::Accepted = answer else {
         return answer;
     };
-    clear_numbers(work);
     let done = sum_rows(offsets, columns, values, input, overwrite, output, work);
     if done < rows {
         clear_numbers(work);

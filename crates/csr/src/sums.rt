@@ -10,9 +10,10 @@ ghost use mathlib.Core.Bool.{cond};
 ghost use Prim.Native.Nat.{_+_, _≤_};
 ghost use lib.Ieee.{binary64, add};
 ghost use lib.ListN.{length};
-ghost use Rattle.csr.specs.Walks.{misplaced, RowWalked, isClear, isReady, Walked};
+ghost use Rattle.csr.specs.Walks.{misplaced, RowWalked, Walked};
 use crate::rows::wide;
 use number::scalar::is_finite;
+use std::num::wrapping_sub_u64;
 
 // What a walk through a row found: how many entries it passed, and their sum.
 pub struct RowSum {
@@ -20,12 +21,14 @@ pub struct RowSum {
     pub sum: f64,
 }
 
-// Whether a column is below the least that may stand at its place, or not below the count of rows.
+// Whether a column is below the least that may stand at its place, or not below the count of rows. A
+// column below the least wraps around to a step that is longer than any, so that one test does for both.
 pub fn is_misplaced(column: usize, least: usize, rows: usize) -> bool
     requires { ⌜ least ≤ rows ⌝ }
     ensures { λ r. ⌜ r ≡ misplaced least rows column ⌝ }
 {
-    column < least || rows <= column
+    let step = wrapping_sub_u64(column as u64, least as u64);
+    rows - least <= step as usize
 }
 
 fn sum_row(columns: &[u32], values: &[f64], input: &[f64]) -> RowSum
@@ -59,34 +62,6 @@ fn sum_row(columns: &[u32], values: &[f64], input: &[f64]) -> RowSum
     RowSum { passed: k, sum }
 }
 
-// Whether x is +0.0: a work place that is so can be made so again.
-fn is_clear(x: f64) -> bool
-    ensures { λ r. ⌜ r ≡ isClear x ⌝ }
-{
-    if x == 0.0 {
-        return f64::to_bits(x) == 0;
-    }
-    false
-}
-
-// Whether the numbers at a row are as the walk asks: of input, of output, of work.
-fn is_ready(overwrite: bool, x: f64, y: f64, w: f64) -> bool
-    ensures { λ r. ⌜ r ≡ isReady overwrite x y w ⌝ }
-{
-    let clear = is_clear(w);
-    if !clear {
-        return false;
-    }
-    let finite = is_finite(x);
-    if !finite {
-        return false;
-    }
-    if overwrite {
-        return true;
-    }
-    is_finite(y)
-}
-
 // What is to be stored where y stands.
 fn stored(overwrite: bool, y: f64, sum: f64) -> f64
     ensures { λ r. ⌜ r ≡ cond overwrite sum (add binary64 y sum) ⌝ }
@@ -113,10 +88,6 @@ pub fn sum_rows(
     let rows = input.len();
     let mut r = 0;
     while r < rows {
-        let ready = is_ready(overwrite, input[r], output[r], work[r]);
-        if !ready {
-            return r;
-        }
         let start = offsets[r] as usize;
         let end = offsets[r + 1] as usize;
         if end < start {

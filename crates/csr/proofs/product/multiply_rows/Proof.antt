@@ -2,12 +2,11 @@
 -- SPDX-License-Identifier: Apache-2.0
 
 -- `product::multiply_rows` meets its contract, answer by answer. Assumes nothing.
-use mathlib.Core.Path.{sym, ap, _∙_}
+use mathlib.Core.Path.{sym, subst, _∙_}
 use mathlib.Core.List.{List}
 use native.Mathlib.Omega.{arith}
 use lib.Ieee.{Float}
-use lib.ListN.{length, replicate}
-use Rattle.number.specs.Floats.{float0}
+use Rattle.csr.specs.Walks.{Walked}
 use Rattle.csr.proofs.AnswerLaws.{quick-answer, refused-answer, late-answer, late-length, slow-answer}
 use borrow.Author.Needs.{needs}
 use Rattle.csr.proofs.product.multiply_rows.Statement.{statement}
@@ -30,35 +29,32 @@ returns-2 c =
 
 returns-3 : tie.Need-returns-3
 returns-3 c =
-    let s = c .before .before .before .before .before .before .before .before .before .before .before .before .before .before .before .before .before .before .before .before .before .before .before .before .before .before .before .before .before .before in
+    let s = c .before .before .before .before .before .before .before .before .before .before .before .before .before .before .before .before .before .before .before .before .before .before .before .before .before .before in
     let a = s .args in
-    let t = c .before .before .before .before .before .before .before .before .before .before .before .before .before .before .before .before .before .before .before .before .before .try-rows in
-    let kept = t .ensures .kept (c .before .before .before .before .before .before .before .before .before .before .before .before .before .before .before .before .before .before .if1 .left) in
+    let t = c .before .before .before .before .before .before .before .before .before .before .before .before .before .before .before .before .before .try-rows in
     let q = c .before .before .before .before .before .before .before .sum-rows in
-    let z = c .before .before .before .before .before .before .before .before .before .before .before .before .clear-numbers in
-    late-answer (a .offsets .now) (a .columns .now) (a .values .now) (a .input .now) (a .overwrite) (a .output .now) (a .work .now) (s .pre .2) (s .pre .3) (s .pre .0) (s .pre .1) (sym (c .before .before .before .before .before .before .before .before .before .before .before .before .before .before .before .before .check-tables .ensures) ∙ c .before .before .before .before .before .before .before .before .before .before .before .before .before .before .enum-told .given .1) (z .last .0) (z .ensures ∙ ap (λ (l : List Float). replicate (length l) float0) kept) (q .result) (q .last .1 .1 .1 .1 .1 .1 .0) (q .ensures) (c .before .before .clear-numbers2 .last .0) (c .before .before .clear-numbers2 .ensures) (c .before .before .before .before .if2 .taken)
+    let w = subst (λ (l : List Float). Walked (a .offsets .now) (a .columns .now) (a .values .now) (a .input .now) (a .overwrite) (a .output .now) l (q .result) (q .last .1 .1 .1 .1 .1 .1 .0)) (t .ensures .kept (c .before .before .before .before .before .before .before .before .before .before .before .before .before .before .if1 .left)) (q .ensures) in
+    late-answer (a .offsets .now) (a .columns .now) (a .values .now) (a .input .now) (a .overwrite) (a .output .now) (a .work .now) (s .pre .2) (s .pre .3) (s .pre .0) (s .pre .1) (sym (c .before .before .before .before .before .before .before .before .before .before .before .before .check-tables .ensures) ∙ c .before .before .before .before .before .before .before .before .before .before .enum-told .given .1) (q .result) (q .last .1 .1 .1 .1 .1 .1 .0) w (c .before .before .clear-numbers .last .0) (c .before .before .clear-numbers .ensures) (c .before .before .before .before .if2 .taken)
 
 store-requires-2 : tie.Need-store-requires-2
 store-requires-2 c κs =
-    let s = c .before .before .before .before .before .before .before .before .before .before .before .before .before .before .before .before .before .before .before .before .before .before .before .before .before .before .before .before in
+    let s = c .before .before .before .before .before .before .before .before .before .before .before .before .before .before .before .before .before .before .before .before .before .before .before .before in
     let a = s .args in
-    let t = c .before .before .before .before .before .before .before .before .before .before .before .before .before .before .before .before .before .before .before .try-rows in
-    let kept = t .ensures .kept (c .before .before .before .before .before .before .before .before .before .before .before .before .before .before .before .before .if1 .left) in
+    let t = c .before .before .before .before .before .before .before .before .before .before .before .before .before .before .before .try-rows in
     let q = c .before .before .before .before .before .sum-rows in
-    let z = c .before .before .before .before .before .before .before .before .before .before .clear-numbers in
-    let l = late-length (a .offsets .now) (a .columns .now) (a .values .now) (a .input .now) (a .overwrite) (a .output .now) (a .work .now) (s .pre .2) (s .pre .3) (s .pre .0) (s .pre .1) (sym (c .before .before .before .before .before .before .before .before .before .before .before .before .before .before .check-tables .ensures) ∙ c .before .before .before .before .before .before .before .before .before .before .before .before .enum-told .given .1) (z .last .0) (z .ensures ∙ ap (λ (l : List Float). replicate (length l) float0) kept) (q .result) (q .last .1 .1 .1 .1 .1 .1 .0) (q .ensures) in
+    let w = subst (λ (l : List Float). Walked (a .offsets .now) (a .columns .now) (a .values .now) (a .input .now) (a .overwrite) (a .output .now) l (q .result) (q .last .1 .1 .1 .1 .1 .1 .0)) (t .ensures .kept (c .before .before .before .before .before .before .before .before .before .before .before .before .if1 .left)) (q .ensures) in
+    let l = late-length (a .offsets .now) (a .columns .now) (a .values .now) (a .input .now) (a .overwrite) (a .output .now) (a .work .now) (s .pre .2) (s .pre .3) (s .pre .0) (s .pre .1) (sym (c .before .before .before .before .before .before .before .before .before .before .check-tables .ensures) ∙ c .before .before .before .before .before .before .before .before .enum-told .given .1) (q .result) (q .last .1 .1 .1 .1 .1 .1 .0) w in
     omega (arith, l, s .pre .2, s .pre .3)
 
 returns-4 : tie.Need-returns-4
 returns-4 c =
-    let s = c .before .before .before .before .before .before .before .before .before .before .before .before .before .before .before .before .before .before .before .before .before .before .before .before .before .before .before .before .before .before .before .before .before in
+    let s = c .before .before .before .before .before .before .before .before .before .before .before .before .before .before .before .before .before .before .before .before .before .before .before .before .before .before .before .before .before in
     let a = s .args in
-    let t = c .before .before .before .before .before .before .before .before .before .before .before .before .before .before .before .before .before .before .before .before .before .before .before .before .try-rows in
-    let kept = t .ensures .kept (c .before .before .before .before .before .before .before .before .before .before .before .before .before .before .before .before .before .before .before .before .before .if1 .left) in
+    let t = c .before .before .before .before .before .before .before .before .before .before .before .before .before .before .before .before .before .before .before .before .try-rows in
     let q = c .before .before .before .before .before .before .before .before .before .before .sum-rows in
-    let z = c .before .before .before .before .before .before .before .before .before .before .before .before .before .before .before .clear-numbers in
+    let w = subst (λ (l : List Float). Walked (a .offsets .now) (a .columns .now) (a .values .now) (a .input .now) (a .overwrite) (a .output .now) l (q .result) (q .last .1 .1 .1 .1 .1 .1 .0)) (t .ensures .kept (c .before .before .before .before .before .before .before .before .before .before .before .before .before .before .before .before .before .if1 .left)) (q .ensures) in
     let r = c .before .before .before .before .store2 in
-    slow-answer (a .offsets .now) (a .columns .now) (a .values .now) (a .input .now) (a .overwrite) (a .output .now) (a .work .now) (s .pre .2) (s .pre .3) (s .pre .0) (s .pre .1) (sym (c .before .before .before .before .before .before .before .before .before .before .before .before .before .before .before .before .before .before .before .check-tables .ensures) ∙ c .before .before .before .before .before .before .before .before .before .before .before .before .before .before .before .before .before .enum-told .given .1) (z .last .0) (z .ensures ∙ ap (λ (l : List Float). replicate (length l) float0) kept) (q .result) (q .last .1 .1 .1 .1 .1 .1 .0) (q .ensures) (r .last .0) (r .last .1 .0) (r .ensures .0) (r .ensures .1) (c .before .before .before .before .before .before .before .if2 .left)
+    slow-answer (a .offsets .now) (a .columns .now) (a .values .now) (a .input .now) (a .overwrite) (a .output .now) (a .work .now) (s .pre .2) (s .pre .3) (s .pre .0) (s .pre .1) (sym (c .before .before .before .before .before .before .before .before .before .before .before .before .before .before .before .check-tables .ensures) ∙ c .before .before .before .before .before .before .before .before .before .before .before .before .before .enum-told .given .1) (q .result) (q .last .1 .1 .1 .1 .1 .1 .0) w (r .last .0) (r .last .1 .0) (r .ensures .0) (r .ensures .1) (c .before .before .before .before .before .before .before .if2 .left)
 
 pub multiply-rows-spec : {M : Type 1} → statement M
 multiply-rows-spec =
@@ -75,7 +71,6 @@ multiply-rows-spec =
     (λ c. search needs)
     (λ c. search needs)
     returns-2
-    (λ c κs. search needs)
     (λ c κs. search needs)
     (λ c κs. search needs)
     (λ c. search needs)

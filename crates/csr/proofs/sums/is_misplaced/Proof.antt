@@ -2,18 +2,16 @@
 -- SPDX-License-Identifier: Apache-2.0
 
 -- `sums::is_misplaced` meets its contract. Assumes nothing.
-use borrow.Author.Tests.{lt-ltb, le-ltb}
-use Rattle.csr.specs.Walks.{misplaced}
+use native.Mathlib.Omega.{arith}
+use Rattle.csr.proofs.PlaceLaws.{one-test}
+use borrow.Author.Needs.{needs}
 use Rattle.csr.proofs.sums.is_misplaced.Statement.{statement}
 use Rattle.csr.proofs.sums.is_misplaced.Tie as tie
 
 returns : tie.Need-returns
-unfolding misplaced
-returns c = let a = c .before .args in rw (lt-ltb (a .column) (a .least) (c .if1 .taken))
-
-returns-2 : tie.Need-returns-2
-unfolding misplaced
-returns-2 c = let a = c .before .args in rw (le-ltb (a .column) (a .least) (c .if1 .left))
+returns c =
+    let a = c .before .args in
+    one-test (a .column) (a .least) (a .rows) (c .wrapping-sub-u64 .result) (c .before .pre) (omega arith) (omega arith) (c .wrapping-sub-u64 .ensures)
 
 pub is-misplaced-spec : {M : Type 1} → statement M
-is-misplaced-spec = tie.close (tie.spec returns returns-2)
+is-misplaced-spec = tie.close (tie.spec (λ c κs. search needs) (λ c. search needs) returns)

@@ -6,14 +6,13 @@ use mathlib.Core.Path.{_≡_, sym, ap, _∙_}
 use Prim.Native.Nat.{_+_, _-_}
 use native.Mathlib.Omega.{arith}
 use borrow.Author.Tests.{not-true, not-false}
-use lib.Ieee.{Float, nan}
+use lib.Ieee.{Float}
 use lib.ListN.{getD, length}
 use Rattle.number.specs.Floats.{isFinite}
 use Rattle.csr.specs.Rows.{partOf}
 use Rattle.csr.specs.Products.{storedAt}
-use Rattle.csr.specs.Walks.{isReady}
 use Rattle.csr.proofs.RowLaws.{part-length}
-use Rattle.csr.proofs.WalkLaws.{Walking, walking-start, walking-next, work-at, work-long, stopped-here, stopped-never, stops-unready, stops-row, stops-value, goes-on, falling-row, outside-row, stopped-row, passed-row, stored-here}
+use Rattle.csr.proofs.WalkLaws.{Walking, walking-start, walking-next, work-long, stopped-here, stopped-never, stops-row, stops-value, goes-on, falling-row, outside-row, stopped-row, passed-row, stored-here}
 use borrow.Author.Needs.{needs}
 use Rattle.csr.proofs.sums.sum_rows.Statement.{statement}
 use Rattle.csr.proofs.sums.sum_rows.Tie as tie
@@ -27,149 +26,126 @@ abbrev μ-loop : tie.MeasureT-loop
 loop-holds : tie.Need-loop-holds Inv-loop μ-loop
 loop-holds c = let a = c .before .before .before .before .before .before .args in walking-start (a .offsets .now) (a .columns .now) (a .values .now) (a .input .now) (a .overwrite) (a .output .now) (a .work .now)
 
--- ---- at the loop: work is as long as it was, and its place at r is as it was
+-- work is as long as it was
 long : (c : tie.At-loop Inv-loop μ-loop) → length (c .loop .work) ≡ length (c .before .before .before .before .before .before .before .args .work .now)
 long c = let s = c .before .before .before .before .before .before .before in let a = s .args in work-long (a .offsets .now) (a .columns .now) (a .values .now) (a .input .now) (a .overwrite) (a .output .now) (a .work .now) (c .loop .r) (c .loop .work) (c .loop .inv) (s .pre .3)
 
-slice-read-is-ready : tie.Need-slice-read-is-ready Inv-loop μ-loop
-slice-read-is-ready c = omega (arith, long (c .before .before .before .before), c .before .before .before .before .before .before .before .before .before .before .before .pre .3, c .before .before .before .loop-test .taken)
+mul-start : tie.Need-mul-start Inv-loop μ-loop
+mul-start c = let h = c .before .before .before .before .before .before .before .before .pre .0 in search needs
+
+shared-slice-read-start : tie.Need-shared-slice-read-start Inv-loop μ-loop
+shared-slice-read-start c = omega (arith, c .before .before .before .before .before .before .before .before .before .pre .0, c .before .loop-test .taken)
+
+mul-end : tie.Need-mul-end Inv-loop μ-loop
+mul-end c = let h = c .before .before .before .before .before .before .before .before .before .pre .0 in search needs
+
+shared-slice-read-end : tie.Need-shared-slice-read-end Inv-loop μ-loop
+shared-slice-read-end c = omega (arith, c .before .before .before .before .before .before .before .before .before .before .pre .0, c .before .before .loop-test .taken)
 
 same-length : tie.Need-same-length Inv-loop μ-loop
-same-length c = long (c .before .before .before .before .before .before)
-
-ready-is : (c : tie.After-is-ready Inv-loop μ-loop) → c .is-ready .result ≡ isReady (c .before .before .before .before .before .before .before .before .before .before .before .before .args .overwrite) (getD (c .before .before .before .before .before .before .before .before .before .before .before .before .args .input .now) (c .before .before .before .before .before .loop .r) nan) (getD (c .before .before .before .before .before .before .before .before .before .before .before .before .args .output .now) (c .before .before .before .before .before .loop .r) nan) (getD (c .before .before .before .before .before .before .before .before .before .before .before .before .args .work .now) (c .before .before .before .before .before .loop .r) nan)
-ready-is c =
-    let s = c .before .before .before .before .before .before .before .before .before .before .before .before in
-    let a = s .args in
-    let l = c .before .before .before .before .before .loop in
-    c .is-ready .ensures ∙ ap (isReady (a .overwrite) (getD (a .input .now) (l .r) nan) (getD (a .output .now) (l .r) nan)) (work-at (a .offsets .now) (a .columns .now) (a .values .now) (a .input .now) (a .overwrite) (a .output .now) (a .work .now) (l .r) (l .work) (l .inv) (s .pre .3) (c .before .before .before .before .loop-test .taken))
+same-length c = long (c .before .before .before .before)
 
 returns : tie.Need-returns Inv-loop μ-loop
 returns c =
-    let s = c .before .before .before .before .before .before .before .before .before .before .before .before .before in
+    let s = c .before .before .before .before .before .before .before .before .before .before .before in
     let a = s .args in
-    let l = c .before .before .before .before .before .before .loop in
-    stopped-here (a .offsets .now) (a .columns .now) (a .values .now) (a .input .now) (a .overwrite) (a .output .now) (a .work .now) (l .r) (l .work) (l .inv) (c .before .before .before .before .before .loop-test .taken) (stops-unready (a .offsets .now) (a .columns .now) (a .values .now) (a .input .now) (a .overwrite) (a .output .now) (a .work .now) (l .r) (sym (ready-is (c .before)) ∙ not-true _ (c .if1 .taken)))
-
-mul-start : tie.Need-mul-start Inv-loop μ-loop
-mul-start c = let h = c .before .before .before .before .before .before .before .before .before .before .before .before .before .pre .0 in let t = c .before .before .before .before .before .loop-test .taken in search needs
-
-shared-slice-read-start : tie.Need-shared-slice-read-start Inv-loop μ-loop
-shared-slice-read-start c = omega (arith, c .before .before .before .before .before .before .before .before .before .before .before .before .before .before .pre .0, c .before .before .before .before .before .before .loop-test .taken)
-
-add-end : tie.Need-add-end Inv-loop μ-loop
-add-end c = let t = c .before .before .before .before .before .before .loop-test .taken in search needs
-
-mul-end : tie.Need-mul-end Inv-loop μ-loop
-mul-end c = let h = c .before .before .before .before .before .before .before .before .before .before .before .before .before .before .pre .0 in let t = c .before .before .before .before .before .before .loop-test .taken in search needs
-
-shared-slice-read-end : tie.Need-shared-slice-read-end Inv-loop μ-loop
-shared-slice-read-end c = omega (arith, c .before .before .before .before .before .before .before .before .before .before .before .before .before .before .before .pre .0, c .before .before .before .before .before .before .before .loop-test .taken)
+    let l = c .before .before .before .before .loop in
+    stopped-here (a .offsets .now) (a .columns .now) (a .values .now) (a .input .now) (a .overwrite) (a .output .now) (a .work .now) (l .r) (l .work) (l .inv) (c .before .before .before .loop-test .taken) (stops-row (a .offsets .now) (a .columns .now) (a .values .now) (a .input .now) (a .overwrite) (a .output .now) (l .r) (falling-row (a .offsets .now) (a .columns .now) (a .values .now) (a .input .now) (l .r) (c .if1 .taken)))
 
 same-length-2 : tie.Need-same-length-2 Inv-loop μ-loop
-same-length-2 c = long (c .before .before .before .before .before .before .before .before .before)
+same-length-2 c = long (c .before .before .before .before .before)
 
 returns-2 : tie.Need-returns-2 Inv-loop μ-loop
 returns-2 c =
-    let s = c .before .before .before .before .before .before .before .before .before .before .before .before .before .before .before .before in
+    let s = c .before .before .before .before .before .before .before .before .before .before .before .before in
     let a = s .args in
-    let l = c .before .before .before .before .before .before .before .before .before .loop in
-    stopped-here (a .offsets .now) (a .columns .now) (a .values .now) (a .input .now) (a .overwrite) (a .output .now) (a .work .now) (l .r) (l .work) (l .inv) (c .before .before .before .before .before .before .before .before .loop-test .taken) (stops-row (a .offsets .now) (a .columns .now) (a .values .now) (a .input .now) (a .overwrite) (a .output .now) (a .work .now) (l .r) (falling-row (a .offsets .now) (a .columns .now) (a .values .now) (a .input .now) (a .overwrite) (a .output .now) (a .work .now) (l .r) (c .if2 .taken)))
+    let l = c .before .before .before .before .before .loop in
+    stopped-here (a .offsets .now) (a .columns .now) (a .values .now) (a .input .now) (a .overwrite) (a .output .now) (a .work .now) (l .r) (l .work) (l .inv) (c .before .before .before .before .loop-test .taken) (stops-row (a .offsets .now) (a .columns .now) (a .values .now) (a .input .now) (a .overwrite) (a .output .now) (l .r) (outside-row (a .offsets .now) (a .columns .now) (a .values .now) (a .input .now) (l .r) (c .if2 .taken)))
+
+mul-sum-row : tie.Need-mul-sum-row Inv-loop μ-loop
+mul-sum-row c = let h1 = c .before .if1 .left in let h2 = c .if2 .left in search needs
+
+part-sum-row-start : tie.Need-part-sum-row-start Inv-loop μ-loop
+part-sum-row-start c = c .before .if1 .left
+
+part-sum-row-end : tie.Need-part-sum-row-end Inv-loop μ-loop
+part-sum-row-end c = c .if2 .left
+
+mul-sum-row-2 : tie.Need-mul-sum-row-2 Inv-loop μ-loop
+mul-sum-row-2 c = let h1 = c .before .before .if1 .left in let h2 = c .before .if2 .left in let h3 = c .before .before .before .before .before .before .before .before .before .before .before .before .before .pre .1 in search needs
+
+part-sum-row-start-2 : tie.Need-part-sum-row-start-2 Inv-loop μ-loop
+part-sum-row-start-2 c = c .before .before .if1 .left
+
+part-sum-row-end-2 : tie.Need-part-sum-row-end-2 Inv-loop μ-loop
+part-sum-row-end-2 c = omega (arith, c .before .if2 .left, c .before .before .before .before .before .before .before .before .before .before .before .before .before .pre .1)
+
+sum-row-requires : tie.Need-sum-row-requires Inv-loop μ-loop
+unfolding partOf
+sum-row-requires c κs =
+    let s = c .before .before .before .before .before .before .before .before .before .before .before .before .before .before in
+    let a = s .args in
+    let l = c .before .before .before .before .before .before .before .loop in
+    let h1 = c .before .before .before .if1 .left in
+    let h2 = c .before .before .if2 .left in
+    part-length (record { start = getD (a .offsets .now) (l .r) 0; end = getD (a .offsets .now) (l .r + 1) 0 }) (a .values .now) h1 (omega (arith, s .pre .1))
+    ∙ sym (part-length (record { start = getD (a .offsets .now) (l .r) 0; end = getD (a .offsets .now) (l .r + 1) 0 }) (a .columns .now) h1 h2)
 
 same-length-3 : tie.Need-same-length-3 Inv-loop μ-loop
 same-length-3 c = long (c .before .before .before .before .before .before .before .before .before .before)
 
 returns-3 : tie.Need-returns-3 Inv-loop μ-loop
+unfolding partOf
 returns-3 c =
     let s = c .before .before .before .before .before .before .before .before .before .before .before .before .before .before .before .before .before in
     let a = s .args in
     let l = c .before .before .before .before .before .before .before .before .before .before .loop in
-    stopped-here (a .offsets .now) (a .columns .now) (a .values .now) (a .input .now) (a .overwrite) (a .output .now) (a .work .now) (l .r) (l .work) (l .inv) (c .before .before .before .before .before .before .before .before .before .loop-test .taken) (stops-row (a .offsets .now) (a .columns .now) (a .values .now) (a .input .now) (a .overwrite) (a .output .now) (a .work .now) (l .r) (outside-row (a .offsets .now) (a .columns .now) (a .values .now) (a .input .now) (a .overwrite) (a .output .now) (a .work .now) (l .r) (c .if3 .taken)))
+    stopped-here (a .offsets .now) (a .columns .now) (a .values .now) (a .input .now) (a .overwrite) (a .output .now) (a .work .now) (l .r) (l .work) (l .inv) (c .before .before .before .before .before .before .before .before .before .loop-test .taken)
+    (stops-row (a .offsets .now) (a .columns .now) (a .values .now) (a .input .now) (a .overwrite) (a .output .now) (l .r) (stopped-row (a .offsets .now) (a .columns .now) (a .values .now) (a .input .now) (l .r) (omega (arith, s .pre .0, c .before .before .before .before .before .before .before .before .before .loop-test .taken)) (c .before .before .before .before .before .before .if1 .left) (c .before .before .before .before .before .if2 .left) (c .before .before .sum-row .result) (c .before .before .sum-row .ensures) (c .if3 .taken)))
 
-mul-sum-row : tie.Need-mul-sum-row Inv-loop μ-loop
-mul-sum-row c = let h1 = c .before .if2 .left in let h2 = c .if3 .left in search needs
-
-part-sum-row-start : tie.Need-part-sum-row-start Inv-loop μ-loop
-part-sum-row-start c = c .before .if2 .left
-
-part-sum-row-end : tie.Need-part-sum-row-end Inv-loop μ-loop
-part-sum-row-end c = c .if3 .left
-
-mul-sum-row-2 : tie.Need-mul-sum-row-2 Inv-loop μ-loop
-mul-sum-row-2 c = let h1 = c .before .before .if2 .left in let h2 = c .before .if3 .left in let h3 = c .before .before .before .before .before .before .before .before .before .before .before .before .before .before .before .before .before .before .pre .1 in search needs
-
-part-sum-row-start-2 : tie.Need-part-sum-row-start-2 Inv-loop μ-loop
-part-sum-row-start-2 c = c .before .before .if2 .left
-
-part-sum-row-end-2 : tie.Need-part-sum-row-end-2 Inv-loop μ-loop
-part-sum-row-end-2 c = omega (arith, c .before .if3 .left, c .before .before .before .before .before .before .before .before .before .before .before .before .before .before .before .before .before .before .pre .1)
-
-sum-row-requires : tie.Need-sum-row-requires Inv-loop μ-loop
+-- the value is what is to be stored at r
+value-is : (c : tie.After-stored Inv-loop μ-loop) → c .stored .result ≡ storedAt (length (c .before .before .before .before .before .before .before .before .before .before .before .before .before .before .before .before .before .before .before .args .input .now)) (c .before .before .before .before .before .before .before .before .before .before .before .before .before .before .before .before .before .before .before .args .offsets .now) (c .before .before .before .before .before .before .before .before .before .before .before .before .before .before .before .before .before .before .before .args .columns .now) (c .before .before .before .before .before .before .before .before .before .before .before .before .before .before .before .before .before .before .before .args .values .now) (c .before .before .before .before .before .before .before .before .before .before .before .before .before .before .before .before .before .before .before .args .input .now) (c .before .before .before .before .before .before .before .before .before .before .before .before .before .before .before .before .before .before .before .args .overwrite) (c .before .before .before .before .before .before .before .before .before .before .before .before .before .before .before .before .before .before .before .args .output .now) (c .before .before .before .before .before .before .before .before .before .before .before .before .loop .r)
 unfolding partOf
-sum-row-requires c κs =
+value-is c =
     let s = c .before .before .before .before .before .before .before .before .before .before .before .before .before .before .before .before .before .before .before in
     let a = s .args in
     let l = c .before .before .before .before .before .before .before .before .before .before .before .before .loop in
-    let h1 = c .before .before .before .if2 .left in
-    let h2 = c .before .before .if3 .left in
-    part-length (record { start = getD (a .offsets .now) (l .r) 0; end = getD (a .offsets .now) (l .r + 1) 0 }) (a .values .now) h1 (omega (arith, s .pre .1))
-    ∙ sym (part-length (record { start = getD (a .offsets .now) (l .r) 0; end = getD (a .offsets .now) (l .r + 1) 0 }) (a .columns .now) h1 h2)
+    stored-here (a .offsets .now) (a .columns .now) (a .values .now) (a .input .now) (l .r) (omega (arith, s .pre .0, c .before .before .before .before .before .before .before .before .before .before .before .loop-test .taken)) (c .before .before .before .before .before .before .before .before .if1 .left) (c .before .before .before .before .before .before .before .if2 .left) (c .before .before .before .before .sum-row .result) (c .before .before .before .before .sum-row .ensures) (c .before .before .if3 .left) (a .overwrite) (a .output .now) (c .stored .result) (c .stored .ensures)
 
-same-length-4 : tie.Need-same-length-4 Inv-loop μ-loop
-same-length-4 c = long (c .before .before .before .before .before .before .before .before .before .before .before .before .before .before .before)
-
-returns-4 : tie.Need-returns-4 Inv-loop μ-loop
-unfolding partOf
-returns-4 c =
-    let s = c .before .before .before .before .before .before .before .before .before .before .before .before .before .before .before .before .before .before .before .before .before .before in
-    let a = s .args in
-    let l = c .before .before .before .before .before .before .before .before .before .before .before .before .before .before .before .loop in
-    stopped-here (a .offsets .now) (a .columns .now) (a .values .now) (a .input .now) (a .overwrite) (a .output .now) (a .work .now) (l .r) (l .work) (l .inv) (c .before .before .before .before .before .before .before .before .before .before .before .before .before .before .loop-test .taken)
-    (stops-row (a .offsets .now) (a .columns .now) (a .values .now) (a .input .now) (a .overwrite) (a .output .now) (a .work .now) (l .r) (stopped-row (a .offsets .now) (a .columns .now) (a .values .now) (a .input .now) (a .overwrite) (a .output .now) (a .work .now) (l .r) (omega (arith, s .pre .0, c .before .before .before .before .before .before .before .before .before .before .before .before .before .before .loop-test .taken)) (c .before .before .before .before .before .before .if2 .left) (c .before .before .before .before .before .if3 .left) (c .before .before .sum-row .result) (c .before .before .sum-row .ensures) (c .if4 .taken)))
-
-same-length-5 : tie.Need-same-length-5 Inv-loop μ-loop
-same-length-5 c = long (c .before .before .before .before .before .before .before .before .before .before .before .before .before .before .before .before .before .before .before)
-
--- the value is what is to be stored at r
-value-is : (c : tie.After-stored Inv-loop μ-loop) → c .stored .result ≡ storedAt (length (c .before .before .before .before .before .before .before .before .before .before .before .before .before .before .before .before .before .before .before .before .before .before .before .before .args .input .now)) (c .before .before .before .before .before .before .before .before .before .before .before .before .before .before .before .before .before .before .before .before .before .before .before .before .args .offsets .now) (c .before .before .before .before .before .before .before .before .before .before .before .before .before .before .before .before .before .before .before .before .before .before .before .before .args .columns .now) (c .before .before .before .before .before .before .before .before .before .before .before .before .before .before .before .before .before .before .before .before .before .before .before .before .args .values .now) (c .before .before .before .before .before .before .before .before .before .before .before .before .before .before .before .before .before .before .before .before .before .before .before .before .args .input .now) (c .before .before .before .before .before .before .before .before .before .before .before .before .before .before .before .before .before .before .before .before .before .before .before .before .args .overwrite) (c .before .before .before .before .before .before .before .before .before .before .before .before .before .before .before .before .before .before .before .before .before .before .before .before .args .output .now) (c .before .before .before .before .before .before .before .before .before .before .before .before .before .before .before .before .before .loop .r)
-unfolding partOf
-value-is c =
-    let s = c .before .before .before .before .before .before .before .before .before .before .before .before .before .before .before .before .before .before .before .before .before .before .before .before in
-    let a = s .args in
-    let l = c .before .before .before .before .before .before .before .before .before .before .before .before .before .before .before .before .before .loop in
-    stored-here (a .offsets .now) (a .columns .now) (a .values .now) (a .input .now) (a .overwrite) (a .output .now) (a .work .now) (l .r) (omega (arith, s .pre .0, c .before .before .before .before .before .before .before .before .before .before .before .before .before .before .before .before .loop-test .taken)) (c .before .before .before .before .before .before .before .before .if2 .left) (c .before .before .before .before .before .before .before .if3 .left) (c .before .before .before .before .sum-row .result) (c .before .before .before .before .sum-row .ensures) (c .before .before .if4 .left) (c .stored .result) (c .stored .ensures)
-
-finite-is : (c : tie.After-is-finite Inv-loop μ-loop) → c .is-finite .result ≡ isFinite (storedAt (length (c .before .before .before .before .before .before .before .before .before .before .before .before .before .before .before .before .before .before .before .before .before .before .before .before .before .args .input .now)) (c .before .before .before .before .before .before .before .before .before .before .before .before .before .before .before .before .before .before .before .before .before .before .before .before .before .args .offsets .now) (c .before .before .before .before .before .before .before .before .before .before .before .before .before .before .before .before .before .before .before .before .before .before .before .before .before .args .columns .now) (c .before .before .before .before .before .before .before .before .before .before .before .before .before .before .before .before .before .before .before .before .before .before .before .before .before .args .values .now) (c .before .before .before .before .before .before .before .before .before .before .before .before .before .before .before .before .before .before .before .before .before .before .before .before .before .args .input .now) (c .before .before .before .before .before .before .before .before .before .before .before .before .before .before .before .before .before .before .before .before .before .before .before .before .before .args .overwrite) (c .before .before .before .before .before .before .before .before .before .before .before .before .before .before .before .before .before .before .before .before .before .before .before .before .before .args .output .now) (c .before .before .before .before .before .before .before .before .before .before .before .before .before .before .before .before .before .before .loop .r))
+finite-is : (c : tie.After-is-finite Inv-loop μ-loop) → c .is-finite .result ≡ isFinite (storedAt (length (c .before .before .before .before .before .before .before .before .before .before .before .before .before .before .before .before .before .before .before .before .args .input .now)) (c .before .before .before .before .before .before .before .before .before .before .before .before .before .before .before .before .before .before .before .before .args .offsets .now) (c .before .before .before .before .before .before .before .before .before .before .before .before .before .before .before .before .before .before .before .before .args .columns .now) (c .before .before .before .before .before .before .before .before .before .before .before .before .before .before .before .before .before .before .before .before .args .values .now) (c .before .before .before .before .before .before .before .before .before .before .before .before .before .before .before .before .before .before .before .before .args .input .now) (c .before .before .before .before .before .before .before .before .before .before .before .before .before .before .before .before .before .before .before .before .args .overwrite) (c .before .before .before .before .before .before .before .before .before .before .before .before .before .before .before .before .before .before .before .before .args .output .now) (c .before .before .before .before .before .before .before .before .before .before .before .before .before .loop .r))
 finite-is c = c .is-finite .ensures ∙ ap (λ (x : Float). isFinite x) (value-is (c .before))
 
-returns-5 : tie.Need-returns-5 Inv-loop μ-loop
-returns-5 c =
-    let s = c .before .before .before .before .before .before .before .before .before .before .before .before .before .before .before .before .before .before .before .before .before .before .before .before .before .before in
+same-length-4 : tie.Need-same-length-4 Inv-loop μ-loop
+same-length-4 c = long (c .before .before .before .before .before .before .before .before .before .before .before .before .before .before)
+
+returns-4 : tie.Need-returns-4 Inv-loop μ-loop
+returns-4 c =
+    let s = c .before .before .before .before .before .before .before .before .before .before .before .before .before .before .before .before .before .before .before .before .before in
     let a = s .args in
-    let l = c .before .before .before .before .before .before .before .before .before .before .before .before .before .before .before .before .before .before .before .loop in
-    stopped-here (a .offsets .now) (a .columns .now) (a .values .now) (a .input .now) (a .overwrite) (a .output .now) (a .work .now) (l .r) (l .work) (l .inv) (c .before .before .before .before .before .before .before .before .before .before .before .before .before .before .before .before .before .before .loop-test .taken) (stops-value (a .offsets .now) (a .columns .now) (a .values .now) (a .input .now) (a .overwrite) (a .output .now) (a .work .now) (l .r) (sym (finite-is (c .before)) ∙ not-true _ (c .if5 .taken)))
+    let l = c .before .before .before .before .before .before .before .before .before .before .before .before .before .before .loop in
+    stopped-here (a .offsets .now) (a .columns .now) (a .values .now) (a .input .now) (a .overwrite) (a .output .now) (a .work .now) (l .r) (l .work) (l .inv) (c .before .before .before .before .before .before .before .before .before .before .before .before .before .loop-test .taken) (stops-value (a .offsets .now) (a .columns .now) (a .values .now) (a .input .now) (a .overwrite) (a .output .now) (l .r) (sym (finite-is (c .before)) ∙ not-true _ (c .if4 .taken)))
 
 slice-write-work : tie.Need-slice-write-work Inv-loop μ-loop
-slice-write-work c = omega (arith, long (c .before .before .before .before .before .before .before .before .before .before .before .before .before .before .before .before .before .before .before), c .before .before .before .before .before .before .before .before .before .before .before .before .before .before .before .before .before .before .before .before .before .before .before .before .before .before .pre .3, c .before .before .before .before .before .before .before .before .before .before .before .before .before .before .before .before .before .before .loop-test .taken)
+slice-write-work c = omega (arith, long (c .before .before .before .before .before .before .before .before .before .before .before .before .before .before), c .before .before .before .before .before .before .before .before .before .before .before .before .before .before .before .before .before .before .before .before .before .pre .3, c .before .before .before .before .before .before .before .before .before .before .before .before .before .loop-test .taken)
 
 loop-less : tie.Need-loop-less Inv-loop μ-loop
-loop-less c = omega (arith, c .before .before .before .before .before .before .before .before .before .before .before .before .before .before .before .before .before .before .loop-test .taken)
+loop-less c = omega (arith, c .before .before .before .before .before .before .before .before .before .before .before .before .before .loop-test .taken)
 
 loop-again : tie.Need-loop-again Inv-loop μ-loop
 unfolding partOf
 loop-again c =
-    let s = c .before .before .before .before .before .before .before .before .before .before .before .before .before .before .before .before .before .before .before .before .before .before .before .before .before .before in
+    let s = c .before .before .before .before .before .before .before .before .before .before .before .before .before .before .before .before .before .before .before .before .before in
     let a = s .args in
-    let l = c .before .before .before .before .before .before .before .before .before .before .before .before .before .before .before .before .before .before .before .loop in
-    let passed = passed-row (a .offsets .now) (a .columns .now) (a .values .now) (a .input .now) (a .overwrite) (a .output .now) (a .work .now) (l .r) (omega (arith, s .pre .0, c .before .before .before .before .before .before .before .before .before .before .before .before .before .before .before .before .before .before .loop-test .taken)) (c .before .before .before .before .before .before .before .before .before .before .if2 .left) (c .before .before .before .before .before .before .before .before .before .if3 .left) (c .before .before .before .before .before .before .sum-row .result) (c .before .before .before .before .before .before .sum-row .ensures) (c .before .before .before .before .if4 .left) in
-    walking-next (a .offsets .now) (a .columns .now) (a .values .now) (a .input .now) (a .overwrite) (a .output .now) (a .work .now) (l .r) (l .work) (l .inv) (s .pre .3) (c .before .before .before .before .before .before .before .before .before .before .before .before .before .before .before .before .before .before .loop-test .taken) (c .before .before .stored .result) (value-is (c .before .before))
-    (goes-on (a .offsets .now) (a .columns .now) (a .values .now) (a .input .now) (a .overwrite) (a .output .now) (a .work .now) (l .r) (sym (ready-is (c .before .before .before .before .before .before .before .before .before .before .before .before .before .before)) ∙ not-false _ (c .before .before .before .before .before .before .before .before .before .before .before .before .before .if1 .left)) passed (sym (finite-is (c .before)) ∙ not-false _ (c .if5 .left)))
+    let l = c .before .before .before .before .before .before .before .before .before .before .before .before .before .before .loop in
+    let passed = passed-row (a .offsets .now) (a .columns .now) (a .values .now) (a .input .now) (l .r) (omega (arith, s .pre .0, c .before .before .before .before .before .before .before .before .before .before .before .before .before .loop-test .taken)) (c .before .before .before .before .before .before .before .before .before .before .if1 .left) (c .before .before .before .before .before .before .before .before .before .if2 .left) (c .before .before .before .before .before .before .sum-row .result) (c .before .before .before .before .before .before .sum-row .ensures) (c .before .before .before .before .if3 .left) in
+    walking-next (a .offsets .now) (a .columns .now) (a .values .now) (a .input .now) (a .overwrite) (a .output .now) (a .work .now) (l .r) (l .work) (l .inv) (s .pre .3) (c .before .before .before .before .before .before .before .before .before .before .before .before .before .loop-test .taken) (c .before .before .stored .result) (value-is (c .before .before))
+    (goes-on (a .offsets .now) (a .columns .now) (a .values .now) (a .input .now) (a .overwrite) (a .output .now) (l .r) passed (sym (finite-is (c .before)) ∙ not-false _ (c .if4 .left)))
 
-same-length-6 : tie.Need-same-length-6 Inv-loop μ-loop
-same-length-6 c = long (c .before)
+same-length-5 : tie.Need-same-length-5 Inv-loop μ-loop
+same-length-5 c = long (c .before)
 
-returns-6 : tie.Need-returns-6 Inv-loop μ-loop
-returns-6 c =
+returns-5 : tie.Need-returns-5 Inv-loop μ-loop
+returns-5 c =
     let s = c .before .before .before .before .before .before .before .before in
     let a = s .args in
     let l = c .before .loop in
@@ -182,24 +158,15 @@ sum-rows-spec =
     Inv-loop
     μ-loop
     loop-holds
-    (λ c. search needs)
-    (λ c. search needs)
-    (λ c. search needs)
-    (λ c. search needs)
-    (λ c. search needs)
-    slice-read-is-ready
-    (λ c κs. search needs)
-    same-length
-    returns
     mul-start
     shared-slice-read-start
-    add-end
+    (λ c. search needs)
     mul-end
     shared-slice-read-end
+    same-length
+    returns
     same-length-2
     returns-2
-    same-length-3
-    returns-3
     mul-sum-row
     part-sum-row-start
     part-sum-row-end
@@ -207,18 +174,18 @@ sum-rows-spec =
     part-sum-row-start-2
     part-sum-row-end-2
     sum-row-requires
+    same-length-3
+    returns-3
+    (λ c. search needs)
+    (λ c. search needs)
+    (λ c κs. search needs)
+    (λ c κs. search needs)
     same-length-4
     returns-4
-    (λ c. search needs)
-    (λ c. search needs)
-    (λ c κs. search needs)
-    (λ c κs. search needs)
-    same-length-5
-    returns-5
     (λ c. search needs)
     slice-write-work
     (λ c. search needs)
     loop-less
     loop-again
-    same-length-6
-    returns-6)
+    same-length-5
+    returns-5)

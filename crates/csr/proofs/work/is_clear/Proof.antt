@@ -1,13 +1,13 @@
 -- SPDX-FileCopyrightText: 2026 The PPVM Authors
 -- SPDX-License-Identifier: Apache-2.0
 
--- `sums::is_clear` meets its contract: of the numbers equal to 0 only +0.0 has no bit set. Assumes nothing.
+-- `work::is_clear` meets its contract: of the numbers equal to 0 only +0.0 has no bit set. Assumes nothing.
 use lib.Dec.{T}
 use lib.Ieee.{binary64, fits}
 use Rattle.csr.proofs.NumberLaws.{zero-number, bits-clear, not-zero-clear}
 use borrow.Author.Needs.{needs}
-use Rattle.csr.proofs.sums.is_clear.Statement.{statement}
-use Rattle.csr.proofs.sums.is_clear.Tie as tie
+use Rattle.csr.proofs.work.is_clear.Statement.{statement}
+use Rattle.csr.proofs.work.is_clear.Tie as tie
 
 float-to-bits-result : tie.Need-float-to-bits-result
 float-to-bits-result c = zero-number (c .before .args .x) (c .if1 .taken)

@@ -1,7 +1,7 @@
 -- SPDX-FileCopyrightText: 2026 The PPVM Authors
 -- SPDX-License-Identifier: Apache-2.0
 
--- `product::copy_numbers` meets its contract: the numbers before k are copied. Assumes nothing.
+-- `work::copy_numbers` meets its contract: the numbers before k are copied. Assumes nothing.
 use mathlib.Core.Path.{_≡_, refl, ap, _∙_}
 use mathlib.Core.List.{_++_, append-nil}
 use Prim.Native.Nat.{ℕ, _-_, _≤_}
@@ -10,8 +10,8 @@ use lib.Ieee.{nan}
 use lib.ListN.{length, take, drop, length-set, drop-of-length-le}
 use Rattle.truncate.proofs.WriteLaws.{written-more}
 use borrow.Author.Needs.{needs}
-use Rattle.csr.proofs.product.copy_numbers.Statement.{statement}
-use Rattle.csr.proofs.product.copy_numbers.Tie as tie
+use Rattle.csr.proofs.work.copy_numbers.Statement.{statement}
+use Rattle.csr.proofs.work.copy_numbers.Tie as tie
 
 abbrev Inv-loop : tie.InvT-loop
 Inv-loop from to₀ k₀ to k = (k ≤ length to₀) × (length to ≡ length to₀) × (to ≡ take k from ++ drop k to₀)
