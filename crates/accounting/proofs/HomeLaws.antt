@@ -35,13 +35,11 @@ record TermOf (w : Word) (L : List Term) : Type 0 where
 
 term-of : (w : Word) (L : List Term) → Has w (map (λ (c : Term). c .word) L) → TermOf w L
 unfolding Has Member
-term-of w [] ()
 term-of w (c ∷ L) (inl e) = record { term = c; listed = inl refl; word-is = sym e }
 term-of w (c ∷ L) (inr h) = let r = term-of w L h in record { term = r .term; listed = inr (r .listed); word-is = r .word-is }
 
 has-term : (w : Word) (L : List Term) (c : Term) → Member c L → c .word ≡ w → Has w (map (λ (x : Term). x .word) L)
 unfolding Has Member
-has-term w [] c () e
 has-term w (x ∷ L) c (inl h) e = inl (sym e ∙ ap (λ (y : Term). y .word) h)
 has-term w (x ∷ L) c (inr h) e = inr (has-term w L c h e)
 
