@@ -18,6 +18,26 @@ use word::word::same_word;
 
 const HALF: u64 = 4_294_967_296;
 
+// A list of so few words takes so many slots: enough for short chains, and a number that is known here,
+// so that finding a slot takes no division.
+const FEW: usize = 256;
+
+const FEW_SLOTS: usize = 4_096;
+
+// How many of so many places are taken as slots for so many words.
+pub fn slots_for(places: usize, count: usize) -> usize
+    requires { ⌜ count ≤ places ⌝ }
+    ensures { λ r. ⌜ (count ≤ r) × (r ≤ places) ⌝ }
+{
+    if FEW < count {
+        return places;
+    }
+    if places < FEW_SLOTS {
+        return places;
+    }
+    FEW_SLOTS
+}
+
 fn lane_hash(a: u64, b: u64, lane: u64) -> u64
     requires { ⌜ (a < 4294967296) × (b < 4294967296) ⌝ }
     ensures { λ r. ⌜ r ≡ laneHash a b lane ⌝ }
@@ -42,7 +62,11 @@ fn slot_of(w: Word, slots: usize) -> usize
 {
     let h = word_hash(w);
     let folded = (h ^ (h / HALF)) % HALF;
-    (folded * 0x9e37_79b1 / 1_048_576) as usize % slots
+    let mixed = (folded * 0x9e37_79b1 / 1_048_576) as usize;
+    if slots == FEW_SLOTS {
+        return mixed % FEW_SLOTS;
+    }
+    mixed % slots
 }
 
 // Lays the chains of all words of a list; a place of nexts for each word, and at least as many slots.
