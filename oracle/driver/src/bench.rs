@@ -7,6 +7,7 @@
 
 mod actions;
 mod bases;
+mod generators;
 mod leakages;
 mod matrices;
 mod models;
@@ -78,13 +79,14 @@ impl Side {
 }
 
 /// The parts of the port, each with what is timed of it.
-const PARTS: [(&str, fn(u64) -> bool); 6] = [
+const PARTS: [(&str, fn(u64) -> bool); 7] = [
     ("words", words::bench),
     ("models", models::bench),
     ("matrices", matrices::bench),
     ("actions", actions::bench),
     ("bases", bases::bench),
     ("leakages", leakages::bench),
+    ("generators", generators::bench),
 ];
 
 /// Times everything, or one part. Fails where the sides do not answer alike.
@@ -92,7 +94,7 @@ pub fn run(seed: u64, only: Option<&str>) -> ExitCode {
     let asked = |part: &&(&str, _)| only.is_none_or(|only| only == part.0);
     let parts: Vec<_> = PARTS.iter().filter(asked).collect();
     if parts.is_empty() {
-        eprintln!("the parts are words, models, matrices, actions, bases, leakages");
+        eprintln!("the parts are {}", PARTS.map(|(part, _)| part).join(", "));
         return ExitCode::from(2);
     }
     let alike: Vec<bool> = parts.iter().map(|(_, bench)| bench(seed)).collect();

@@ -8,9 +8,13 @@
 
 mod actions;
 mod bases;
+mod generators;
 mod leakages;
 mod matrices;
 mod models;
+mod norms;
+mod over_basis;
+mod products;
 mod standing;
 mod words;
 
@@ -122,13 +126,16 @@ impl Tally {
 }
 
 /// The parts of the port, each with its comparison.
-const PARTS: [(&str, fn(u64, usize) -> Vec<Tally>); 6] = [
+const PARTS: [(&str, fn(u64, usize) -> Vec<Tally>); 9] = [
     ("words", words::compare),
     ("models", models::compare),
     ("matrices", matrices::compare),
     ("actions", actions::compare),
     ("bases", bases::compare),
     ("leakages", leakages::compare),
+    ("generators", generators::compare),
+    ("products", products::compare),
+    ("norms", norms::compare),
 ];
 
 /// Compares all operations, or those of one part, and prints what was found. Fails on a
@@ -137,7 +144,7 @@ pub fn run(seed: u64, cases: usize, only: Option<&str>) -> ExitCode {
     let asked = |part: &&(&str, _)| only.is_none_or(|only| only == part.0);
     let parts: Vec<_> = PARTS.iter().filter(asked).collect();
     if parts.is_empty() {
-        eprintln!("the parts are words, models, matrices, actions, bases, leakages");
+        eprintln!("the parts are {}", PARTS.map(|(part, _)| part).join(", "));
         return ExitCode::from(2);
     }
     let compare = |(_, compare): &&(&str, fn(u64, usize) -> Vec<Tally>)| compare(seed, cases);

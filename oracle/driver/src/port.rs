@@ -8,9 +8,12 @@
 
 pub mod actions;
 pub mod bases;
+pub mod generators;
 pub mod leakages;
 pub mod matrices;
 pub mod models;
+pub mod norms;
+pub mod products;
 
 use std::fmt::{Debug, Formatter};
 

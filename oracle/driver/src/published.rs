@@ -5,9 +5,11 @@
 
 pub mod actions;
 pub mod bases;
+pub mod generators;
 pub mod leakages;
 pub mod matrices;
 pub mod models;
+pub mod norms;
 
 use crate::port::{Commutator, Parsed, Phased, Status, Word};
 use ppvm_lindblad::{Error, W_CHUNKS, open};

@@ -9,9 +9,11 @@
 
 mod actions;
 mod bases;
+mod generators;
 mod leakages;
 mod matrices;
 mod models;
+mod products;
 mod standing;
 mod words;
 
@@ -73,5 +75,13 @@ pub fn run(seed: u64, cases: usize) -> ExitCode {
     actions::record(seed, cases / 8);
     bases::record(seed, cases / 16);
     leakages::record(seed, cases / 16);
+    generators::record(seed, cases / 25);
+    products::record(seed, cases / 16);
+    println!(
+        "# 18 and 13, 14, 15 or 16, then as these: answers of document 01 that the Rust does not"
+    );
+    println!("#   give");
+    generators::record_not_of_the_rust(seed, cases / 40);
+    products::record_not_of_the_rust(seed, cases / 10);
     ExitCode::SUCCESS
 }

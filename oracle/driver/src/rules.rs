@@ -9,9 +9,12 @@
 
 pub mod actions;
 pub mod bases;
+pub mod generators;
 pub mod leakages;
 pub mod matrices;
 pub mod models;
+pub mod norms;
+pub mod products;
 
 use crate::port::{Commutator, Parsed, Phased, Status, Word};
 use std::cmp::Ordering;

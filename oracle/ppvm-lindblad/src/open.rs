@@ -11,7 +11,7 @@ use crate::{LindbladSpec, algebra, expm, mf_expm, truncate, word};
 use fxhash::FxHashMap;
 use num::Complex;
 use ppvm_traits::PauliWordTrait;
-pub use quspin_expm::Degree;
+pub use quspin_expm::{Degree, Product, Questions, Seen};
 
 // ── word, algebra ────────────────────────────────────────────────────
 
@@ -110,32 +110,21 @@ pub fn add_leakage_capped<const C: usize>(
 
 // ── mf_expm, expm ────────────────────────────────────────────────────
 
-/// The product of the published CSR matrix over `basis` with `input`, added to `start` if given.
+/// What the published code hands to the exponential of `dt` times the generator over `basis`: the matrix,
+/// which can only be asked for products, mu and the degree. It makes none over an empty basis.
 ///
-/// `build_mf_cols` and the matrix are private to their file, so this goes in by the exponential,
-/// whose stand-in makes one product with the matrix that it is handed. The entries of column j are
-/// the product with the j-th unit vector.
-pub fn csr_product<const C: usize>(
-    spec: &LindbladSpec<C>,
-    basis: &[Word<C>],
-    input: &[f64],
-    start: Option<&[f64]>,
-) -> Vec<f64> {
-    let apply = || mf_expm::expm_apply_mf(spec, basis, 1.0, input, 0.0);
-    quspin_expm::watch(start, apply).0
-}
-
-/// The degree that the published code picks for the exponential of `dt` times the generator. It
-/// picks none over an empty basis. This is all that it shows of its column norm.
-pub fn degree<const C: usize>(
+/// `build_mf_cols`, the matrix and the column norm are private to their file, so this goes in by the
+/// exponential. Its stand-in answers the questions; the norm shows in nothing but the degree.
+pub fn exponential<const C: usize>(
     spec: &LindbladSpec<C>,
     basis: &[Word<C>],
     dt: f64,
     drop_tol: f64,
-) -> Option<Degree> {
+    questions: Questions,
+) -> Option<Seen> {
     let zeros = vec![0.0; basis.len()];
     let apply = || mf_expm::expm_apply_mf(spec, basis, dt, &zeros, drop_tol);
-    quspin_expm::watch(None, apply).1
+    quspin_expm::watch(questions, apply).1
 }
 
 pub fn select_ms(t_norm: f64) -> (u32, u32) {

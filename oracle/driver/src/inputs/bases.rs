@@ -138,7 +138,7 @@ fn protected(rng: &mut Rng, n_qubits: usize, entries: &[Word]) -> Vec<Word> {
     (0..count).map(|_| one()).collect()
 }
 
-pub(super) fn lanes_of(words: &[Word]) -> Vec<u64> {
+pub fn lanes_of(words: &[Word]) -> Vec<u64> {
     words.iter().flat_map(|w| w.lanes()).collect()
 }
 

@@ -247,7 +247,7 @@ pub fn places(model: Model, lent: &Lent, p: Word) -> Option<(usize, usize)> {
     Some(counts(&sums(model, lent, p).ok()?))
 }
 
-fn sum_places(words: &[u64], sums: &[f64]) -> usize {
+pub(super) fn sum_places(words: &[u64], sums: &[f64]) -> usize {
     (words.len() / 4).min(sums.len() / 2)
 }
 

@@ -20,7 +20,7 @@ pub const PASS: usize = 4096;
 const CANDIDATES_TABLE: usize = 2;
 
 /// The most places that lengths are told for.
-const MAX_PLACES: usize = 4_294_967_295;
+pub(super) const MAX_PLACES: usize = 4_294_967_295;
 
 /// The lengths of work tables that are enough.
 pub fn leakage_sizes(

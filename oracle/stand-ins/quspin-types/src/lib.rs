@@ -25,6 +25,9 @@ pub trait ExpmComputation: Copy {
     /// Ours: lets a caller outside the published files hand a real vector to a matrix of any
     /// number.
     fn of_real(re: f64) -> Self;
+
+    /// Ours: the real part, to read such a vector.
+    fn real(self) -> f64;
 }
 
 impl ExpmComputation for f64 {
@@ -34,6 +37,10 @@ impl ExpmComputation for f64 {
     fn of_real(re: f64) -> Self {
         re
     }
+
+    fn real(self) -> f64 {
+        self
+    }
 }
 
 impl ExpmComputation for Complex<f64> {
@@ -42,6 +49,10 @@ impl ExpmComputation for Complex<f64> {
 
     fn of_real(re: f64) -> Self {
         Complex::new(re, 0.0)
+    }
+
+    fn real(self) -> f64 {
+        self.re
     }
 }
 
