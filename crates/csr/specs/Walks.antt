@@ -35,6 +35,13 @@ badPlace rows cs k = misplaced (leastAt cs k) rows (getD cs k 0)
 unfoldable pub stopsAt : List Float → List ℕ → List Float → ℕ → Bool
 stopsAt input cs vs k = badPlace (length input) cs k || (eq (getD input (getD cs k 0) nan) float0 && notFinite vs k)
 
+-- no input is zero, so that none is skipped
+abbrev pub zeroAt : List Float → ℕ → Bool
+zeroAt input k = eq (getD input k nan) float0
+
+abbrev pub NoneZero : List Float → Type 0
+NoneZero input = firstTo (length input) (zeroAt input) ≡ length input
+
 -- how many entries were passed, and their sum where it was all of them
 pub record RowWalked (input : List Float) (cs : List ℕ) (vs : List Float) (r : RowSum) : Type 0 where
   pub stopped : r .passed ≡ firstTo (length cs) (stopsAt input cs vs)
