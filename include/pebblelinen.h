@@ -3,7 +3,8 @@
  *
  * The C interface of Pebblelinen: Pauli words, their texts, codes, products and order; models, built
  * in lent tables and tested there; their action on words; bases of words, pruned, capped and
- * enlarged in lent tables.
+ * enlarged in lent tables; what leaks out of a basis; the generator over a basis, its products, its
+ * norm and the Taylor degree for its exponential.
  *
  * Every function takes any input. Where an input is not accepted, the function says so by a
  * pebblelinen_status and changes nothing that it was lent, but for work tables, where the function
@@ -614,6 +615,201 @@ pebblelinen_listed pebblelinen_leakage_with_prune(
     next_sums_len, uint64_t *place_order, size_t place_order_len, uint64_t *place_work, size_t
     place_work_len, uint64_t *place_kept, size_t place_kept_len, uint64_t *out_words, size_t
     out_words_len, double *out_values, size_t out_values_len);
+
+/* ---- Generator ----
+ *
+ * The generator over a basis of distinct words is the matrix of the action: the entry in row r and
+ * column c is the number that the action on the word at position c lists for the word at position r.
+ * Rows and columns are positions, never qubits. Words that an action reaches outside the basis have
+ * no row. */
+
+/* The lengths of the work tables of pebblelinen_generator and pebblelinen_build_csr, in lanes or
+ * numbers. */
+typedef struct {
+    size_t h_index;
+    size_t j_index;
+    size_t mask;
+    size_t heads;
+    size_t nexts;
+    size_t work_words;
+    size_t work_sums;
+    size_t stage_rows;
+    size_t stage_columns;
+    size_t stage_values;
+} pebblelinen_generator_lengths;
+
+/* Lengths that are enough for a register of so many qubits, a basis of so many words, actions that
+ * touch at most so many words (`touched` of pebblelinen_count_action_terms over the basis), and so
+ * many entries; so many words times `listed` of that call are always enough entries. Longer tables
+ * will do; the norm's tables are among them. */
+pebblelinen_generator_lengths pebblelinen_generator_sizes(size_t qubits, size_t words,
+                                                          size_t touched, size_t entries);
+
+/* The entries of the generator, by column, then by the row's word in word order: rows, columns and
+ * values, side by side.
+ *
+ *   words, len           the basis: its first len places, 4 lanes a word
+ *   h_index, j_index     64 lanes for each qubit; mask: 64 lanes
+ *   nexts                a place for each basis word; heads: at least as many, twice as many is good
+ *   table 1              words touched by one action: work_words (4 lanes a place), work_sums (2
+ *                        numbers)
+ *   table 3              entries: stage_rows, stage_columns, stage_values; rows, columns, values
+ *
+ * The places of table 1 and of table 3 are those of the shortest of their slices. Entries are staged
+ * before they are written out, since a column further on may still be refused. The count is that of
+ * the entries; places of rows, columns and values past it stay as they were. Refusals, in this order:
+ *
+ *       those of pebblelinen_test_model for the model
+ *    8  (count): more than 65,536 words
+ *    9  (len, places lent) for words; then (needed, lent) for h_index, j_index, mask, heads, nexts
+ *   11  (position): the first word with a letter at or above the register
+ *   12  (position): the first position whose word stands at a smaller one too
+ *   13  (1, places) or (3, places), column by column: the action touches more words than table 1 has
+ *       places; then the entries so far are more than table 3 has places
+ *
+ * A refusal changes nothing that was lent, but for 13, after which the work tables are all zero.
+ * Where the call was accepted they are all zero, to their ends; what they held before makes no
+ * difference to the answer. But it makes one to the time: a word that comes again is looked for
+ * quickly only in heads and nexts that are zero, since 12 leaves them as they were. */
+pebblelinen_listed pebblelinen_generator(
+    pebblelinen_model model, const uint64_t *h_words, size_t h_words_len, const double *h_coeffs,
+    size_t h_coeffs_len, const uint64_t *jumps, size_t jumps_len, const double *rates,
+    size_t rates_len, const uint64_t *t_words, size_t t_words_len, const double *t_numbers,
+    size_t t_numbers_len, const uint64_t *words, size_t words_len, size_t len, uint64_t *h_index,
+    size_t h_index_len, uint64_t *j_index, size_t j_index_len, uint64_t *mask, size_t mask_len,
+    uint64_t *heads, size_t heads_len, uint64_t *nexts, size_t nexts_len, uint64_t *work_words,
+    size_t work_words_len, double *work_sums, size_t work_sums_len, uint32_t *stage_rows,
+    size_t stage_rows_len, uint32_t *stage_columns, size_t stage_columns_len,
+    double *stage_values, size_t stage_values_len, uint32_t *rows, size_t rows_len,
+    uint32_t *columns, size_t columns_len, double *values, size_t values_len);
+
+/* The same matrix by rows (CSR): the entries of row r stand in columns and values from offsets[r] to
+ * before offsets[r + 1], their columns ascending. offsets has len + 1 places; offsets[len] is the
+ * count.
+ *
+ * The other tables and the refusals are those of pebblelinen_generator, with columns and values for
+ * the out tables of table 3, and 9 (len + 1, places lent) for offsets after nexts. Places of offsets
+ * past len + 1, and of columns and values past the count, stay as they were. */
+pebblelinen_listed pebblelinen_build_csr(
+    pebblelinen_model model, const uint64_t *h_words, size_t h_words_len, const double *h_coeffs,
+    size_t h_coeffs_len, const uint64_t *jumps, size_t jumps_len, const double *rates,
+    size_t rates_len, const uint64_t *t_words, size_t t_words_len, const double *t_numbers,
+    size_t t_numbers_len, const uint64_t *words, size_t words_len, size_t len, uint64_t *h_index,
+    size_t h_index_len, uint64_t *j_index, size_t j_index_len, uint64_t *mask, size_t mask_len,
+    uint64_t *heads, size_t heads_len, uint64_t *nexts, size_t nexts_len, uint64_t *work_words,
+    size_t work_words_len, double *work_sums, size_t work_sums_len, uint32_t *stage_rows,
+    size_t stage_rows_len, uint32_t *stage_columns, size_t stage_columns_len,
+    double *stage_values, size_t stage_values_len, uint64_t *offsets, size_t offsets_len,
+    uint32_t *columns, size_t columns_len, double *values, size_t values_len);
+
+/* Where a row's entries stand in the columns and values of a matrix by rows: from start to before
+ * end. */
+typedef struct {
+    size_t start;
+    size_t end;
+} pebblelinen_row;
+
+/* The places of a row, start and end from the offsets; start = end = 0 where there is no such row, or
+ * where its offsets do not lie inside so many columns. Nothing is refused. */
+pebblelinen_row pebblelinen_csr_row(const uint64_t *offsets, size_t offsets_len,
+                                    const uint32_t *columns, size_t columns_len, size_t row);
+
+/* The product of a matrix by rows with a vector. The sum of row r starts at 0 and adds, entry by
+ * entry, value x input[column], but for inputs that are 0 (of either sign), which are skipped. Where
+ * overwrite holds, output[r] becomes the sum, else output[r] + sum.
+ *
+ *   rows                      the number of rows and of columns
+ *   offsets, columns, values  the matrix; offsets of rows + 1 places
+ *   input, output             rows numbers each
+ *   work                      a work table of at least rows numbers
+ *
+ * Refusals, in this order:
+ *
+ *    8  (rows): more than 65,536 rows
+ *    9  (rows + 1, places of offsets), (places of columns, of values), (rows, places of input), (rows,
+ *       places of output) where the two are not equal; (rows, places lent) where work is shorter
+ *    7  (place): in offsets, the first that is not 0 at place 0, that is below the one before it, or,
+ *       at the last place, that is not the number of entries; then in columns, the first that is not
+ *       above the one before it in its row, or not below rows; then in values, in input and, where
+ *       output is added to, in output, the first that is infinite or NaN
+ *   14  (row): the first row whose value to be stored is not finite
+ *
+ * A refusal changes nothing that was lent, but for 14, after which work is all zero, as it is where
+ * the call was accepted. */
+pebblelinen_status pebblelinen_dot(size_t rows, const uint64_t *offsets, size_t offsets_len,
+                                   const uint32_t *columns, size_t columns_len,
+                                   const double *values, size_t values_len, const double *input,
+                                   size_t input_len, bool overwrite, double *output,
+                                   size_t output_len, double *work, size_t work_len);
+
+/* ---- Norm and degree ---- */
+
+/* A bound on the 1-norm of the generator less mu times the identity, and mu, the mean of its
+ * diagonal. Where the status is a refusal, both are 0. */
+typedef struct {
+    pebblelinen_status status;
+    double mu;
+    double norm;
+} pebblelinen_normed;
+
+/* The norm of the generator over a basis: the largest of the columns' norms, raw - |diag| +
+ * |diag - mu|, where raw sums the magnitudes of all terms of the action on the column's word, in the
+ * basis or not, and diag is the number that it lists for the word itself. An empty basis has mu 0 and
+ * norm 0. Words may come again.
+ *
+ * The tables are those of pebblelinen_generator; raws and diags are work tables of a number for each
+ * word. Refusals, in this order:
+ *
+ *       those of pebblelinen_test_model for the model
+ *    8  (count): more than 65,536 words
+ *    9  (len, places lent) for words; then (needed, lent) for h_index, j_index, mask, raws, diags
+ *   11  (position): the first word with a letter at or above the register
+ *   13  (1, places) at the first word whose action touches more words than table 1 has places
+ *
+ * A refusal changes nothing that was lent, but for 13, after which the work tables are all zero, as
+ * they are where the call was accepted. */
+pebblelinen_normed pebblelinen_norm(
+    pebblelinen_model model, const uint64_t *h_words, size_t h_words_len, const double *h_coeffs,
+    size_t h_coeffs_len, const uint64_t *jumps, size_t jumps_len, const double *rates,
+    size_t rates_len, const uint64_t *t_words, size_t t_words_len, const double *t_numbers,
+    size_t t_numbers_len, const uint64_t *words, size_t words_len, size_t len, uint64_t *h_index,
+    size_t h_index_len, uint64_t *j_index, size_t j_index_len, uint64_t *mask, size_t mask_len,
+    uint64_t *work_words, size_t work_words_len, double *work_sums, size_t work_sums_len,
+    double *raws, size_t raws_len, double *diags, size_t diags_len);
+
+/* The degree of a Taylor polynomial, and into how many steps the exponential is cut. */
+typedef struct {
+    uint32_t m;
+    uint32_t s;
+} pebblelinen_degree;
+
+/* The degree for a norm t: of the pairs m, s with s = t / threshold of m, rounded up, at least 1 and
+ * at most 4294967295, the first of least m x s, over the thresholds of Al-Mohy and Higham (2011) for
+ * double precision, or, where drop_tol is 1e-4 or above, over those for the tolerance 1e-6. (1, 1)
+ * where t is 0, below, or NaN. Nothing is refused. */
+pebblelinen_degree pebblelinen_select_ms(double t, double drop_tol);
+
+/* mu, norm and degree for a step dt: t is |dt| x norm. Where the status is a refusal, all are 0. */
+typedef struct {
+    pebblelinen_status status;
+    double mu;
+    double norm;
+    uint32_t m;
+    uint32_t s;
+} pebblelinen_partition;
+
+/* The norm of the generator over a basis, and the degree for a step dt at drop_tol. An empty basis has
+ * degree (1, 1). Tables and refusals are those of pebblelinen_norm, with 7 (0) after 11 for a dt, then
+ * for a drop_tol, that is infinite or NaN. */
+pebblelinen_partition pebblelinen_expm_degree(
+    pebblelinen_model model, const uint64_t *h_words, size_t h_words_len, const double *h_coeffs,
+    size_t h_coeffs_len, const uint64_t *jumps, size_t jumps_len, const double *rates,
+    size_t rates_len, const uint64_t *t_words, size_t t_words_len, const double *t_numbers,
+    size_t t_numbers_len, const uint64_t *words, size_t words_len, size_t len, double dt,
+    double drop_tol, uint64_t *h_index, size_t h_index_len, uint64_t *j_index, size_t j_index_len,
+    uint64_t *mask, size_t mask_len, uint64_t *work_words, size_t work_words_len,
+    double *work_sums, size_t work_sums_len, double *raws, size_t raws_len, double *diags,
+    size_t diags_len);
 
 #ifdef __cplusplus
 }

@@ -3,7 +3,7 @@
 
 -- What an admission appends: as many listed words as the limit leaves room for, the largest of them; and that a raised limit
 -- appends at least the same. Assumes nothing.
-use mathlib.Core.Path.{_≡_, sym, ap, subst, _∙_, refl}
+use mathlib.Core.Path.{_≡_, sym, ap, _∙_, refl}
 use mathlib.Core.Bool.{Bool, true, false, cond, _||_}
 use mathlib.Core.List.{List, [], _∷_, _++_, map}
 use Prim.Native.Nat.{ℕ, suc, _+_, _-_, _/_, _≤_, _<_, min}
@@ -23,19 +23,18 @@ use Rattle.word.specs.declared.word.Word.{Word}
 use Rattle.number.specs.Floats.{float0, isFinite}
 use Rattle.word.specs.Order.{same}
 use Rattle.order.specs.Places.{isAmong}
-use Rattle.order.specs.Magnitudes.{byMagnitude, AllFinite, keyAt, rank}
-use Rattle.order.proofs.MagnitudeLaws.{by-magnitude}
+use Rattle.order.specs.Magnitudes.{byMagnitude, AllFinite, keyAt}
 use Rattle.truncate.specs.Retained.{pick, flagged}
-use Rattle.truncate.specs.Chosen.{flagOf, chosen}
+use Rattle.truncate.specs.Chosen.{flagOf}
 use Rattle.truncate.specs.Admitted.{appendedLanes, appendedZeros, picked, AdmitRoom}
 use Rattle.truncate.proofs.FlagLaws.{Kept}
-use Rattle.truncate.proofs.ChosenLaws.{walked-length, chosen-more, chosen-earlier}
+use Rattle.truncate.proofs.ChosenLaws.{walked-length, chosen-more}
+use Rattle.truncate.proofs.LargestLaws.{chosen-larger}
 use Rattle.truncate.proofs.AdmitLaws.{picked-length, admitted-words}
 use Rattle.basis.specs.Admissions.{admitFlags, Admitting, tested, admitTests, admit}
 use Rattle.basis.specs.declared.kept.Kept.the-variants.{Entries, Refused}
 use Rattle.basis.proofs.AdmitTests.{admit-passed}
 use Rattle.basis.proofs.AdmitLaws.{admit-count}
-use Rattle.basis.proofs.OrderOnce.{magnitude-once}
 
 -- ---- a flag for each listed word
 flags-long : (len : ℕ) (values : List Float) (limit : ℕ) → length (admitFlags len values limit) ≡ length values
@@ -161,16 +160,5 @@ pub larger-first : (len : ℕ) (values : List Float) (limit : ℕ) → AllFinite
     → Kept (admitFlags len values limit) p → getD (admitFlags len values limit) q 0 ≡ 0 → (keyAt values q ≤ keyAt values p) × (keyAt values q ≡ keyAt values p → p < q)
 unfolding admitFlags
 larger-first len values limit finite p q hp hq k z =
-    let f = by-magnitude values finite in
     let n : ℕ = length values in
-    let flags : List ℕ = chosen (byMagnitude values) (replicate n 0) (limit - len) in
-    let i : ℕ = rank values p in
-    let j : ℕ = rank values q in
-    let pi = f .placed p hp in
-    let qj = f .placed q hq in
-    let l : i < j =
-    chosen-earlier n (byMagnitude values) (replicate n 0) (magnitude-once values) (length-replicate n 0) (limit - len) i j (omega (arith, pi .0, f .size)) (omega (arith, qj .0, f .size))
-    (getD-replicate n (getD (byMagnitude values) i 0) 0 0 (omega (arith, pi .1, hp))) (getD-replicate n (getD (byMagnitude values) j 0) 0 0 (omega (arith, qj .1, hq))) (subst (λ (x : ℕ). Kept flags x) (sym (pi .1)) k) (ap (λ (x : ℕ). getD flags x 0) (qj .1) ∙ z) in
-    let a : keyAt values (getD (byMagnitude values) j 0) ≡ keyAt values q = ap (keyAt values) (qj .1) in
-    let b : keyAt values (getD (byMagnitude values) i 0) ≡ keyAt values p = ap (keyAt values) (pi .1) in
-    (omega (arith, f .falls i j l (qj .0), a, b), λ (e : keyAt values q ≡ keyAt values p). omega (arith, f .ties i j l (qj .0) (a ∙ e ∙ sym b), pi .1, qj .1))
+    chosen-larger values finite (replicate n 0) (length-replicate n 0) (limit - len) p q hp hq (getD-replicate n p 0 0 hp) (getD-replicate n q 0 0 hq) k z

@@ -18,18 +18,14 @@ use Rattle.refusal.specs.declared.Refusal.the-variants.{TableFull}
 use Rattle.refusal.specs.declared.Answer.the-variants as Tests
 use Rattle.order.specs.Magnitudes.{byMagnitude}
 use Rattle.truncate.specs.Retained.{flagged}
-use Rattle.truncate.specs.Chosen.{chosen, Below}
+use Rattle.truncate.specs.Chosen.{chosen}
 use Rattle.truncate.specs.Admitted.{appendedZeros, AdmitRoom, Admits}
 use Rattle.truncate.proofs.ChosenLaws.{chosen-unfixed}
 use Rattle.basis.specs.Admissions.{admitFlags, admitTests, admit}
 use Rattle.basis.specs.declared.kept.Kept.the-variants.{Entries, Refused}
-use Rattle.basis.proofs.OrderOnce.{magnitude-once}
+pub use Rattle.truncate.proofs.OrderOnce.{magnitude-once, choose-asks}
 
 -- ---- choosing and appending
-pub choose-asks : (values : List Float) (order fixed kept : List ℕ) → order ≡ byMagnitude values → length fixed ≡ length values → length kept ≡ length values
-    → (length kept ≡ length fixed) × Below (length fixed) order
-choose-asks values order fixed kept eo ef ek = (ek ∙ sym ef, rw (ef, eo) (magnitude-once values .all-below))
-
 module _ (len : ℕ) (lanes : List ℕ) (coeffs : List Float) (list : List ℕ) (values : List Float) (room : ℕ) where
   abbrev flags : List ℕ
   flags = chosen (byMagnitude values) (replicate (length values) 0) room

@@ -3,35 +3,31 @@
 
 -- Cap, answer by answer; and its flags. Assumes nothing.
 use mathlib.Core.Path.{_≡_, sym, _∙_}
-use mathlib.Core.Bool.{cond}
+use mathlib.Core.Bool.{true, cond}
 use mathlib.Core.List.{List}
 use Prim.Native.Nat.{ℕ, _-_, _/_, _≤_, _<_}
 use borrow.Author.Tests.{lt-ltb, le-ltb}
 use lib.Dec.{ltb, leb}
-use lib.Ieee.{Float}
-use lib.ListN.{length, replicate}
+use lib.Ieee.{Float, nan}
+use lib.ListN.{length, getD, replicate}
 use Rattle.refusal.specs.declared.Refusal.{Refusal}
 use Rattle.refusal.specs.declared.Refusal.the-variants.{TooManyQubits, CountAboveLimit}
 use Rattle.refusal.specs.declared.Answer.{Answer}
 use Rattle.refusal.specs.declared.Answer.the-variants.{Accepted, Refused}
 use Rattle.word.specs.Word.{maxQubits}
+use Rattle.number.specs.Floats.{isFinite}
 use Rattle.order.specs.Magnitudes.{byMagnitude}
 use Rattle.truncate.specs.Retained.{flagged}
-use Rattle.truncate.specs.Chosen.{chosen, Below}
+use Rattle.truncate.specs.Chosen.{chosen}
 use Rattle.model.proofs.BuildLaws.{passed, both, counted-passed}
 use Rattle.action.specs.Counts.{maxWords}
 use Rattle.basis.specs.Prunes.{capFlags, unchanged, left, retained, lengthTests, entryTests, capTests, cap}
 use Rattle.basis.specs.declared.kept.Kept.the-variants.{Entries}
-use Rattle.basis.proofs.OrderOnce.{magnitude-once}
-use Rattle.basis.proofs.ChecksLaws.{Room, lengths-then, lengths-room}
+use Rattle.basis.proofs.ChecksLaws.{Room, lengths-then, lengths-room, entries-finite}
 
--- an order by magnitude lists positions only
-pub magnitude-below : (coeffs : List Float) (order : List ℕ) (n : ℕ) → order ≡ byMagnitude coeffs → n ≡ length coeffs → Below n order
-magnitude-below coeffs order n e l = rw (e, l) (magnitude-once coeffs .all-below)
-
-pub slots-filled : (coeffs : List Float) (fixed order flags : List ℕ) (limit held slots : ℕ) → held ≡ flagged fixed → slots ≡ limit - held → order ≡ byMagnitude coeffs → flags ≡ chosen order fixed slots
+pub slots-filled : (coeffs : List Float) (fixed flags : List ℕ) (limit held slots : ℕ) → held ≡ flagged fixed → slots ≡ limit - held → flags ≡ chosen (byMagnitude coeffs) fixed slots
     → flags ≡ chosen (byMagnitude coeffs) fixed (limit - flagged fixed)
-slots-filled coeffs fixed order flags limit held slots eh es eo e = e ∙ rw (eo, es, eh)
+slots-filled coeffs fixed flags limit held slots eh es e = e ∙ rw (es, eh)
 
 -- ---- the tests
 module _ (len : ℕ) (lanes : List ℕ) (coeffs : List Float) (order work fixed kept : List ℕ) (n : ℕ) (protected : List ℕ) (limit : ℕ) where
@@ -83,15 +79,20 @@ module _ (len : ℕ) (lanes : List ℕ) (coeffs : List Float) (order work fixed 
   cap-refused r e = rw e
 
   module _ (ok : tests ≡ Accepted) where
-    pub cap-room : Room len lanes coeffs order work fixed kept n protected
+    passed-both : (lengths Accepted ≡ Accepted) × (entries Accepted ≡ Accepted)
     unfolding capTests
-    cap-room =
+    passed-both =
         let e1 = passed (ltb maxQubits n) (TooManyQubits n maxQubits) _ ok in
         let e2 = counted-passed maxWords len _ (e1 .1) in
         let e3 = counted-passed maxWords count _ (e2 .1) in
         let e4 = counted-passed maxWords limit _ (e3 .1) in
-        let e5 = both (lengths Accepted) (entries Accepted) (sym (lengths-then len lanes coeffs order work fixed kept n protected (entries Accepted)) ∙ e4 .1) in
-        lengths-room len lanes coeffs order work fixed kept n protected (e5 .0)
+        both (lengths Accepted) (entries Accepted) (sym (lengths-then len lanes coeffs order work fixed kept n protected (entries Accepted)) ∙ e4 .1)
+
+    pub cap-room : Room len lanes coeffs order work fixed kept n protected
+    cap-room = lengths-room len lanes coeffs order work fixed kept n protected (passed-both .0)
+
+    pub cap-finite : (i : ℕ) → i < len → isFinite (getD coeffs i nan) ≡ true
+    cap-finite = entries-finite len lanes coeffs n protected (passed-both .1)
 
     pub cap-answered : (r : ℕ) (lanes′ : List ℕ) (coeffs′ : List Float) (order′ work′ fixed′ kept′ : List ℕ)
         → ((o w f k : List ℕ) → left len lanes coeffs o w f k r lanes′ coeffs′ ≡ cond (leb len limit) (left len lanes coeffs o w f k len lanes coeffs) (retained len lanes coeffs o w f k (capFlags len lanes coeffs protected limit)))

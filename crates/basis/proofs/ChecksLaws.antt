@@ -7,17 +7,22 @@ use mathlib.Core.Bool.{Bool, true, false, cond}
 use mathlib.Core.List.{List}
 use Prim.Native.Nat.{ℕ, _+_, _*_, _/_, _≤_, _<_, max}
 use native.Mathlib.Omega.{arith}
-use borrow.Author.Tests.{lt-ltb, le-ltb}
+use borrow.Author.Tests.{lt-ltb, le-ltb, ltb-false, not-false}
+use denote.Floats.{passes}
 use lib.Dec.{eqb, ltb}
-use lib.Ieee.{Float}
-use lib.ListN.{length}
+use lib.Ieee.{Float, nan}
+use lib.ListN.{length, getD, take}
+use lib.Seq.{length-take-le, getD-take}
 use Rattle.refusal.specs.declared.Refusal.{Refusal}
 use Rattle.refusal.specs.declared.Refusal.the-variants.{LengthMismatch, NumberOutOfRange, WordOutsideRegister}
 use Rattle.refusal.specs.declared.Answer.{Answer}
 use Rattle.refusal.specs.declared.Answer.the-variants.{Accepted, Refused}
+use Rattle.number.specs.Floats.{isFinite}
+use Rattle.order.specs.Magnitudes.{AreFinite}
 use Rattle.model.specs.Tested.{firstTo}
 use Rattle.model.specs.Built.{andThen}
-use Rattle.model.proofs.BuildLaws.{equal-passed, lent-passed}
+use Rattle.model.proofs.Firsts.{first-before}
+use Rattle.model.proofs.BuildLaws.{passed, equal-passed, lent-passed}
 use Rattle.action.specs.Counts.{outsideAt, insideTo}
 use Rattle.basis.specs.Tests.{notFinite, finiteTo}
 use Rattle.basis.specs.Prunes.{lengthTests}
@@ -135,6 +140,24 @@ module _ (len : ℕ) (lanes : List ℕ) (coeffs : List Float) (n : ℕ) (protect
       let b : ℕ = firstTo places (outsideAt protected n) in
       let d : ℕ = firstTo len (notFinite coeffs) in
       three-then (WordOutsideRegister a) (WordOutsideRegister b) (NumberOutOfRange (0 + d)) after (ltb a len) (ltb b places) (ltb d len)
+
+  -- where they are passed the coefficients are finite
+  pub entries-finite : entries Accepted ≡ Accepted → (i : ℕ) → i < len → isFinite (getD coeffs i nan) ≡ true
+  unfolding insideTo finiteTo notFinite
+  entries-finite e i h =
+      let outside : ℕ = firstTo len (outsideAt lanes n) in
+      let stray : ℕ = firstTo places (outsideAt protected n) in
+      let bad : ℕ = firstTo len (notFinite coeffs) in
+      let e1 = passed (ltb outside len) (WordOutsideRegister outside) _ e in
+      let e2 = passed (ltb stray places) (WordOutsideRegister stray) _ (e1 .1) in
+      let e3 = passed (ltb bad len) (NumberOutOfRange (0 + bad)) _ (e2 .1) in
+      let l = ltb-false bad len (e3 .0) in
+      not-false (isFinite (getD coeffs i nan)) (first-before len (notFinite coeffs) i (omega (arith, l, h)))
+
+  pub front-finite : len ≤ length coeffs → ((i : ℕ) → i < len → isFinite (getD coeffs i nan) ≡ true) → AreFinite (take len coeffs)
+  front-finite room f i h =
+      let l : i < len = omega (arith, h, length-take-le len coeffs room) in
+      rw (getD-take len coeffs i nan l) (passes (isFinite (getD coeffs i nan)) (f i l))
 
   module _ (a : ℕ) (a-is : a ≡ firstTo len (outsideAt lanes n)) where
     pub word-outside : a < len → Refused (WordOutsideRegister a) ≡ entries Accepted

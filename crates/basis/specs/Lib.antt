@@ -4,4 +4,5 @@
 -- Calls on a lent basis: what is answered, refused and left in the lent tables.
 pub mod Tests
 pub mod Prunes
+pub mod Marks
 pub mod Admissions

@@ -7,8 +7,8 @@ ghost use mathlib.Core.Bool.{cond};
 ghost use mathlib.Core.List.{List};
 ghost use Prim.Native.Nat.{ℕ, _-_, _*_, _/_, _≤_};
 ghost use lib.Dec.{leb};
-ghost use lib.ListN.{length};
-ghost use Rattle.order.specs.Magnitudes.{byMagnitude};
+ghost use lib.ListN.{length, take};
+ghost use Rattle.order.specs.Magnitudes.{byMagnitude, AreFinite};
 ghost use Rattle.truncate.specs.Retained.{flagged};
 ghost use Rattle.truncate.specs.Chosen.{chosen};
 ghost use Rattle.basis.specs.Prunes.{capFlags, left, retained, capTests, cap};
@@ -18,11 +18,10 @@ use crate::checks::room_left;
 use crate::kept::Kept;
 use crate::protect::mark_protected;
 use action::words::MAX_WORDS;
-use order::magnitudes::order_by_desc_mag;
 use refusal::Answer;
 use refusal::Refusal;
 use table::clear::clear_lanes;
-use truncate::choose::choose_largest;
+use truncate::largest::choose_largest_of;
 use truncate::retain::retain_in_place;
 use word::flat::WORD_LANES;
 use word::word::MAX_QUBITS;
@@ -81,21 +80,13 @@ fn count_flagged(flags: &[u64]) -> usize
 }
 
 // Flags the fixed ones and the largest others, as many as the limit leaves slots.
-fn fill_slots(
-    coeffs: &[f64],
-    limit: usize,
-    order: &mut [u64],
-    work: &mut [u64],
-    fixed: &[u64],
-    kept: &mut [u64],
-)
-    requires { ⌜ (length (now order) ≡ length (now coeffs)) × (length (now work) ≡ length (now coeffs)) × (length (now fixed) ≡ length (now coeffs)) × (length (now kept) ≡ length (now coeffs)) ⌝ }
+fn fill_slots(coeffs: &[f64], limit: usize, order: &mut [u64], fixed: &[u64], kept: &mut [u64])
+    requires { ⌜ (length (now order) ≡ length (now coeffs)) × (length (now fixed) ≡ length (now coeffs)) × (length (now kept) ≡ length (now coeffs)) × AreFinite (now coeffs) ⌝ }
     ensures { λ _. ⌜ now (kept .exit) ≡ chosen (byMagnitude (now (coeffs .entry))) (now (fixed .entry)) (limit - flagged (now (fixed .entry))) ⌝ }
 {
     let held = count_flagged(fixed);
     let slots = room_left(limit, held);
-    order_by_desc_mag(coeffs, order, work);
-    choose_largest(order, fixed, slots, kept);
+    choose_largest_of(coeffs, fixed, slots, order, kept);
 }
 
 // Flags the entries that stay, in a table with a place for each.
@@ -110,26 +101,12 @@ fn flag_largest(
     fixed: &mut [u64],
     kept: &mut [u64],
 )
-    requires { ⌜ (4 * len ≤ length (now words)) × (len ≤ length (now coeffs)) × (length (now protected) / 4 * 4 ≡ length (now protected)) × (length (now protected) / 4 ≤ length (now order)) × (length (now protected) / 4 ≤ length (now work)) × (len ≤ length (now order)) × (len ≤ length (now work)) × (length (now fixed) ≡ len) × (length (now kept) ≡ len) ⌝ }
+    requires { ⌜ (4 * len ≤ length (now words)) × (len ≤ length (now coeffs)) × (length (now protected) / 4 * 4 ≡ length (now protected)) × (length (now protected) / 4 ≤ length (now order)) × (length (now protected) / 4 ≤ length (now work)) × (len ≤ length (now order)) × (length (now fixed) ≡ len) × (length (now kept) ≡ len) × AreFinite (take len (now coeffs)) ⌝ }
     ensures { λ _. ⌜ now (kept .exit) ≡ capFlags len (now (words .entry)) (now (coeffs .entry)) (now (protected .entry)) limit ⌝ }
 {
-    let count = protected.len() / WORD_LANES;
-    mark_protected(
-        words,
-        len,
-        protected,
-        &mut order[..count],
-        &mut work[..count],
-        fixed,
-    );
-    fill_slots(
-        &coeffs[..len],
-        limit,
-        &mut order[..len],
-        &mut work[..len],
-        fixed,
-        kept,
-    );
+    clear_lanes(fixed);
+    mark_protected(words, protected, order, work, kept, fixed);
+    fill_slots(&coeffs[..len], limit, &mut order[..len], fixed, kept);
 }
 
 // Keeps the entries: how many stay. Nothing at or under the limit.
@@ -144,7 +121,7 @@ fn keep_largest(
     fixed: &mut [u64],
     kept: &mut [u64],
 ) -> usize
-    requires { ⌜ (4 * len ≤ length (now words)) × (len ≤ length (now coeffs)) × (length (now protected) / 4 * 4 ≡ length (now protected)) × (length (now protected) / 4 ≤ length (now order)) × (length (now protected) / 4 ≤ length (now work)) × (len ≤ length (now order)) × (len ≤ length (now work)) × (len ≤ length (now fixed)) × (len ≤ length (now kept)) ⌝ }
+    requires { ⌜ (4 * len ≤ length (now words)) × (len ≤ length (now coeffs)) × (length (now protected) / 4 * 4 ≡ length (now protected)) × (length (now protected) / 4 ≤ length (now order)) × (length (now protected) / 4 ≤ length (now work)) × (len ≤ length (now order)) × (len ≤ length (now fixed)) × (len ≤ length (now kept)) × AreFinite (take len (now coeffs)) ⌝ }
     ensures { λ r. ⌜ ((o w f k : List ℕ) → left len (now (words .entry)) (now (coeffs .entry)) o w f k r (now (words .exit)) (now (coeffs .exit)) ≡ cond (leb len limit) (left len (now (words .entry)) (now (coeffs .entry)) o w f k len (now (words .entry)) (now (coeffs .entry))) (retained len (now (words .entry)) (now (coeffs .entry)) o w f k (capFlags len (now (words .entry)) (now (coeffs .entry)) (now (protected .entry)) limit))) ⌝ }
 {
     if len <= limit {

@@ -66,7 +66,7 @@ fn check_prune(
     Answer::Accepted
 }
 
-// Flags the protected entries and the large ones; the tables of exact lengths.
+// Flags the large entries, and of the others the protected; a flag for each.
 fn flag_kept(
     words: &[u64],
     coeffs: &[f64],
@@ -75,13 +75,14 @@ fn flag_kept(
     drop_tol: f64,
     order: &mut [u64],
     work: &mut [u64],
+    list: &mut [u64],
     kept: &mut [u64],
 )
-    requires { ⌜ (4 * len ≤ length (now words)) × (len ≤ length (now coeffs)) × (length (now kept) ≡ len) × (4 * length (now order) ≡ length (now protected)) × (4 * length (now work) ≡ length (now protected)) ⌝ }
+    requires { ⌜ (4 * len ≤ length (now words)) × (len ≤ length (now coeffs)) × (length (now protected) / 4 * 4 ≡ length (now protected)) × (length (now protected) / 4 ≤ length (now order)) × (length (now protected) / 4 ≤ length (now work)) × (len ≤ length (now list)) × (length (now kept) ≡ len) ⌝ }
     ensures { λ _. ⌜ now (kept .exit) ≡ pruneFlags len (now (words .entry)) (now (coeffs .entry)) (now (protected .entry)) «drop_tol» ⌝ }
 {
-    mark_protected(words, len, protected, order, work, kept);
-    flag_large(coeffs, len, drop_tol, kept);
+    flag_large(coeffs, drop_tol, kept);
+    mark_protected(words, protected, order, work, list, kept);
 }
 
 // Drops the entries: how many stay. Nothing if drop_tol ≤ 0.
@@ -93,23 +94,24 @@ fn drop_small(
     drop_tol: f64,
     order: &mut [u64],
     work: &mut [u64],
+    list: &mut [u64],
     kept: &mut [u64],
 ) -> usize
-    requires { ⌜ (4 * len ≤ length (now words)) × (len ≤ length (now coeffs)) × (length (now protected) / 4 * 4 ≡ length (now protected)) × (length (now protected) / 4 ≤ length (now order)) × (length (now protected) / 4 ≤ length (now work)) × (len ≤ length (now kept)) ⌝ }
+    requires { ⌜ (4 * len ≤ length (now words)) × (len ≤ length (now coeffs)) × (length (now protected) / 4 * 4 ≡ length (now protected)) × (length (now protected) / 4 ≤ length (now order)) × (length (now protected) / 4 ≤ length (now work)) × (len ≤ length (now list)) × (len ≤ length (now kept)) ⌝ }
     ensures { λ r. ⌜ ((o w f k : List ℕ) → left len (now (words .entry)) (now (coeffs .entry)) o w f k r (now (words .exit)) (now (coeffs .exit)) ≡ cond (le «drop_tol» float0) (left len (now (words .entry)) (now (coeffs .entry)) o w f k len (now (words .entry)) (now (coeffs .entry))) (retained len (now (words .entry)) (now (coeffs .entry)) o w f k (pruneFlags len (now (words .entry)) (now (coeffs .entry)) (now (protected .entry)) «drop_tol»))) ⌝ }
 {
     if drop_tol <= 0.0 {
         return len;
     }
-    let count = protected.len() / WORD_LANES;
     flag_kept(
         words,
         coeffs,
         len,
         protected,
         drop_tol,
-        &mut order[..count],
-        &mut work[..count],
+        order,
+        work,
+        list,
         &mut kept[..len],
     );
     retain_in_place(words, coeffs, len, &kept[..len])
@@ -142,7 +144,17 @@ pub fn prune_basis(
         kept,
     );
     let Answer::Refused(refusal) = answer else {
-        let entries = drop_small(words, coeffs, len, protected, drop_tol, order, work, kept);
+        let entries = drop_small(
+            words,
+            coeffs,
+            len,
+            protected,
+            drop_tol,
+            order,
+            work,
+            fixed,
+            kept,
+        );
         clear_lanes(order);
         clear_lanes(work);
         clear_lanes(fixed);

@@ -6,27 +6,24 @@
 use mathlib.Core.Path.{_≡_, refl, sym, _∙_}
 use mathlib.Core.Bool.{Bool, true, false, cond}
 use mathlib.Core.List.{List}
-use Prim.Native.Nat.{ℕ, _+_, _*_, _/_, _≤_, _<_}
+use Prim.Native.Nat.{ℕ, _*_, _/_, _≤_, _<_}
 use native.Mathlib.Omega.{arith}
-use borrow.Author.Tests.{ltb-false, not-false}
 use lib.Dec.{ltb}
 use lib.Ieee.{Float, nan}
 use lib.ListN.{length, getD}
 use Rattle.refusal.specs.declared.Refusal.{Refusal}
-use Rattle.refusal.specs.declared.Refusal.the-variants.{TooManyQubits, NumberOutOfRange, WordOutsideRegister}
+use Rattle.refusal.specs.declared.Refusal.the-variants.{TooManyQubits, NumberOutOfRange}
 use Rattle.refusal.specs.declared.Answer.{Answer}
 use Rattle.refusal.specs.declared.Answer.the-variants as Tests
 use Rattle.word.specs.Word.{maxQubits}
 use Rattle.number.specs.Floats.{isFinite}
-use Rattle.model.specs.Tested.{firstTo}
-use Rattle.model.proofs.Firsts.{first-before}
 use Rattle.model.proofs.BuildLaws.{refused-not, passed, both, lent-passed, counted-passed}
-use Rattle.action.specs.Counts.{maxWords, outsideAt, insideTo}
-use Rattle.basis.specs.Tests.{notFinite, finiteTo, finiteThreshold}
+use Rattle.action.specs.Counts.{maxWords}
+use Rattle.basis.specs.Tests.{finiteThreshold}
 use Rattle.basis.specs.Prunes.{Keeping, tested, lengthTests, entryTests, pruneTests, capTests, prune, cap}
 use Rattle.basis.specs.Admissions as Admissions
 use Rattle.basis.specs.declared.kept.Kept.the-variants.{Entries, Refused}
-use Rattle.basis.proofs.ChecksLaws.{lengths-then, entries-then}
+use Rattle.basis.proofs.ChecksLaws.{lengths-then, entries-then, entries-finite}
 
 no-entries : (q : Refusal) (r : ℕ) → Refused q ≡ Entries r → ⊥
 no-entries q r e = let z : _≡_ {A = ℕ} 0 1 = cc in omega arith
@@ -52,18 +49,6 @@ module _ (len : ℕ) (lanes : List ℕ) (coeffs : List Float) (order work fixed 
   accepted Tests.Accepted after r e = refl
   accepted (Tests.Refused q) after r e = absurd (no-entries q r e)
 
-  entries-finite : entries Tests.Accepted ≡ Tests.Accepted → Finite
-  unfolding insideTo finiteTo notFinite
-  entries-finite e i h =
-      let outside : ℕ = firstTo len (outsideAt lanes n) in
-      let stray : ℕ = firstTo (length protected / 4) (outsideAt protected n) in
-      let bad : ℕ = firstTo len (notFinite coeffs) in
-      let e1 = passed (ltb outside len) (WordOutsideRegister outside) _ e in
-      let e2 = passed (ltb stray (length protected / 4)) (WordOutsideRegister stray) _ (e1 .1) in
-      let e3 = passed (ltb bad len) (NumberOutOfRange (0 + bad)) _ (e2 .1) in
-      let l = ltb-false bad len (e3 .0) in
-      not-false (isFinite (getD coeffs i nan)) (first-before len (notFinite coeffs) i (omega (arith, l, h)))
-
   module _ (tol : Float) (r : ℕ) (answer : prune len lanes coeffs order work fixed kept n protected tol .answer ≡ Entries r) where
     pub prune-accepted : pruneTests len lanes coeffs order work fixed kept n protected tol ≡ Tests.Accepted
     unfolding prune
@@ -78,22 +63,12 @@ module _ (len : ℕ) (lanes : List ℕ) (coeffs : List Float) (order work fixed 
         let e3 = counted-passed maxWords (length protected / 4) _ (e2 .1) in
         let e4 = both (lengths Tests.Accepted) (entries after) (sym (lengths-then len lanes coeffs order work fixed kept n protected (entries after)) ∙ e3 .1) in
         let e5 = both (entries Tests.Accepted) after (sym (entries-then len lanes coeffs n protected after) ∙ e4 .1) in
-        (entries-finite (e5 .0), threshold-passed (isFinite tol) (NumberOutOfRange len) (e5 .1))
+        (entries-finite len lanes coeffs n protected (e5 .0), threshold-passed (isFinite tol) (NumberOutOfRange len) (e5 .1))
 
   module _ (limit : ℕ) (r : ℕ) (answer : cap len lanes coeffs order work fixed kept n protected limit .answer ≡ Entries r) where
     pub cap-accepted : capTests len lanes coeffs order work fixed kept n protected limit ≡ Tests.Accepted
     unfolding cap
     cap-accepted = accepted (capTests len lanes coeffs order work fixed kept n protected limit) _ r answer
-
-    pub cap-finite : Finite
-    unfolding capTests
-    cap-finite =
-        let e1 = passed (ltb maxQubits n) (TooManyQubits n maxQubits) _ cap-accepted in
-        let e2 = counted-passed maxWords len _ (e1 .1) in
-        let e3 = counted-passed maxWords (length protected / 4) _ (e2 .1) in
-        let e4 = counted-passed maxWords limit _ (e3 .1) in
-        let e5 = both (lengths Tests.Accepted) (entries Tests.Accepted) (sym (lengths-then len lanes coeffs order work fixed kept n protected (entries Tests.Accepted)) ∙ e4 .1) in
-        entries-finite (e5 .1)
 
 -- ---- admission
 module _ (len : ℕ) (lanes : List ℕ) (coeffs : List Float) (list : List ℕ) (values : List Float) (order work kept : List ℕ) (n limit r : ℕ)

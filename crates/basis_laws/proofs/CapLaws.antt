@@ -8,58 +8,37 @@ use mathlib.Core.List.{List}
 use Prim.Native.Nat.{ℕ, _-_, _≤_, _<_, max}
 use native.Mathlib.Omega.{arith}
 use borrow.Author.Tests.{le-leb, lt-leb}
-use denote.Floats.{passes}
 use lib.Dec.{leb}
 use lib.Ieee.{Float, nan, binary64}
 use lib.ListN.{length, getD, take, replicate}
 use lib.Seq.{length-take-le, getD-take}
-use Rattle.number.specs.Floats.{isFinite}
 use Rattle.number.specs.Key.{key}
-use Rattle.order.specs.Magnitudes.{byMagnitude, AllFinite, keyAt, rank}
-use Rattle.order.proofs.MagnitudeLaws.{by-magnitude}
+use Rattle.order.specs.Magnitudes.{byMagnitude, AllFinite, keyAt}
 use Rattle.truncate.specs.Retained.{flagged}
-use Rattle.truncate.specs.Chosen.{chosen, EachOnce}
-use Rattle.truncate.proofs.ChosenLaws.{chosen-limit, chosen-earlier}
-use Rattle.basis.specs.Prunes.{protectedFlags, capFlags, cap}
+use Rattle.truncate.specs.Chosen.{EachOnce}
+use Rattle.truncate.proofs.ChosenLaws.{chosen-limit}
+use Rattle.basis.specs.Prunes.{protectedFlags, capFlags, capTests, cap}
+use Rattle.refusal.specs.declared.Answer.the-variants.{Accepted}
 use Rattle.basis.specs.declared.kept.Kept.the-variants.{Entries}
-use Rattle.basis.proofs.OrderOnce.{magnitude-once}
-use Rattle.basis.proofs.ChecksLaws.{Room}
-use Rattle.basis.proofs.CapLaws.{cap-room}
+use Rattle.truncate.proofs.OrderOnce.{magnitude-once}
+use Rattle.truncate.proofs.LargestLaws.{chosen-larger}
+use Rattle.basis.proofs.ChecksLaws.{Room, front-finite}
+use Rattle.basis.proofs.CapLaws.{cap-room, cap-finite}
 use Rattle.basis_laws.specs.Keeps.{cappedFlags, Flagged, LargerStay, Fitting}
-use Rattle.basis_laws.proofs.AcceptedCalls.{entries-same, cap-accepted, cap-finite}
+use Rattle.basis_laws.proofs.AcceptedCalls.{entries-same, cap-accepted}
 use Rattle.basis_laws.proofs.StaysLaws.{ones-flagged, protected-long, cap-stays}
 use Rattle.basis_laws.proofs.LosesLaws.{ones-kept}
-
--- ---- of two that are not fixed, one chosen and one not, the chosen one is at least as large, and the earlier of equals
-module _ (values : List Float) (finite : AllFinite values) (fixed : List ℕ) (long : length fixed ≡ length values) (slots : ℕ) where
-  abbrev order : List ℕ
-  order = byMagnitude values
-
-  abbrev flags : List ℕ
-  flags = chosen order fixed slots
-
-  chosen-larger : (p q : ℕ) → p < length values → q < length values → getD fixed p 0 ≡ 0 → getD fixed q 0 ≡ 0 → Flagged flags p → getD flags q 0 ≡ 0
-      → (keyAt values q ≤ keyAt values p) × (keyAt values q ≡ keyAt values p → p < q)
-  chosen-larger p q hp hq fp fq k z =
-      let f = by-magnitude values finite in
-      let i : ℕ = rank values p in
-      let j : ℕ = rank values q in
-      let pi = f .placed p hp in
-      let qj = f .placed q hq in
-      let l : i < j =
-      chosen-earlier (length values) order fixed (magnitude-once values) long slots i j (omega (arith, pi .0, f .size)) (omega (arith, qj .0, f .size))
-      (ap (λ (x : ℕ). getD fixed x 0) (pi .1) ∙ fp) (ap (λ (x : ℕ). getD fixed x 0) (qj .1) ∙ fq) (subst (λ (x : ℕ). Flagged flags x) (sym (pi .1)) k) (ap (λ (x : ℕ). getD flags x 0) (qj .1) ∙ z) in
-      let a : keyAt values (getD order j 0) ≡ keyAt values q = ap (keyAt values) (qj .1) in
-      let b : keyAt values (getD order i 0) ≡ keyAt values p = ap (keyAt values) (pi .1) in
-      (omega (arith, f .falls i j l (qj .0), a, b), λ (e : keyAt values q ≡ keyAt values p). omega (arith, f .ties i j l (qj .0) (a ∙ e ∙ sym b), pi .1, qj .1))
 
 module _ (len : ℕ) (lanes : List ℕ) (coeffs : List Float) (order work fixed kept : List ℕ) (n : ℕ) (protected : List ℕ) (limit r : ℕ)
     (answer : cap len lanes coeffs order work fixed kept n protected limit .answer ≡ Entries r) where
   abbrev guarded : List ℕ
   guarded = protectedFlags len lanes protected
 
+  accepted : capTests len lanes coeffs order work fixed kept n protected limit ≡ Accepted
+  accepted = cap-accepted len lanes coeffs order work fixed kept n protected limit r answer
+
   room : Room len lanes coeffs order work fixed kept n protected
-  room = cap-room len lanes coeffs order work fixed kept n protected limit (cap-accepted len lanes coeffs order work fixed kept n protected limit r answer)
+  room = cap-room len lanes coeffs order work fixed kept n protected limit accepted
 
   front-long : length (take len coeffs) ≡ len
   front-long = length-take-le len coeffs (room .coeffs-room)
@@ -91,7 +70,7 @@ module _ (len : ℕ) (lanes : List ℕ) (coeffs : List Float) (order work fixed 
       finite : AllFinite (take len coeffs)
       finite = record {
         fitting = λ i h. rw (getD-take len coeffs i nan (omega (arith, h, front-long))) (fit i (omega (arith, h, front-long, room .coeffs-room)));
-        numbers = λ i h. rw (getD-take len coeffs i nan (omega (arith, h, front-long))) (passes (isFinite (getD coeffs i nan)) (cap-finite len lanes coeffs order work fixed kept n protected limit r answer i (omega (arith, h, front-long))));
+        numbers = front-finite len lanes coeffs n protected (room .coeffs-room) (cap-finite len lanes coeffs order work fixed kept n protected limit accepted);
       }
 
       go : (b : Bool) (p q : ℕ) → p < len → q < len → getD guarded p 0 ≡ 0 → getD guarded q 0 ≡ 0 → Flagged (cond b (replicate len 1) (capFlags len lanes coeffs protected limit)) p

@@ -1,34 +1,27 @@
 -- SPDX-FileCopyrightText: 2026 The PPVM Authors
 -- SPDX-License-Identifier: Apache-2.0
 
--- What is known where the tests of leakage are passed: the tables that are lent to the passes. Assumes nothing.
-use mathlib.Core.Path.{_≡_, ap, _∙_}
+-- What is known where the tests of leakage are passed, and the tables that are lent before and to the passes. Assumes nothing.
+use mathlib.Core.Path.{_≡_}
 use mathlib.Core.Bool.{false}
 use mathlib.Core.List.{List}
-use Prim.Native.Nat.{ℕ, _-_, _*_, _/_, _≤_, _<_}
+use Prim.Native.Nat.{ℕ, _*_, _/_, _≤_, _<_}
 use native.Mathlib.Omega.{arith}
 use borrow.Author.Tests.{ltb-false}
 use lib.Dec.{ltb}
 use lib.Ieee.{Float}
-use lib.ListN.{length, getD, take}
-use lib.Seq.{length-take-le, getD-take}
+use lib.ListN.{length}
 use Rattle.refusal.specs.declared.Refusal.the-variants.{WordOutsideRegister}
 use Rattle.refusal.specs.declared.Answer.the-variants.{Accepted}
-use Rattle.word.specs.Word.{identity}
-use Rattle.word.specs.Flat.{words}
-use Rattle.word.specs.Register.{reaches}
-use Rattle.word.specs.declared.word.Word.{Word}
 use Rattle.model.specs.Stored.{Tables}
 use Rattle.model.specs.Tested.{firstTo, testModel}
 use Rattle.model.specs.declared.tables.Model.{Model}
 use Rattle.model.proofs.Firsts.{first-before}
 use Rattle.model.proofs.BuildLaws.{passed, both, equal-passed, lent-passed, counted-passed}
-use Rattle.candidates.proofs.LogLaws.{words-take}
-use Rattle.action.specs.Counts.{maxWords, rowLanes, outsideAt, insideTo, AllInside}
-use Rattle.leakage.specs.Leaks.{candidatesOf, ActionRoom, Holding, Took}
-use Rattle.leakage.specs.Leakages.{Basis, Work, limitTests, workTests, entryTests, leakTests, limitOf, leakCourse, sumPlaces, candidatePlaces, ModelLent, BasisLent, FixedLent}
+use Rattle.action.specs.Counts.{maxWords, rowLanes, outsideAt, insideTo}
+use Rattle.passes.specs.Leaks.{ActionRoom, Holding}
+use Rattle.leakage.specs.Leakages.{Basis, Work, limitTests, workTests, entryTests, leakTests, actionPlaces, rowPlaces, BasisLent, FixedLent}
 use Rattle.leakage.specs.declared.limits.Limits.{Limits}
-use Rattle.leakage.specs.declared.taken.Taken.{Taken}
 
 pub record Passed (m : Model) (t : Tables) (b : Basis) (w : Work) : Type 0 where
   pub model : testModel m t ≡ Accepted
@@ -85,50 +78,18 @@ leak-passed m t b l w e =
       inside = λ k a. first-before (b .len) (outsideAt (b .lanes) (m .qubits)) k (omega arith);
     }
 
--- ---- what the passes ask for
+-- ---- what is asked before the passes
 module _ (m : Model) (t : Tables) (b : Basis) (w : Work) (p : Passed m t b w) where
-  abbrev count : ℕ
-  count = length (b .protected) / 4
+  pub basis-lent : BasisLent (b .len) (b .lanes) (b .coeffs) (w .order) (w .heads) (w .nexts)
+  basis-lent = record { lanes-long = p .words-long; coeffs-long = p .coeffs-long; order-long = p .order-long; nexts-long = p .nexts-long; slots-enough = p .heads-long }
 
-  abbrev lanes : List ℕ
-  lanes = take (b .len * 4) (b .lanes)
+  pub fixed-lent : FixedLent (b .protected) (w .fixedHeads) (w .fixedNexts)
+  fixed-lent = record { whole = p .protected-whole; nexts-long = p .fixed-nexts-long; slots-enough = p .fixed-heads-long }
 
-  pub model-lent : ModelLent m t (w .hIndex) (w .jIndex) (w .mask)
-  model-lent = record { accepted = p .model; h-rows = p .h-long; j-rows = p .j-long; row = p .mask-long }
-
-  taken : length lanes ≡ b .len * 4
-  taken = length-take-le (b .len * 4) (b .lanes) (omega (arith, p .words-long))
-
-  pub words-are : words lanes ≡ take (b .len) (words (b .lanes))
-  words-are = let e : b .len * 4 ≡ 4 * b .len = omega arith in ap (λ (k : ℕ). words (take k (b .lanes))) e ∙ words-take (b .len) (b .lanes)
-
-  all-inside : AllInside lanes (m .qubits)
-  unfolding outsideAt
-  all-inside k h =
-      let l : k < b .len = omega (arith, taken) in
-      ap (λ (v : Word). reaches v (m .qubits)) (ap (λ (ws : List Word). getD ws k identity) words-are ∙ getD-take (b .len) (words (b .lanes)) k identity l) ∙ p .inside k l
-
-  pub basis-lent : BasisLent (m .qubits) lanes (take (b .len) (b .coeffs)) (take (b .len) (w .order)) (w .heads) (take (b .len) (w .nexts))
-  basis-lent =
-      let c = length-take-le (b .len) (b .coeffs) (p .coeffs-long) in
-      let o = length-take-le (b .len) (w .order) (p .order-long) in
-      let n = length-take-le (b .len) (w .nexts) (p .nexts-long) in
-      record {
-        each = omega (arith, taken, c);
-        inside = all-inside;
-        order-each = omega (arith, o, c);
-        nexts-each = omega (arith, n, c);
-        slots-enough = omega (arith, c, p .heads-long);
-      }
-
-  pub fixed-lent : FixedLent (b .protected) (w .fixedHeads) (take count (w .fixedNexts))
-  fixed-lent =
-      let n = length-take-le count (w .fixedNexts) (p .fixed-nexts-long) in
-      record { each = omega (arith, n, p .protected-whole); slots-enough = omega (arith, n, p .fixed-heads-long) }
-
-module _ (w : Work) where
-  pub action-room : {r : ℕ} → r ≡ sumPlaces w → ActionRoom r (w .workWords) (w .workSums) (w .logWords) (w .logValues) (w .placeOrder) (w .placeWork)
-  unfolding sumPlaces
+-- ---- the places of the tables of the passes
+module _ (workWords : List ℕ) (workSums : List Float) (logWords : List ℕ) (logValues : List Float) (placeOrder placeWork : List ℕ) where
+  pub action-room : {r : ℕ} → r ≡ actionPlaces (length workWords) (length workSums) (length logWords) (length logValues) (length placeOrder) (length placeWork) → ActionRoom r workWords workSums logWords logValues placeOrder placeWork
+  unfolding actionPlaces
   action-room e = record {
     work-words = omega (arith, e);
     work-sums = omega (arith, e);
@@ -138,15 +99,16 @@ module _ (w : Work) where
     work-long = omega (arith, e);
   }
 
+module _ (candWords : List ℕ) (candSums : List Float) (nextWords : List ℕ) (nextSums : List Float) (placeOrder placeWork placeKept : List ℕ) where
   pub record CandidateRoom (r : ℕ) : Type 0 where
-    pub held : Holding r 0 (w .candWords) (w .candSums)
-    pub merged : Holding r 0 (w .nextWords) (w .nextSums)
-    pub order-long : r ≤ length (w .placeOrder)
-    pub work-long : r ≤ length (w .placeWork)
-    pub kept-long : r ≤ length (w .placeKept)
+    pub held : Holding r 0 candWords candSums
+    pub merged : Holding r 0 nextWords nextSums
+    pub order-long : r ≤ length placeOrder
+    pub work-long : r ≤ length placeWork
+    pub kept-long : r ≤ length placeKept
 
-  pub candidate-room : {r : ℕ} → r ≡ candidatePlaces w → CandidateRoom r
-  unfolding candidatePlaces
+  pub candidate-room : {r : ℕ} → r ≡ rowPlaces (length candWords) (length candSums) (length nextWords) (length nextSums) (length placeOrder) (length placeWork) (length placeKept) → CandidateRoom r
+  unfolding rowPlaces
   candidate-room e = record {
     held = record { lanes-long = omega (arith, e); sums-long = omega (arith, e); inside = omega arith };
     merged = record { lanes-long = omega (arith, e); sums-long = omega (arith, e); inside = omega arith };
@@ -154,13 +116,3 @@ module _ (w : Work) where
     work-long = omega (arith, e);
     kept-long = omega (arith, e);
   }
-
--- ---- the course of the passes is that of the call
-pub course-is : (m : Model) (t : Tables) (b : Basis) (l : Limits) (w : Work) (p : Passed m t b w) {s c limit room : ℕ} → s ≡ sumPlaces w → c ≡ candidatePlaces w → limit ≡ limitOf l → room ≡ limit - b .len
-    → candidatesOf m t (words (take (b .len * 4) (b .lanes))) (take (b .len) (b .coeffs)) (words (b .protected)) s c room ≡ leakCourse m t b l w
-unfolding leakCourse
-course-is m t b l w p es ec el er = rw (words-are m t b w p, es, ec, er, el)
-
-pub gathered-course : (m : Model) (t : Tables) (b : Basis) (l : Limits) (w : Work) (p : Passed m t b w) {s c limit room : ℕ} → s ≡ sumPlaces w → c ≡ candidatePlaces w → limit ≡ limitOf l → room ≡ limit - b .len → (lanes : List ℕ) (sums : List Float) (r : Taken)
-    → Took c (candidatesOf m t (words (take (b .len * 4) (b .lanes))) (take (b .len) (b .coeffs)) (words (b .protected)) s c room) lanes sums r → Took (candidatePlaces w) (leakCourse m t b l w) lanes sums r
-gathered-course m t b l w p {s = s} {c = c} es ec el er lanes sums r k = rw (← ec, ← (course-is m t b l w p es ec el er)) k

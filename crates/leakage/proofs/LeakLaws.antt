@@ -1,50 +1,87 @@
 -- SPDX-FileCopyrightText: 2026 The PPVM Authors
 -- SPDX-License-Identifier: Apache-2.0
 
--- What is laid once before the passes: the lent tables then stand as the passes ask, over positions in falling magnitude.
--- Assumes nothing.
-use mathlib.Core.Path.{_≡_, sym, ap₂, _∙_}
-use mathlib.Core.List.{List, []}
-use Prim.Native.Nat.{ℕ, _<_}
+-- What is laid once before the passes: the lent tables then stand as the passes ask, over positions in falling magnitude; and what
+-- the passes left is the course of the call. Assumes nothing.
+use mathlib.Core.Path.{_≡_, sym, ap, _∙_}
+use mathlib.Core.List.{List, [], _++_}
+use Prim.Native.Nat.{ℕ, _-_, _*_, _/_, _≤_, _<_}
 use native.Mathlib.Omega.{arith}
 use lib.Ieee.{Float}
-use lib.ListN.{length}
+use lib.ListN.{length, getD, take, drop}
+use lib.Seq.{length-take-le, getD-take, take-at}
+use Rattle.word.specs.Word.{identity}
 use Rattle.word.specs.Flat.{words}
+use Rattle.word.specs.Register.{reaches}
 use Rattle.word.specs.declared.word.Word.{Word}
 use Rattle.order.specs.Merge.{positions, AllBelow}
-use Rattle.order.specs.Magnitudes.{fallsBefore, byMagnitude}
+use Rattle.order.specs.Magnitudes.{fallsBefore}
 use Rattle.order.proofs.Members.{all-sort, positions-below}
-use Rattle.slots.specs.Slots.{Slotted}
+use Rattle.candidates.specs.Log.{Rows}
+use Rattle.candidates.proofs.LogLaws.{words-take}
 use Rattle.model.specs.Stored.{Tables}
+use Rattle.model.specs.Given.{Read}
 use Rattle.model.specs.declared.tables.Model.{Model}
+use Rattle.action.specs.Counts.{outsideAt, AllInside}
 use Rattle.kernel.specs.Near.{ModelIndexed}
-use Rattle.leakage.specs.Leaks.{passes, passCount, touchedAt, leaksAt, candidatesOf, ModelReady, BasisReady, Took}
-use Rattle.leakage.specs.Leakages.{ModelLent, BasisLent}
-use Rattle.leakage.specs.declared.taken.Taken.{Taken}
+use Rattle.passes.specs.Leaks.{passes, passCount, touchedAt, leaksAt, candidatesOf, ModelReady, BasisReady, Took}
+use Rattle.passes.specs.declared.taken.Taken.{Taken}
+use Rattle.leakage.specs.Leakages.{Basis, Work, limitOf, leakCourse, sumPlaces, candidatePlaces, BasisLaid}
+use Rattle.leakage.specs.declared.limits.Limits.{Limits}
+use Rattle.leakage.proofs.GatherLaws.{Passed}
 
-pub model-ready : (m : Model) (t : Tables) (hIndex hIndex′ jIndex jIndex′ mask : List ℕ) → ModelLent m t hIndex jIndex mask → ModelIndexed m t hIndex′ jIndex′ → length hIndex′ ≡ length hIndex → length jIndex′ ≡ length jIndex
-    → ModelReady m t hIndex′ jIndex′ mask
-model-ready m t hIndex hIndex′ jIndex jIndex′ mask l i eh ej =
-    record { tested = l .accepted; indexed = i; h-rows = omega (arith, l .h-rows, eh); j-rows = omega (arith, l .j-rows, ej); row = l .row }
+-- ---- what is laid in the first places of lent tables
+pub laid-first : (n : ℕ) (x y : List ℕ) → length x ≡ n → take n (x ++ drop n y) ≡ x
+laid-first n x y e = take-at x (drop n y) n e
 
-pub basis-ready : (n : ℕ) (basis : List ℕ) (coeffs : List Float) (order heads heads′ nexts nexts′ protected fixedHeads fixedNexts : List ℕ) → BasisLent n basis coeffs order heads nexts → Slotted (words basis) heads′ nexts′ → Slotted (words protected) fixedHeads fixedNexts
-    → BasisReady n basis coeffs heads′ nexts′ protected fixedHeads fixedNexts
-basis-ready n basis coeffs order heads heads′ nexts nexts′ protected fixedHeads fixedNexts l b f = record { basis-slots = b; fixed-slots = f; each = l .each; inside = l .inside }
+pub laid-long : (n : ℕ) (y x : List ℕ) → length x ≡ length (take n y) → n ≤ length y → length (take n (x ++ drop n y)) ≡ n
+laid-long n y x e h = ap length (laid-first n x y (e ∙ length-take-le n y h)) ∙ e ∙ length-take-le n y h
 
-module _ (coeffs : List Float) (order : List ℕ) (is : order ≡ byMagnitude coeffs) where
-  pub order-below : AllBelow (length coeffs) order
-  order-below =
-      let n : ℕ = length coeffs in
-      rw is (all-sort (λ x. x < n) (fallsBefore coeffs) (length (positions n)) (positions n) (positions-below n))
+-- ---- what the passes ask for
+module _ (m : Model) (t : Tables) (b : Basis) (w : Work) (p : Passed m t b w) where
+  abbrev lanes : List ℕ
+  lanes = take (b .len * 4) (b .lanes)
 
-  -- the passes over such an order give the candidates
-  module _ (long : length order ≡ length coeffs) (m : Model) (t : Tables) (basis protected : List Word) (sumRoom candidateRoom room : ℕ) where
-    ordered-passes : candidatesOf m t basis coeffs protected sumRoom candidateRoom room
-        ≡ passes (touchedAt m t basis coeffs protected) (leaksAt m t basis coeffs protected) sumRoom candidateRoom room (passCount (length order)) order []
-    unfolding candidatesOf
-    ordered-passes = ap₂ (λ (n : ℕ) (ps : List ℕ). passes (touchedAt m t basis coeffs protected) (leaksAt m t basis coeffs protected) sumRoom candidateRoom room (passCount n) ps []) (sym long) (sym is)
+  abbrev coeffs : List Float
+  coeffs = take (b .len) (b .coeffs)
 
-    pub gathered : (lanes : List ℕ) (sums : List Float) (r : Taken)
-        → Took candidateRoom (passes (touchedAt m t basis coeffs protected) (leaksAt m t basis coeffs protected) sumRoom candidateRoom room (passCount (length order)) order []) lanes sums r
-        → Took candidateRoom (candidatesOf m t basis coeffs protected sumRoom candidateRoom room) lanes sums r
-    gathered lanes sums r k = record { held = λ n e. (ordered-passes ∙ k .held n e .0, k .held n e .1); stopped = λ q e. ordered-passes ∙ k .stopped q e }
+  pub model-ready : (hIndex jIndex : List ℕ) → ModelIndexed m t hIndex jIndex → length hIndex ≡ length (w .hIndex) → length jIndex ≡ length (w .jIndex) → ModelReady m t hIndex jIndex (w .mask)
+  model-ready hIndex jIndex i eh ej = record { tested = p .model; indexed = i; h-rows = omega (arith, p .h-long, eh); j-rows = omega (arith, p .j-long, ej); row = p .mask-long }
+
+  lanes-long : length lanes ≡ b .len * 4
+  lanes-long = length-take-le (b .len * 4) (b .lanes) (omega (arith, p .words-long))
+
+  coeffs-long : length coeffs ≡ b .len
+  coeffs-long = length-take-le (b .len) (b .coeffs) (p .coeffs-long)
+
+  words-are : words lanes ≡ take (b .len) (words (b .lanes))
+  words-are = let e : b .len * 4 ≡ 4 * b .len = omega arith in ap (λ (k : ℕ). words (take k (b .lanes))) e ∙ words-take (b .len) (b .lanes)
+
+  all-inside : AllInside lanes (m .qubits)
+  unfolding outsideAt
+  all-inside k h =
+      let l : k < b .len = omega (arith, lanes-long) in
+      ap (λ (v : Word). reaches v (m .qubits)) (ap (λ (ws : List Word). getD ws k identity) words-are ∙ getD-take (b .len) (words (b .lanes)) k identity l) ∙ p .inside k l
+
+  module _ (order heads nexts fixedHeads fixedNexts : List ℕ) (laid : BasisLaid (b .len) (b .lanes) (b .coeffs) (b .protected) order heads nexts fixedHeads fixedNexts) where
+    pub basis-ready : BasisReady (m .qubits) lanes coeffs heads (take (b .len) nexts) (b .protected) fixedHeads (take (length (b .protected) / 4) fixedNexts)
+    basis-ready = record { basis-slots = laid .basis-slots; fixed-slots = laid .fixed-slots; each = omega (arith, lanes-long, coeffs-long); inside = all-inside }
+
+    pub order-below : AllBelow (length coeffs) (take (b .len) order)
+    order-below =
+        let n : ℕ = length coeffs in
+        rw (laid .order-is) (all-sort (λ x. x < n) (fallsBefore coeffs) (length (positions n)) (positions n) (positions-below n))
+
+    -- the passes over such an order are the course of the call
+    module _ (l : Limits) (order-long : length order ≡ length (w .order)) {room : ℕ} (er : room ≡ limitOf l - b .len) where
+      abbrev course : List ℕ → Read Rows
+      course ps = passes (touchedAt m t (words lanes) coeffs (words (b .protected))) (leaksAt m t (words lanes) coeffs (words (b .protected))) (sumPlaces w) (candidatePlaces w) room (passCount (length ps)) ps []
+
+      course-is : leakCourse m t b l w ≡ course (take (b .len) order)
+      unfolding leakCourse candidatesOf
+      course-is =
+          let n : length (take (b .len) order) ≡ length coeffs = length-take-le (b .len) order (omega (arith, p .order-long, order-long)) ∙ sym coeffs-long in
+          rw (n, laid .order-is, er, words-are)
+
+      pub gathered : (candWords : List ℕ) (candSums : List Float) (r : Taken) → Took (candidatePlaces w) (course (take (b .len) order)) candWords candSums r → Took (candidatePlaces w) (leakCourse m t b l w) candWords candSums r
+      gathered candWords candSums r k = rw course-is k

@@ -2,15 +2,6 @@
 -- SPDX-License-Identifier: Apache-2.0
 
 -- Laws of this crate.
-pub mod TookLaws
-pub mod TableLaws
-pub mod FlushLaws
-pub mod LogLaws
-pub mod PassLaws
-pub mod RoomLaws
-pub mod KeepLaws
-pub mod ListLaws
-pub mod PassesLaws
 pub mod CheckLaws
 pub mod OutLaws
 pub mod GatherLaws

@@ -10,12 +10,13 @@ use mathlib.Core.List.{List}
 use lib.Dec.{ltb, eqb}
 use lib.Ieee.{Float}
 use lib.ListN.{length, take, set, replicate}
-use Rattle.refusal.specs.declared.Refusal.{Refusal}
 use Rattle.refusal.specs.declared.Refusal.the-variants.{TableFull}
 use Rattle.refusal.specs.declared.Answer.{Answer}
 use Rattle.refusal.specs.declared.Answer.the-variants as Tests
 use Rattle.word.specs.Flat.{words, layWord}
 use Rattle.number.specs.Floats.{float0}
+use Rattle.order.specs.Magnitudes.{byMagnitude}
+use Rattle.slots.specs.Slots.{Slotted}
 use Rattle.candidates.specs.Log.{Rows, table}
 use Rattle.model.specs.Stored.{Tables}
 use Rattle.model.specs.Given.{Read, got, refused}
@@ -24,14 +25,14 @@ use Rattle.model.specs.Built.{andThen, equal}
 use Rattle.model.specs.Laid.{laid}
 use Rattle.model.specs.declared.tables.Model.{Model}
 use Rattle.action.specs.Acts.{listPlaces}
-use Rattle.action.specs.Counts.{maxWords, rowLanes, insideTo, AllInside}
+use Rattle.action.specs.Counts.{maxWords, rowLanes, insideTo}
 use Rattle.action.specs.declared.act.Acted.{Acted}
 use Rattle.action.specs.declared.act.Acted.the-variants.{Listed, Refused}
 use Rattle.basis.specs.Tests.{finiteTo, finiteThreshold}
-use Rattle.leakage.specs.Leaks.{candidatesOf, above, wordsOf, sumsOf, Holding}
+use Rattle.passes.specs.Leaks.{candidatesOf, above, wordsOf, sumsOf, Holding}
 use Rattle.leakage.specs.declared.limits.Limits.{Limits}
-use Rattle.leakage.specs.declared.taken.Taken.{Taken}
-use Rattle.leakage.specs.declared.taken.Taken.the-variants as Steps
+use Rattle.passes.specs.declared.taken.Taken.{Taken}
+use Rattle.passes.specs.declared.taken.Taken.the-variants as Steps
 
 -- ---- limits
 -- an absent admit_basis means max_basis, and less than max_basis is raised to it
@@ -127,16 +128,20 @@ zeroed w = record {
   placeKept = replicate (length (w .placeKept)) 0;
 }
 
--- the places of table 1, words touched by one action, and of table 2, candidates: those of the shortest table that holds them
-abbrev pub orderPlaces : Work → ℕ
-orderPlaces w = min (length (w .placeOrder)) (length (w .placeWork))
+-- the places of table 1, words touched by one action, and of table 2, candidates: those of the shortest table that holds them, by
+-- the lengths of the tables
+unfoldable pub actionPlaces : (workWords workSums logWords logValues placeOrder placeWork : ℕ) → ℕ
+actionPlaces workWords workSums logWords logValues placeOrder placeWork = min (min (workWords / 4) (workSums / 2)) (min (min (logWords / 4) logValues) (min placeOrder placeWork))
 
-unfoldable pub sumPlaces : Work → ℕ
-sumPlaces w = min (min (length (w .workWords) / 4) (length (w .workSums) / 2)) (min (min (length (w .logWords) / 4) (length (w .logValues))) (orderPlaces w))
+unfoldable pub rowPlaces : (candWords candSums nextWords nextSums placeOrder placeWork placeKept : ℕ) → ℕ
+rowPlaces candWords candSums nextWords nextSums placeOrder placeWork placeKept = min (min (min (candWords / 4) candSums) (min (nextWords / 4) nextSums)) (min (min placeOrder placeWork) placeKept)
 
-unfoldable pub candidatePlaces : Work → ℕ
+abbrev pub sumPlaces : Work → ℕ
+sumPlaces w = actionPlaces (length (w .workWords)) (length (w .workSums)) (length (w .logWords)) (length (w .logValues)) (length (w .placeOrder)) (length (w .placeWork))
+
+abbrev pub candidatePlaces : Work → ℕ
 candidatePlaces w =
-    min (min (min (length (w .candWords) / 4) (length (w .candSums))) (min (length (w .nextWords) / 4) (length (w .nextSums)))) (min (orderPlaces w) (length (w .placeKept)))
+    rowPlaces (length (w .candWords)) (length (w .candSums)) (length (w .nextWords)) (length (w .nextSums)) (length (w .placeOrder)) (length (w .placeWork)) (length (w .placeKept))
 
 -- ---- the tests
 -- 9 for the tables whose lengths the input fixes: rows of an index, places for each basis word, and for each protected word
@@ -203,24 +208,67 @@ module _ (outWords : List ℕ) (outValues : List Float) (w : Work) where
   leak m t b l = tested (leakTests m t b l w) (listing (tauOf l) outWords outValues (leakCourse m t b l w))
 
 -- ---- for the functions that work on lent tables
--- a tested model, and places for its index and a mask
-pub record ModelLent (m : Model) (t : Tables) (hIndex jIndex mask : List ℕ) : Type 0 where
-  pub accepted : testModel m t ≡ Tests.Accepted
-  pub h-rows : 64 * m .qubits ≤ length hIndex
-  pub j-rows : 64 * m .qubits ≤ length jIndex
-  pub row : 64 ≤ length mask
-
--- basis words inside the register, a coefficient and a place of each table for each, and at least as many slots
-pub record BasisLent (n : ℕ) (basis : List ℕ) (coeffs : List Float) (order heads nexts : List ℕ) : Type 0 where
-  pub each : 4 * length coeffs ≡ length basis
-  pub inside : AllInside basis n
-  pub order-each : length order ≡ length coeffs
-  pub nexts-each : length nexts ≡ length coeffs
-  pub slots-enough : length coeffs ≤ length heads
+-- a word, a coefficient and a place of each table for each of so many positions, and at least as many slots
+pub record BasisLent (len : ℕ) (lanes : List ℕ) (coeffs : List Float) (order heads nexts : List ℕ) : Type 0 where
+  pub lanes-long : len ≤ length lanes / 4
+  pub coeffs-long : len ≤ length coeffs
+  pub order-long : len ≤ length order
+  pub nexts-long : len ≤ length nexts
+  pub slots-enough : len ≤ length heads
 
 pub record FixedLent (protected heads nexts : List ℕ) : Type 0 where
-  pub each : 4 * length nexts ≡ length protected
-  pub slots-enough : length nexts ≤ length heads
+  pub whole : length protected ≡ length protected / 4 * 4
+  pub nexts-long : length protected / 4 ≤ length nexts
+  pub slots-enough : length protected / 4 ≤ length heads
+
+-- positions in falling magnitude, and the slots of the basis words and of the protected ones
+pub record BasisLaid (len : ℕ) (lanes : List ℕ) (coeffs : List Float) (protected order heads nexts fixedHeads fixedNexts : List ℕ) : Type 0 where
+  pub order-is : take len order ≡ byMagnitude (take len coeffs)
+  pub basis-slots : Slotted (words (take (len * 4) lanes)) heads (take len nexts)
+  pub fixed-slots : Slotted (words protected) fixedHeads (take (length protected / 4) fixedNexts)
+
+-- the tables that the passes write, but for the candidates
+pub record PassWork : Type 0 where
+  pub mask : List ℕ
+  pub workWords : List ℕ
+  pub workSums : List Float
+  pub logWords : List ℕ
+  pub logValues : List Float
+  pub nextWords : List ℕ
+  pub nextSums : List Float
+  pub placeOrder : List ℕ
+  pub placeWork : List ℕ
+  pub placeKept : List ℕ
+
+abbrev pub passWork : List ℕ → List ℕ → List Float → List ℕ → List Float → List ℕ → List Float → List ℕ → List ℕ → List ℕ → PassWork
+passWork mask workWords workSums logWords logValues nextWords nextSums placeOrder placeWork placeKept =
+    record {
+      mask = mask;
+      workWords = workWords;
+      workSums = workSums;
+      logWords = logWords;
+      logValues = logValues;
+      nextWords = nextWords;
+      nextSums = nextSums;
+      placeOrder = placeOrder;
+      placeWork = placeWork;
+      placeKept = placeKept;
+    }
+
+abbrev pub zeroedPass : PassWork → PassWork
+zeroedPass w =
+    record {
+      mask = replicate (length (w .mask)) 0;
+      workWords = replicate (length (w .workWords)) 0;
+      workSums = replicate (length (w .workSums)) float0;
+      logWords = replicate (length (w .logWords)) 0;
+      logValues = replicate (length (w .logValues)) float0;
+      nextWords = replicate (length (w .nextWords)) 0;
+      nextSums = replicate (length (w .nextSums)) float0;
+      placeOrder = replicate (length (w .placeOrder)) 0;
+      placeWork = replicate (length (w .placeWork)) 0;
+      placeKept = replicate (length (w .placeKept)) 0;
+    }
 
 -- the candidates that a step left in lent tables
 abbrev pub stepRows : Taken → List ℕ → List Float → Read Rows

@@ -3,8 +3,10 @@
 
 // What a run may take in, and the defaults of what is not given.
 ghost use mathlib.Core.Path.{_≡_};
+ghost use Prim.Native.Nat.{_-_};
 ghost use Rattle.leakage.specs.Leakages.{limitOf, tauOf};
 use action::count::larger_count;
+use basis::checks::room_left;
 
 // max_basis, and beside it an admit_basis and a tau_add; each of the two counts where the number before
 // it is not 0.
@@ -25,6 +27,14 @@ pub fn word_limit(limits: Limits) -> usize
         return limits.max_basis;
     }
     larger_count(limits.max_basis, limits.admit_basis)
+}
+
+// Room for words beside so many in the basis.
+pub fn word_room(limits: Limits, len: usize) -> usize
+    ensures { λ r. ⌜ r ≡ limitOf limits - len ⌝ }
+{
+    let limit = word_limit(limits);
+    room_left(limit, len)
 }
 
 // The threshold, 0 where it is absent.

@@ -1,7 +1,7 @@
 -- SPDX-FileCopyrightText: 2026 The PPVM Authors
 -- SPDX-License-Identifier: Apache-2.0
 
--- What builders, actions, leakage and calls on a basis answer and leave in the lent tables, part by part. Assumes nothing.
+-- What builders, actions, leakage, calls on a basis, generators, products and norms answer and leave in the lent tables, part by part. Assumes nothing.
 use mathlib.Core.Path.{_≡_, ap, _∙_}
 use Rattle.model.specs.Built.{Building}
 use Rattle.action.specs.Acts.{Acting}
@@ -9,14 +9,24 @@ use Rattle.action.specs.Counts.{Counting}
 use Rattle.basis.specs.Prunes.{Keeping}
 use Rattle.basis.specs.Admissions.{Admitting}
 use Rattle.leakage.specs.Leakages.{Leaking}
+use Rattle.generator.specs.Generators.{Generating, CsrBuilding}
+use Rattle.csr.specs.Products.{Multiplying}
+use Rattle.norm.specs.Norms.{Norming, Selecting}
+use Rattle.refusal.specs.Cause.{answerStatus}
+use Rattle.refusal.specs.declared.Status.{Status}
 use Rattle.pebblelinen.specs.Models.{builtOf, Leaves}
 use Rattle.pebblelinen.specs.Actions.{listedOf, LeavesList, countedOf, LeavesCount}
 use Rattle.pebblelinen.specs.Bases.{keptOf, LeavesBasis, LeavesAdmitted}
 use Rattle.pebblelinen.specs.Leakages.{LeavesLeakage}
+use Rattle.pebblelinen.specs.Generators.{LeavesGenerator, LeavesCsr}
+use Rattle.pebblelinen.specs.Products.{LeavesProduct}
+use Rattle.pebblelinen.specs.Norms.{normedOf, LeavesNorm, partitionOf, LeavesPartition}
 use Rattle.pebblelinen.specs.declared.actions.ListedWords.{ListedWords}
 use Rattle.pebblelinen.specs.declared.actions.CountedPlaces.{CountedPlaces}
 use Rattle.pebblelinen.specs.declared.bases.KeptEntries.{KeptEntries}
 use Rattle.pebblelinen.specs.declared.models.BuiltModel.{BuiltModel}
+use Rattle.pebblelinen.specs.declared.norms.NormOfBasis.{NormOfBasis}
+use Rattle.pebblelinen.specs.declared.norms.Partition.{Partition}
 
 pub leaves : (b made : Building) (r : BuiltModel) → r ≡ builtOf (made .answer) → made ≡ b → Leaves b r (made .tables) (made .workWords) (made .workNumbers)
 leaves b made r a e = record {
@@ -75,4 +85,43 @@ leaves-leakage k made r l e = record {
   out-words = ap (λ (x : Leaking). x .out .outWords) e;
   out-values = ap (λ (x : Leaking). x .out .outValues) e;
   work-is = ap (λ (x : Leaking). x .work) e;
+}
+
+pub leaves-generator : (k made : Generating) (r : ListedWords) → r ≡ listedOf (made .out .answer) → made ≡ k
+    → LeavesGenerator k r (made .out .rows) (made .out .columns) (made .out .values) (made .work)
+leaves-generator k made r l e = record {
+  answers = l ∙ ap (λ (x : Generating). listedOf (x .out .answer)) e;
+  rows-are = ap (λ (x : Generating). x .out .rows) e;
+  columns-are = ap (λ (x : Generating). x .out .columns) e;
+  values-are = ap (λ (x : Generating). x .out .values) e;
+  work-is = ap (λ (x : Generating). x .work) e;
+}
+
+pub leaves-csr : (k made : CsrBuilding) (r : ListedWords) → r ≡ listedOf (made .out .answer) → made ≡ k
+    → LeavesCsr k r (made .out .offsets) (made .out .columns) (made .out .values) (made .work)
+leaves-csr k made r l e = record {
+  answers = l ∙ ap (λ (x : CsrBuilding). listedOf (x .out .answer)) e;
+  offsets-are = ap (λ (x : CsrBuilding). x .out .offsets) e;
+  columns-are = ap (λ (x : CsrBuilding). x .out .columns) e;
+  values-are = ap (λ (x : CsrBuilding). x .out .values) e;
+  work-is = ap (λ (x : CsrBuilding). x .work) e;
+}
+
+pub leaves-product : (k made : Multiplying) (r : Status) → r ≡ answerStatus (made .answer) → made ≡ k → LeavesProduct k r (made .output) (made .work)
+leaves-product k made r l e = record {
+  answers = l ∙ ap (λ (x : Multiplying). answerStatus (x .answer)) e;
+  output-is = ap (λ (x : Multiplying). x .output) e;
+  work-is = ap (λ (x : Multiplying). x .work) e;
+}
+
+pub leaves-norm : (k made : Norming) (r : NormOfBasis) → r ≡ normedOf (made .answer) → made ≡ k → LeavesNorm k r (made .work)
+leaves-norm k made r l e = record {
+  answers = l ∙ ap (λ (x : Norming). normedOf (x .answer)) e;
+  work-is = ap (λ (x : Norming). x .work) e;
+}
+
+pub leaves-partition : (k made : Selecting) (r : Partition) → r ≡ partitionOf (made .answer) → made ≡ k → LeavesPartition k r (made .work)
+leaves-partition k made r l e = record {
+  answers = l ∙ ap (λ (x : Selecting). partitionOf (x .answer)) e;
+  work-is = ap (λ (x : Selecting). x .work) e;
 }

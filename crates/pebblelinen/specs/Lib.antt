@@ -7,4 +7,7 @@ pub mod Models
 pub mod Actions
 pub mod Bases
 pub mod Leakages
+pub mod Generators
+pub mod Products
+pub mod Norms
 pub mod Examples

@@ -16,7 +16,7 @@ use model::test::smaller;
 use word::word::MAX_QUBITS;
 
 // More places than any table of sums or candidates is lent.
-const MAX_PLACES: usize = 4_294_967_295;
+pub const MAX_PLACES: usize = 4_294_967_295;
 
 #[no_mangle]
 pub extern "C" fn pebblelinen_leakage_with_prune(

@@ -5,6 +5,9 @@
 // takes any input, calls the crate that does the work and puts the answer into plain numbers.
 pub mod actions;
 pub mod bases;
+pub mod generators;
 pub mod leakages;
 pub mod models;
+pub mod norms;
+pub mod products;
 pub mod words;

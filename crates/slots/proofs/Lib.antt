@@ -3,4 +3,5 @@
 
 -- Laws of this crate.
 pub mod HashLaws
+pub mod PlaceLaws
 pub mod SlotLaws

@@ -63,21 +63,27 @@ module _ (slots : ℕ) (ws : List Word) where
       go false e h = ap (λ (c : Bool). cond c (suc b) (lastOf w ws b)) (other w b e) ∙ h
 
 -- ---- following a chain
--- w stands last at `at` or before, and `at` is in its chain
-pub record Follows (slots : ℕ) (w : Word) (ws : List Word) (at : ℕ) : Type 0 where
+-- of the first b places w stands last at `at` or before, and `at` is in its chain
+pub record Follows (slots : ℕ) (w : Word) (ws : List Word) (b at : ℕ) : Type 0 where
   pub low : at ≤ length ws
   pub slot : (i : ℕ) → at ≡ suc i → slotOf slots (getD ws i identity) ≡ slotOf slots w
-  pub left : lastOf w ws at ≡ lastOf w ws (length ws)
+  pub left : lastOf w ws at ≡ lastOf w ws b
 
-module _ (slots : ℕ) (w : Word) (ws : List Word) where
-  follow : (b : ℕ) → b ≤ length ws → lastOf w ws b ≡ lastOf w ws (length ws) → Follows slots w ws (lastIn slots (slotOf slots w) ws b)
-  follow b h e = record { low = omega (arith, last-low slots ws (slotOf slots w) b); slot = λ i f. last-slot slots ws (slotOf slots w) b i f; left = sym (skips slots ws w b) ∙ e }
+module _ (slots : ℕ) (w : Word) (ws : List Word) (b : ℕ) where
+  follow : (k : ℕ) → k ≤ length ws → lastOf w ws k ≡ lastOf w ws b → Follows slots w ws b (lastIn slots (slotOf slots w) ws k)
+  follow k h e = record { low = omega (arith, last-low slots ws (slotOf slots w) k); slot = λ i f. last-slot slots ws (slotOf slots w) k i f; left = sym (skips slots ws w k) ∙ e }
 
 module _ (w : Word) (ws : List Word) (heads nexts : List ℕ) (laid : Slotted ws heads nexts) where
-  pub follow-start : (s : ℕ) → s ≡ slotOf (length heads) w → s < length heads → Follows (length heads) w ws (getD heads s 0)
-  follow-start s e h = rw (laid .heads-are s h, e) (follow (length heads) w ws (length ws) (omega arith) refl)
+  pub follow-start : (s : ℕ) → s ≡ slotOf (length heads) w → s < length heads → Follows (length heads) w ws (length ws) (getD heads s 0)
+  follow-start s e h = rw (laid .heads-are s h, e) (follow (length heads) w ws (length ws) (length ws) (omega arith) refl)
 
-  module _ (at : ℕ) (p : 0 < at) (f : Follows (length heads) w ws at) (v : Word) (e : v ≡ getD ws (at - 1) identity) where
+  -- from the place of w itself
+  pub follow-before : (i : ℕ) → i < length ws → w ≡ getD ws i identity → Follows (length heads) w ws i (getD nexts i 0)
+  follow-before i h e =
+      let n : getD nexts i 0 ≡ lastIn (length heads) (slotOf (length heads) w) ws i = laid .nexts-are i h ∙ ap (λ (v : Word). lastIn (length heads) (slotOf (length heads) v) ws i) (sym e) in
+      rw n (follow (length heads) w ws i i (omega arith) refl)
+
+  module _ {b : ℕ} (at : ℕ) (p : 0 < at) (f : Follows (length heads) w ws b at) (v : Word) (e : v ≡ getD ws (at - 1) identity) where
     before-at : at ≡ suc (at - 1)
     before-at = omega arith
 
@@ -89,7 +95,7 @@ module _ (w : Word) (ws : List Word) (heads nexts : List ℕ) (laid : Slotted ws
         ∙ ap (λ (b : Bool). cond b (suc (at - 1)) (lastOf w ws (at - 1))) t
         ∙ ap (λ (k : ℕ). cond c k (lastOf w ws (at - 1))) (sym before-at)
 
-    pub follow-found : same v w ≡ true → at ≡ lastOf w ws (length ws)
+    pub follow-found : same v w ≡ true → at ≡ lastOf w ws b
     follow-found t = sym (by-test true t) ∙ f .left
 
     pub next-is : getD nexts (at - 1) 0 ≡ lastIn (length heads) (slotOf (length heads) w) ws (at - 1)
@@ -100,10 +106,10 @@ module _ (w : Word) (ws : List Word) (heads nexts : List ℕ) (laid : Slotted ws
     pub follow-falls : getD nexts (at - 1) 0 < at
     follow-falls = omega (arith, next-is, last-low (length heads) ws (slotOf (length heads) w) (at - 1))
 
-    pub follow-on : same v w ≡ false → Follows (length heads) w ws (getD nexts (at - 1) 0)
-    follow-on t = rw next-is (follow (length heads) w ws (at - 1) (omega (arith, f .low)) (sym (by-test false t) ∙ f .left))
+    pub follow-on : same v w ≡ false → Follows (length heads) w ws b (getD nexts (at - 1) 0)
+    follow-on t = rw next-is (follow (length heads) w ws b (at - 1) (omega (arith, f .low)) (sym (by-test false t) ∙ f .left))
 
-  pub follow-end : (at : ℕ) → at ≤ 0 → Follows (length heads) w ws at → 0 ≡ lastOf w ws (length ws)
+  pub follow-end : {b : ℕ} (at : ℕ) → at ≤ 0 → Follows (length heads) w ws b at → 0 ≡ lastOf w ws b
   unfolding lastOf
   follow-end at h f = let z : at ≡ 0 = omega arith in ap (lastOf w ws) (sym z) ∙ f .left
 

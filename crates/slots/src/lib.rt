@@ -5,7 +5,8 @@
 // slots than words keep the chains short; the answers do not depend on their number.
 ghost use mathlib.Core.Path.{_≡_};
 ghost use Prim.Native.Nat.{_*_, _≤_, _<_};
-ghost use lib.ListN.{length};
+ghost use lib.ListN.{length, getD};
+ghost use Rattle.word.specs.Word.{identity};
 ghost use Rattle.word.specs.Flat.{words};
 ghost use Rattle.order.specs.Places.{isAmong};
 ghost use Rattle.slots.specs.Slots.{laneHash, wordHash, slotOf, lastOf, Slotted};
@@ -16,6 +17,26 @@ use word::word::Word;
 use word::word::same_word;
 
 const HALF: u64 = 4_294_967_296;
+
+// A list of so few words takes so many slots: enough for short chains, and a number that is known here,
+// so that finding a slot takes no division.
+const FEW: usize = 256;
+
+const FEW_SLOTS: usize = 4_096;
+
+// How many of so many places are taken as slots for so many words.
+pub fn slots_for(places: usize, count: usize) -> usize
+    requires { ⌜ count ≤ places ⌝ }
+    ensures { λ r. ⌜ (count ≤ r) × (r ≤ places) ⌝ }
+{
+    if FEW < count {
+        return places;
+    }
+    if places < FEW_SLOTS {
+        return places;
+    }
+    FEW_SLOTS
+}
 
 fn lane_hash(a: u64, b: u64, lane: u64) -> u64
     requires { ⌜ (a < 4294967296) × (b < 4294967296) ⌝ }
@@ -41,7 +62,11 @@ fn slot_of(w: Word, slots: usize) -> usize
 {
     let h = word_hash(w);
     let folded = (h ^ (h / HALF)) % HALF;
-    (folded * 0x9e37_79b1 / 1_048_576) as usize % slots
+    let mixed = (folded * 0x9e37_79b1 / 1_048_576) as usize;
+    if slots == FEW_SLOTS {
+        return mixed % FEW_SLOTS;
+    }
+    mixed % slots
 }
 
 // Lays the chains of all words of a list; a place of nexts for each word, and at least as many slots.
@@ -72,6 +97,23 @@ pub fn last_place(lanes: &[u64], heads: &[u64], nexts: &[u64], w: Word) -> usize
     }
     let s = slot_of(w, slots);
     let mut at = heads[s] as usize;
+    while 0 < at {
+        let v = word_at(lanes, at - 1);
+        if same_word(v, w) {
+            return at;
+        }
+        at = nexts[at - 1] as usize;
+    }
+    0
+}
+
+// One more than the last place before i of the word at i, or 0.
+pub fn place_before(lanes: &[u64], heads: &[u64], nexts: &[u64], i: usize) -> usize
+    requires { ⌜ Slotted (words (now lanes)) (now heads) (now nexts) × (i < length (words (now lanes))) ⌝ }
+    ensures { λ r. ⌜ r ≡ lastOf (getD (words (now (lanes .entry))) i identity) (words (now (lanes .entry))) i ⌝ }
+{
+    let w = word_at(lanes, i);
+    let mut at = nexts[i] as usize;
     while 0 < at {
         let v = word_at(lanes, at - 1);
         if same_word(v, w) {

@@ -5,7 +5,7 @@
 use mathlib.Core.Path.{_≡_, refl, ap}
 use mathlib.Core.Bool.{Bool, true, false, cond}
 use mathlib.Core.List.{List, [], _∷_, map}
-use Prim.Native.Nat.{ℕ, zero, suc, _<_}
+use Prim.Native.Nat.{ℕ, zero, suc, _≤_, _<_}
 use native.Mathlib.Omega.{arith}
 use lib.Dec.{eqb}
 use lib.ListN.{length, getD, set, replicate}
@@ -16,6 +16,13 @@ use Rattle.truncate.specs.Chosen.{flagOf}
 -- the flag at p is not 0
 abbrev pub Kept : List ℕ → ℕ → Type 0
 Kept flags p = getD flags p 0 ≡ 0 → ⊥
+
+pub flag-small : (k : ℕ) → flagOf k ≤ 1
+flag-small k = go (eqb k 0)
+  where
+    go : (b : Bool) → cond b 0 1 ≤ 1
+    go true = omega arith
+    go false = omega arith
 
 pub flagged-set : (l : List ℕ) (q : ℕ) → q < length l → getD l q 0 ≡ 0 → flagged (set l q 1) ≡ suc (flagged l)
 unfolding flagged

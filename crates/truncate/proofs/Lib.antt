@@ -14,3 +14,8 @@ pub mod Listed
 pub mod ChosenLaws
 pub mod AdmitLaws
 pub mod PruneLaws
+pub mod OrderOnce
+pub mod UnflaggedLaws
+pub mod NthLaws
+pub mod SameFlags
+pub mod LargestLaws

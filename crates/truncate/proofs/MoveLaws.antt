@@ -3,15 +3,16 @@
 
 -- Moving kept elements down, one turn at a time, over plain lists. Assumes nothing.
 use mathlib.Core.Path.{_≡_, refl, ap, sym, _∙_}
-use mathlib.Core.Bool.{true, false}
+use mathlib.Core.Bool.{Bool, true, false, cond}
 use mathlib.Core.List.{List, [], _∷_, _++_}
 use Prim.Native.Nat.{ℕ, _+_, _≤_, _<_}
 use native.Mathlib.Omega.{arith}
 use native.Mathlib.Numerals.{add-one}
 use lib.Dec.{eqb}
 use lib.ListN.{length, getD, set, take, drop, length-set}
-use lib.Seq.{take-suc-set, drop-set-lt, drop-drop, getD-drop}
+use lib.Seq.{take-set-le, take-suc-set, drop-set-lt, drop-drop, getD-drop}
 use Rattle.truncate.specs.Retained.{pick}
+use Rattle.truncate.specs.Chosen.{flagOf}
 use Rattle.truncate.proofs.PickLaws.{pick-skips, pick-takes}
 
 module _ {A : Type 0} where
@@ -37,18 +38,31 @@ module _ {A : Type 0} where
   moved-start (k ∷ ks) l = record { few = omega arith; front = refl; back = refl; long = refl }
 
   module _ (ks : List ℕ) (l₀ l : List A) (n i : ℕ) (m : Moved ks l₀ l n i) (h : i < length ks) where
-    pub moved-skip : eqb (getD ks i 0) 0 ≡ true → Moved ks l₀ l n (i + 1)
-    moved-skip e = record { few = omega (arith, m .few); front = m .front ∙ sym (pick-skips ks l₀ i h e); back = drop-more l l₀ i (m .back); long = m .long }
+    -- the element at i moves down to n, and counts if its flag is not 0
+    module _ (d x : A) (l′ : List A) (g : i < length l₀) (f : x ≡ getD l i d) (s : l′ ≡ set l n x) where
+      back-next : drop (i + 1) l′ ≡ drop (i + 1) l₀
+      back-next = rw s (drop-set-lt (i + 1) l n x (omega (arith, m .few)) ∙ drop-more l l₀ i (m .back))
 
-    pub moved-put : (d x : A) (l′ : List A) → i < length l₀ → eqb (getD ks i 0) 0 ≡ false → x ≡ getD l i d → l′ ≡ set l n x → Moved ks l₀ l′ (n + 1) (i + 1)
-    moved-put d x l′ g e f s = record {
-      few = omega (arith, m .few);
-      front =
+      long-next : length l′ ≡ length l₀
+      long-next = rw s (length-set l n x ∙ m .long)
+
+      front-same : take n l′ ≡ pick ks (take i l₀)
+      front-same = rw s (take-set-le n l n x (omega arith) ∙ m .front)
+
+      front-more : take (n + 1) l′ ≡ pick ks (take i l₀) ++ (getD l₀ i d ∷ [])
+      front-more =
           rw (s, add-one n)
           (take-suc-set l n x (omega (arith, m .few, m .long, g))
           ∙ ap (λ (t : List A). t ++ (x ∷ [])) (m .front)
-          ∙ ap (λ (y : A). pick ks (take i l₀) ++ (y ∷ [])) (f ∙ still l l₀ i d (m .back))
-          ∙ sym (pick-takes ks l₀ i d h g e));
-      back = rw s (drop-set-lt (i + 1) l n x (omega (arith, m .few)) ∙ drop-more l l₀ i (m .back));
-      long = rw s (length-set l n x ∙ m .long);
-    }
+          ∙ ap (λ (y : A). pick ks (take i l₀) ++ (y ∷ [])) (f ∙ still l l₀ i d (m .back)))
+
+      pub moved-next : (k : ℕ) → k ≡ flagOf (getD ks i 0) → Moved ks l₀ l′ (n + k) (i + 1)
+      moved-next k e = go (eqb (getD ks i 0) 0) refl e
+        where
+          go : (b : Bool) → eqb (getD ks i 0) 0 ≡ b → k ≡ cond b 0 1 → Moved ks l₀ l′ (n + k) (i + 1)
+          go true z e =
+              let o : n + k ≡ n = omega arith in
+              rw o (record { few = omega (arith, m .few); front = front-same ∙ sym (pick-skips ks l₀ i h z); back = back-next; long = long-next })
+          go false z e =
+              let o : n + k ≡ n + 1 = omega arith in
+              rw o (record { few = omega (arith, m .few); front = front-more ∙ sym (pick-takes ks l₀ i d h g z); back = back-next; long = long-next })

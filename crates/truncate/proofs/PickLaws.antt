@@ -11,6 +11,7 @@ use native.Mathlib.Numerals.{add-one}
 use lib.Dec.{eqb}
 use lib.ListN.{length, getD, take}
 use Rattle.truncate.specs.Retained.{pick, flagged}
+use Rattle.truncate.specs.Chosen.{flagOf}
 
 -- ---- how many flags are not 0
 flagged-skip : (ks : List ℕ) (i : ℕ) → i < length ks → eqb (getD ks i 0) 0 ≡ true → flagged (take (suc i) ks) ≡ flagged (take i ks)
@@ -34,6 +35,13 @@ flagged-skips ks i h e = rw add-one (flagged-skip ks i h e)
 
 pub flagged-takes : (ks : List ℕ) (i : ℕ) → i < length ks → eqb (getD ks i 0) 0 ≡ false → flagged (take (i + 1) ks) ≡ flagged (take i ks) + 1
 flagged-takes ks i h e = rw (add-one i, add-one (flagged (take i ks))) (flagged-take ks i h e)
+
+pub flagged-next : (ks : List ℕ) (i : ℕ) → i < length ks → flagged (take (i + 1) ks) ≡ flagged (take i ks) + flagOf (getD ks i 0)
+flagged-next ks i h = go (eqb (getD ks i 0) 0) refl
+  where
+    go : (b : Bool) → eqb (getD ks i 0) 0 ≡ b → flagged (take (i + 1) ks) ≡ flagged (take i ks) + cond b 0 1
+    go true e = omega (arith, flagged-skips ks i h e)
+    go false e = flagged-takes ks i h e
 
 pub flagged-below : (ks : List ℕ) (i n : ℕ) → i < n → i < length ks → eqb (getD ks i 0) 0 ≡ false → flagged (take i ks) < flagged (take n ks)
 unfolding flagged

@@ -9,7 +9,7 @@ use Prim.Native.Nat.{ℕ, zero, suc, _≤_, _<_}
 use native.Mathlib.Omega.{arith}
 use lib.Dec.{T, eqb}
 use lib.Ieee.{Float, nan, binary64, le, fits, isNan}
-use lib.ListN.{length, getD, take, drop}
+use lib.ListN.{length, getD, take}
 use lib.Seq.{length-take-le, getD-take}
 use borrow.Author.Tests.{leb-true, le-leb}
 use Rattle.number.specs.Floats.{magnitude}
@@ -32,23 +32,12 @@ module _ (tol : Float) where
   large-at (x ∷ xs) (k ∷ ks) zero h g = refl
   large-at (x ∷ xs) (k ∷ ks) (suc i) h g = large-at xs ks i (omega arith) (omega arith)
 
-  large-past : (xs : List Float) (ks : List ℕ) → drop (length xs) (largeFlags tol xs ks) ≡ drop (length xs) ks
-  unfolding largeFlags
-  large-past [] ks = refl
-  large-past (x ∷ xs) [] = refl
-  large-past (x ∷ xs) (k ∷ ks) = large-past xs ks
-
   -- the same of the first len numbers
   pub large-first : (xs : List Float) (ks : List ℕ) (len i : ℕ) → i < len → len ≤ length xs → len ≤ length ks
       → getD (largeFlags tol (take len xs) ks) i 0 ≡ largeFlag tol (getD xs i nan) (getD ks i 0)
   large-first xs ks len i h g k =
       large-at (take len xs) ks i (omega (arith, h, length-take-le len xs g)) (omega arith)
       ∙ ap (λ (x : Float). largeFlag tol x (getD ks i 0)) (getD-take len xs i nan h)
-
-  pub large-rest : (xs : List Float) (ks : List ℕ) (len : ℕ) → len ≤ length xs → drop len (largeFlags tol (take len xs) ks) ≡ drop len ks
-  large-rest xs ks len g =
-      let n : length (take len xs) ≡ len = length-take-le len xs g in
-      ap (λ (m : ℕ). drop m (largeFlags tol (take len xs) ks)) (sym n) ∙ large-past (take len xs) ks ∙ ap (λ (m : ℕ). drop m ks) n
 
 -- a number of the code that is no NaN
 pub record Number (x : Float) : Type 0 where

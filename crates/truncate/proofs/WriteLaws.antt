@@ -11,7 +11,7 @@ use lib.ListN.{length, getD, set, take, drop, take-append-drop}
 use lib.Seq.{length-take-le, drop-cons, getD-at}
 
 module _ {A : Type 0} where
-  write-next : (d : A) (new old : List A) (i : ℕ) → i < length new → i < length old → set (take i new ++ drop i old) i (getD new i d) ≡ take (suc i) new ++ drop (suc i) old
+  pub write-next : (d : A) (new old : List A) (i : ℕ) → i < length new → i < length old → set (take i new ++ drop i old) i (getD new i d) ≡ take (suc i) new ++ drop (suc i) old
   write-next d [] old i h g = absurd (omega arith)
   write-next d (x ∷ new) [] i h g = absurd (omega arith)
   write-next d (x ∷ new) (y ∷ old) zero h g = refl

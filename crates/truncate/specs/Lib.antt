@@ -4,5 +4,6 @@
 -- Entries that are kept, the positions chosen, and entries that come in.
 pub mod Retained
 pub mod Chosen
+pub mod Largest
 pub mod Admitted
 pub mod Pruned

@@ -2,7 +2,7 @@
 -- SPDX-License-Identifier: Apache-2.0
 
 -- Entries kept by flags, in their order: a flag that is not 0 keeps the entry at its position.
-use Prim.Native.Nat.{ℕ, suc, _-_, _*_}
+use Prim.Native.Nat.{ℕ, zero, suc, _-_, _*_}
 use mathlib.Core.Path.{_≡_}
 use mathlib.Core.Bool.{cond}
 use mathlib.Core.List.{List, [], _∷_, _++_}
@@ -23,6 +23,14 @@ pick (k ∷ ks) (a ∷ l) = cond (eqb k 0) (pick ks l) (a ∷ pick ks l)
 unfoldable pub flagged : List ℕ → ℕ
 flagged [] = 0
 flagged (k ∷ ks) = cond (eqb k 0) (flagged ks) (suc (flagged ks))
+
+-- the positions below n whose flag is 0, in turn; and all of them
+unfoldable pub unflaggedTo : List ℕ → ℕ → List ℕ
+unflaggedTo ks zero = []
+unflaggedTo ks (suc n) = unflaggedTo ks n ++ cond (eqb (getD ks n 0) 0) (n ∷ []) []
+
+abbrev pub unflagged : List ℕ → List ℕ
+unflagged ks = unflaggedTo ks (length ks)
 
 -- the lanes of words, one word after the other
 unfoldable pub flatLanes : List Word → List ℕ

@@ -7,7 +7,7 @@ ghost use mathlib.Core.List.{map};
 ghost use lib.ListN.{length};
 ghost use Rattle.truncate.specs.Chosen.{flagOf, chosen, Below};
 
-fn flag_of(k: u64) -> u64
+pub fn flag_of(k: u64) -> u64
     ensures { λ r. ⌜ r ≡ flagOf k ⌝ }
 {
     if k == 0 {
@@ -17,7 +17,7 @@ fn flag_of(k: u64) -> u64
 }
 
 // A flag of 1 for each that is not 0.
-fn copy_flags(flags: &[u64], kept: &mut [u64])
+pub fn copy_flags(flags: &[u64], kept: &mut [u64])
     requires { ⌜ length (now kept) ≡ length (now flags) ⌝ }
     ensures { λ _. ⌜ now (kept .exit) ≡ map flagOf (now (flags .entry)) ⌝ }
 {

@@ -5,4 +5,6 @@
 pub mod admit;
 pub mod choose;
 pub mod flags;
+pub mod largest;
+pub mod nth;
 pub mod retain;

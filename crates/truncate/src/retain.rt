@@ -1,12 +1,14 @@
 // SPDX-FileCopyrightText: 2026 The PPVM Authors
 // SPDX-License-Identifier: Apache-2.0
 
-// Entries of a lent basis kept by flags, in their order. The kept ones move down, and every place past
-// them becomes 0.
+// Entries of a lent basis kept by flags, in their order. Each moves down behind those kept before it,
+// where the next one writes over it unless it is kept; so no branch waits for a flag. Every place past
+// the kept ones becomes 0.
 ghost use mathlib.Core.Path.{_≡_};
 ghost use Prim.Native.Nat.{_*_, _≤_};
 ghost use lib.ListN.{length, take};
 ghost use Rattle.truncate.specs.Retained.{flagged, retainedLanes, retainedNumbers, Retains};
+use crate::choose::flag_of;
 use table::clear::clear_lanes;
 use table::clear::clear_numbers;
 use word::flat::WORD_LANES;
@@ -20,14 +22,10 @@ fn retain_words(words: &mut [u64], len: usize, kept: &[u64]) -> usize
     let mut held = 0;
     let mut i = 0;
     while i < len {
-        if kept[i] == 0 {
-            i += 1;
-        } else {
-            let w = word_at(words, i);
-            set_word(words, held, w);
-            held += 1;
-            i += 1;
-        }
+        let w = word_at(words, i);
+        set_word(words, held, w);
+        held += flag_of(kept[i]) as usize;
+        i += 1;
     }
     let end = held * WORD_LANES;
     clear_lanes(&mut words[end..]);
@@ -41,13 +39,9 @@ fn retain_numbers(coeffs: &mut [f64], len: usize, kept: &[u64]) -> usize
     let mut held = 0;
     let mut i = 0;
     while i < len {
-        if kept[i] == 0 {
-            i += 1;
-        } else {
-            coeffs[held] = coeffs[i];
-            held += 1;
-            i += 1;
-        }
+        coeffs[held] = coeffs[i];
+        held += flag_of(kept[i]) as usize;
+        i += 1;
     }
     clear_numbers(&mut coeffs[held..]);
     held

@@ -14,7 +14,7 @@ use Rattle.slots.proofs.last_place.Statement.{statement}
 use Rattle.slots.proofs.last_place.Tie as tie
 
 abbrev Inv-loop : tie.InvT-loop
-Inv-loop lanes heads nexts w slots s at₀ at = Follows (length heads) w (words lanes) at
+Inv-loop lanes heads nexts w slots s at₀ at = Follows (length heads) w (words lanes) (length (words lanes)) at
 
 abbrev μ-loop : tie.MeasureT-loop
 μ-loop lanes heads nexts w slots s at₀ at = at

@@ -5,7 +5,8 @@
 use mathlib.Core.Path.{sym, ap, _∙_}
 use Prim.Native.Nat.{ℕ}
 use lib.ListN.{replicate}
-use Rattle.basis.proofs.CapLaws.{cap-refused, cap-room, cap-answered}
+use Rattle.basis.proofs.CapLaws.{cap-refused, cap-room, cap-finite, cap-answered}
+use Rattle.basis.proofs.ChecksLaws.{front-finite}
 use borrow.Author.Needs.{needs}
 use Rattle.basis.proofs.cap.cap_basis.Statement.{statement}
 use Rattle.basis.proofs.cap.cap_basis.Tie as tie
@@ -13,8 +14,10 @@ use Rattle.basis.proofs.cap.cap_basis.Tie as tie
 keep-largest-requires : tie.Need-keep-largest-requires
 keep-largest-requires c κs =
     let a = c .before .before .before .before .before .before .before .before .before .before .before .before .before .before .before .before .before .before .before .before .before .before .args in
-    let h = cap-room (a .len) (a .words .now) (a .coeffs .now) (a .order .now) (a .work .now) (a .fixed .now) (a .kept .now) (a .n) (a .protected .now) (a .limit) (sym (c .before .before .before .before .before .before .before .before .check-cap .ensures) ∙ c .before .before .before .before .before .before .enum-told .given .1) in
-    (h .lanes-room, h .coeffs-room, h .protected-whole, h .order-protected, h .work-protected, h .order-entries, h .work-entries, h .fixed-room, h .kept-room)
+    let ok = sym (c .before .before .before .before .before .before .before .before .check-cap .ensures) ∙ c .before .before .before .before .before .before .enum-told .given .1 in
+    let h = cap-room (a .len) (a .words .now) (a .coeffs .now) (a .order .now) (a .work .now) (a .fixed .now) (a .kept .now) (a .n) (a .protected .now) (a .limit) ok in
+    let f = cap-finite (a .len) (a .words .now) (a .coeffs .now) (a .order .now) (a .work .now) (a .fixed .now) (a .kept .now) (a .n) (a .protected .now) (a .limit) ok in
+    (h .lanes-room, h .coeffs-room, h .protected-whole, h .order-protected, h .work-protected, h .order-entries, h .fixed-room, h .kept-room, front-finite (a .len) (a .words .now) (a .coeffs .now) (a .n) (a .protected .now) (h .coeffs-room) f)
 
 returns : tie.Need-returns
 returns c =

@@ -23,19 +23,19 @@ returns c o w f k =
 slice-aggregate-flag-largest : tie.Need-slice-aggregate-flag-largest
 slice-aggregate-flag-largest c =
     let s = c .before .before .before .before .before .before .before .before .before .before .before .before .before in
-    sym (length-take-le (s .args .len) (s .args .fixed .now) (s .pre .7))
+    sym (length-take-le (s .args .len) (s .args .fixed .now) (s .pre .6))
 
 slice-aggregate-flag-largest-2 : tie.Need-slice-aggregate-flag-largest-2
 slice-aggregate-flag-largest-2 c =
     let s = c .before .before .before .before .before .before .before .before .before .before .before .before .before .before in
-    sym (length-take-le (s .args .len) (s .args .kept .now) (s .pre .8))
+    sym (length-take-le (s .args .len) (s .args .kept .now) (s .pre .7))
 
 flag-largest-requires : tie.Need-flag-largest-requires
 flag-largest-requires c κs =
     let s = c .before .before .before .before .before .before .before .before .before .before .before .before .before .before in
     let a = s .args in
     let h = s .pre in
-    (h .0, h .1, h .2, h .3, h .4, h .5, h .6, length-take-le (a .len) (a .fixed .now) (h .7), length-take-le (a .len) (a .kept .now) (h .8))
+    (h .0, h .1, h .2, h .3, h .4, h .5, length-take-le (a .len) (a .fixed .now) (h .6), length-take-le (a .len) (a .kept .now) (h .7), h .8)
 
 slice-aggregate-retain-in-place : tie.Need-slice-aggregate-retain-in-place
 slice-aggregate-retain-in-place c =
@@ -43,7 +43,7 @@ slice-aggregate-retain-in-place c =
     let a = s .args in
     let q = c .before .before .before .before .before .before .before .before .before .before .before .flag-largest in
     let ys : List ℕ = q .last .1 .1 .1 .1 .1 .1 .1 .1 .0 in
-    sym (length-take-le (a .len) (ys ++ drop (a .len) (a .kept .now)) (omega (arith, s .pre .8, lent-long (a .len) (a .kept .now) ys (q .kept .1 .1 .1 .1 .1 .1 .1 .1 .0))))
+    sym (length-take-le (a .len) (ys ++ drop (a .len) (a .kept .now)) (omega (arith, s .pre .7, lent-long (a .len) (a .kept .now) ys (q .kept .1 .1 .1 .1 .1 .1 .1 .1 .0))))
 
 retain-in-place-requires : tie.Need-retain-in-place-requires
 retain-in-place-requires c κs =
@@ -51,8 +51,8 @@ retain-in-place-requires c κs =
     let a = s .args in
     let q = c .before .before .before .before .before .before .before .before .before .before .before .flag-largest in
     let ys : List ℕ = q .last .1 .1 .1 .1 .1 .1 .1 .1 .0 in
-    let long : length ys ≡ a .len = q .kept .1 .1 .1 .1 .1 .1 .1 .1 .0 ∙ length-take-le (a .len) (a .kept .now) (s .pre .8) in
-    let e : length (take (a .len) (ys ++ drop (a .len) (a .kept .now))) ≡ a .len = ap length (lent-front (a .len) (a .kept .now) ys (s .pre .8) (q .kept .1 .1 .1 .1 .1 .1 .1 .1 .0)) ∙ long in
+    let long : length ys ≡ a .len = q .kept .1 .1 .1 .1 .1 .1 .1 .1 .0 ∙ length-take-le (a .len) (a .kept .now) (s .pre .7) in
+    let e : length (take (a .len) (ys ++ drop (a .len) (a .kept .now))) ≡ a .len = ap length (lent-front (a .len) (a .kept .now) ys (s .pre .7) (q .kept .1 .1 .1 .1 .1 .1 .1 .1 .0)) ∙ long in
     (s .pre .0, s .pre .1, omega (arith, e))
 
 returns-2 : tie.Need-returns-2
@@ -61,9 +61,9 @@ returns-2 c o w f k =
     let a = s .args in
     let q = c .before .before .before .before .before .before .before .before .before .before .before .before .before .before .before .before .flag-largest in
     let ys : List ℕ = q .last .1 .1 .1 .1 .1 .1 .1 .1 .0 in
-    let long : length ys ≡ a .len = q .kept .1 .1 .1 .1 .1 .1 .1 .1 .0 ∙ length-take-le (a .len) (a .kept .now) (s .pre .8) in
+    let long : length ys ≡ a .len = q .kept .1 .1 .1 .1 .1 .1 .1 .1 .0 ∙ length-take-le (a .len) (a .kept .now) (s .pre .7) in
     let flags : List ℕ = capFlags (a .len) (a .words .now) (a .coeffs .now) (a .protected .now) (a .limit) in
-    rw (lt-leb (a .len) (a .limit) (c .before .before .before .before .before .before .before .before .before .before .before .before .before .before .before .before .before .before .before .before .before .before .before .if1 .left)) (retained-is (a .len) (a .words .now) (a .coeffs .now) flags (take (a .len) (ys ++ drop (a .len) (a .kept .now))) (lent-front (a .len) (a .kept .now) ys (s .pre .8) (q .kept .1 .1 .1 .1 .1 .1 .1 .1 .0) ∙ q .ensures) (sym (ap length (q .ensures)) ∙ long) _ _ _ (c .before .before .before .before .retain-in-place .ensures) o w f k)
+    rw (lt-leb (a .len) (a .limit) (c .before .before .before .before .before .before .before .before .before .before .before .before .before .before .before .before .before .before .before .before .before .before .before .if1 .left)) (retained-is (a .len) (a .words .now) (a .coeffs .now) flags (take (a .len) (ys ++ drop (a .len) (a .kept .now))) (lent-front (a .len) (a .kept .now) ys (s .pre .7) (q .kept .1 .1 .1 .1 .1 .1 .1 .1 .0) ∙ q .ensures) (sym (ap length (q .ensures)) ∙ long) _ _ _ (c .before .before .before .before .retain-in-place .ensures) o w f k)
 
 pub keep-largest-spec : {M : Type 1} → statement M
 keep-largest-spec =

@@ -9,10 +9,10 @@ use Rattle.basis.proofs.protect.flag_word.Statement.{statement}
 use Rattle.basis.proofs.protect.flag_word.Tie as tie
 
 returns : tie.Need-returns
-returns c = ap (λ (b : Bool). cond b 1 0) (sym (c .if1 .taken) ∙ c .before .holds-word .ensures)
+returns c = ap (λ (b : Bool). cond b 1 0) (sym (c .if1 .taken) ∙ c .before .has-word .ensures)
 
 returns-2 : tie.Need-returns-2
-returns-2 c = ap (λ (b : Bool). cond b 1 0) (sym (c .if1 .left) ∙ c .before .holds-word .ensures)
+returns-2 c = ap (λ (b : Bool). cond b 1 0) (sym (c .if1 .left) ∙ c .before .has-word .ensures)
 
 pub flag-word-spec : {M : Type 1} → statement M
 flag-word-spec = tie.close (tie.spec (λ c κs. search needs) returns returns-2)

@@ -12,19 +12,19 @@ use Rattle.basis.proofs.prune.prune_basis.Tie as tie
 
 drop-small-requires : tie.Need-drop-small-requires
 drop-small-requires c κs =
-    let a = c .before .before .before .before .before .before .before .before .before .before .before .before .before .before .before .before .before .before .before .before .before .args in
-    let h = prune-room (a .len) (a .words .now) (a .coeffs .now) (a .order .now) (a .work .now) (a .fixed .now) (a .kept .now) (a .n) (a .protected .now) (a .drop-tol) (sym (c .before .before .before .before .before .before .before .check-prune .ensures) ∙ c .before .before .before .before .before .enum-told .given .1) in
-    (h .lanes-room, h .coeffs-room, h .protected-whole, h .order-protected, h .work-protected, h .kept-room)
+    let a = c .before .before .before .before .before .before .before .before .before .before .before .before .before .before .before .before .before .before .before .before .before .before .args in
+    let h = prune-room (a .len) (a .words .now) (a .coeffs .now) (a .order .now) (a .work .now) (a .fixed .now) (a .kept .now) (a .n) (a .protected .now) (a .drop-tol) (sym (c .before .before .before .before .before .before .before .before .check-prune .ensures) ∙ c .before .before .before .before .before .before .enum-told .given .1) in
+    (h .lanes-room, h .coeffs-room, h .protected-whole, h .order-protected, h .work-protected, h .fixed-room, h .kept-room)
 
 returns : tie.Need-returns
 returns c =
-    let a = c .before .before .before .before .before .before .before .before .before .before .before .before .before .before .before .before .before .before .before .before .before .before .before .before .before .before .before .before .before .before .before .before .before .before .before .before .before .before .before .before .before .before .before .before .before .before .before .before .args in
-    let q = c .before .before .before .before .before .before .before .before .before .before .before .before .before .before .before .before .before .before .before .before .before .before .before .before .before .before .drop-small in
-    prune-answered (a .len) (a .words .now) (a .coeffs .now) (a .order .now) (a .work .now) (a .fixed .now) (a .kept .now) (a .n) (a .protected .now) (a .drop-tol) (sym (c .before .before .before .before .before .before .before .before .before .before .before .before .before .before .before .before .before .before .before .before .before .before .before .before .before .before .before .before .before .before .before .before .before .before .check-prune .ensures) ∙ c .before .before .before .before .before .before .before .before .before .before .before .before .before .before .before .before .before .before .before .before .before .before .before .before .before .before .before .before .before .before .before .before .enum-told .given .1) (q .result) (q .last .0) (q .last .1 .0) _ _ _ _ (q .ensures)
+    let a = c .before .before .before .before .before .before .before .before .before .before .before .before .before .before .before .before .before .before .before .before .before .before .before .before .before .before .before .before .before .before .before .before .before .before .before .before .before .before .before .before .before .before .before .before .before .before .before .before .before .before .before .args in
+    let q = c .before .before .before .before .before .before .before .before .before .before .before .before .before .before .before .before .before .before .before .before .before .before .before .before .before .before .before .before .drop-small in
+    prune-answered (a .len) (a .words .now) (a .coeffs .now) (a .order .now) (a .work .now) (a .fixed .now) (a .kept .now) (a .n) (a .protected .now) (a .drop-tol) (sym (c .before .before .before .before .before .before .before .before .before .before .before .before .before .before .before .before .before .before .before .before .before .before .before .before .before .before .before .before .before .before .before .before .before .before .before .before .before .check-prune .ensures) ∙ c .before .before .before .before .before .before .before .before .before .before .before .before .before .before .before .before .before .before .before .before .before .before .before .before .before .before .before .before .before .before .before .before .before .before .before .enum-told .given .1) (q .result) (q .last .0) (q .last .1 .0) _ _ _ _ (q .ensures)
     (c .before .before .before .before .before .before .before .before .before .before .before .before .before .before .clear-lanes .ensures ∙ ap (λ (m : ℕ). replicate m 0) (q .kept .1 .1 .1 .1 .1 .0))
     (c .before .before .before .before .before .before .before .before .before .before .clear-lanes2 .ensures ∙ ap (λ (m : ℕ). replicate m 0) (q .kept .1 .1 .1 .1 .1 .1 .0))
-    (c .before .before .before .before .before .before .clear-lanes3 .ensures)
-    (c .before .before .clear-lanes4 .ensures ∙ ap (λ (m : ℕ). replicate m 0) (q .kept .1 .1 .1 .1 .1 .1 .1 .0))
+    (c .before .before .before .before .before .before .clear-lanes3 .ensures ∙ ap (λ (m : ℕ). replicate m 0) (q .kept .1 .1 .1 .1 .1 .1 .1 .0))
+    (c .before .before .clear-lanes4 .ensures ∙ ap (λ (m : ℕ). replicate m 0) (q .kept .1 .1 .1 .1 .1 .1 .1 .1 .0))
 
 returns-2 : tie.Need-returns-2
 returns-2 c =

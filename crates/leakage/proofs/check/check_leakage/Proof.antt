@@ -7,7 +7,7 @@ use native.Mathlib.Omega.{arith}
 use borrow.Author.Tests.{eq-eqb, ne-eqb}
 use Rattle.model.specs.Stored.{Tables, tables}
 use Rattle.model_laws.proofs.StandsLaws.{tested-stands}
-use Rattle.leakage.specs.Leakages.{Basis, basisOf, entryTests}
+use Rattle.leakage.specs.Leakages.{Basis, basisOf}
 use Rattle.leakage.proofs.CheckLaws.{model-refused, words-many, protected-many, limits-refused, words-short, coeffs-short, lanes-over, work-refused, entries-refused, threshold-left, entries-are}
 use borrow.Author.Needs.{needs}
 use Rattle.leakage.proofs.check.check_leakage.Statement.{statement}

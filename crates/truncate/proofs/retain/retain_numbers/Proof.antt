@@ -2,16 +2,16 @@
 -- SPDX-License-Identifier: Apache-2.0
 
 -- `retain::retain_numbers` meets its contract: after each turn the numbers kept so far stand first. Assumes nothing.
-use mathlib.Core.Path.{_≡_, refl, sym, ap, _∙_}
-use Prim.Native.Nat.{ℕ, _+_, _-_, _≤_}
+use mathlib.Core.Path.{_≡_, refl}
+use Prim.Native.Nat.{_-_, _≤_}
 use lib.Ieee.{nan}
 use lib.ListN.{getD, take}
 use borrow.Author.Needs.{needs}
-use borrow.Author.Tests.{eq-eqb, ne-eqb}
 use native.Mathlib.Omega.{arith}
 use Rattle.truncate.specs.Retained.{flagged}
-use Rattle.truncate.proofs.PickLaws.{flagged-skips, flagged-takes}
-use Rattle.truncate.proofs.MoveLaws.{Moved, moved-start, moved-skip, moved-put}
+use Rattle.truncate.proofs.FlagLaws.{flag-small}
+use Rattle.truncate.proofs.PickLaws.{flagged-next}
+use Rattle.truncate.proofs.MoveLaws.{Moved, moved-start, moved-next}
 use Rattle.truncate.proofs.RetainLaws.{retained-count, numbers-done}
 use Rattle.truncate.proofs.retain.retain_numbers.Statement.{statement}
 use Rattle.truncate.proofs.retain.retain_numbers.Tie as tie
@@ -26,21 +26,20 @@ loop-holds : tie.Need-loop-holds Inv-loop μ-loop
 unfolding flagged
 loop-holds c = let a = c .before .before .args in (search needs, refl, moved-start (a .kept .now) (a .coeffs .now))
 
-loop-again : tie.Need-loop-again Inv-loop μ-loop
-loop-again c =
-    let a = c .before .before .before .before .before .before .args in
-    let l = c .before .before .before .loop in
-    let e = eq-eqb (getD (a .kept .now) (l .i) 0) 0 (c .if1 .taken) in
-    (omega arith, l .inv .1 ∙ sym (flagged-skips (a .kept .now) (l .i) (omega arith) e), moved-skip (a .kept .now) (a .coeffs .now) (l .coeffs) (l .held) (l .i) (l .inv .2) (omega arith) e)
-
-loop-again-2 : tie.Need-loop-again-2 Inv-loop μ-loop
-loop-again-2 c =
+add-held : tie.Need-add-held Inv-loop μ-loop
+add-held c =
     let a = c .before .before .before .before .before .before .before .args in
     let l = c .before .before .before .before .loop in
-    let e = ne-eqb (getD (a .kept .now) (l .i) 0) 0 (c .before .if1 .left) in (
+    omega (arith, l .inv .2 .few, flag-small (getD (a .kept .now) (l .i) 0))
+
+loop-again : tie.Need-loop-again Inv-loop μ-loop
+loop-again c =
+    let a = c .before .before .before .before .before .before .before .args in
+    let l = c .before .before .before .before .loop in
+    let k = c .flag-of in (
       omega arith,
-      rw (flagged-takes (a .kept .now) (l .i) (omega arith) e) (ap (λ (n : ℕ). n + 1) (l .inv .1)),
-      moved-put (a .kept .now) (a .coeffs .now) (l .coeffs) (l .held) (l .i) (l .inv .2) (omega arith) nan _ _ (omega arith) e refl refl,
+      rw (flagged-next (a .kept .now) (l .i) (omega arith), l .inv .1, k .ensures),
+      moved-next (a .kept .now) (a .coeffs .now) (l .coeffs) (l .held) (l .i) (l .inv .2) (omega arith) nan _ _ (omega arith) refl refl (k .result) (k .ensures),
     )
 
 returns : tie.Need-returns Inv-loop μ-loop
@@ -63,15 +62,13 @@ retain-numbers-spec =
     (λ c. search needs)
     (λ c. search needs)
     (λ c. search needs)
+    (λ c. search needs)
+    (λ c. search needs)
+    (λ c κs. search needs)
+    add-held
+    (λ c. search needs)
+    (λ c. search needs)
     loop-again
-    (λ c. search needs)
-    (λ c. search needs)
-    (λ c. search needs)
-    (λ c. search needs)
-    (λ c. search needs)
-    (λ c. search needs)
-    (λ c. search needs)
-    loop-again-2
     (λ c. search needs)
     (λ c. search needs)
     (λ c. search needs)

@@ -2,18 +2,18 @@
 -- SPDX-License-Identifier: Apache-2.0
 
 -- `retain::retain_words` meets its contract: after each turn the words kept so far stand first. Assumes nothing.
-use mathlib.Core.Path.{_≡_, refl, sym, ap, _∙_}
-use Prim.Native.Nat.{ℕ, _+_, _-_, _≤_}
+use mathlib.Core.Path.{_≡_, refl, _∙_}
+use Prim.Native.Nat.{_-_, _≤_}
 use lib.ListN.{length, getD, take}
 use borrow.Author.Needs.{needs}
-use borrow.Author.Tests.{eq-eqb, ne-eqb}
 use native.Mathlib.Omega.{arith}
 use Rattle.word.specs.Word.{identity}
 use Rattle.word.specs.Flat.{words as wordsOf}
 use Rattle.word.proofs.FlatLaws.{words-high}
 use Rattle.truncate.specs.Retained.{flagged}
-use Rattle.truncate.proofs.PickLaws.{flagged-skips, flagged-takes}
-use Rattle.truncate.proofs.MoveLaws.{Moved, moved-start, moved-skip, moved-put}
+use Rattle.truncate.proofs.FlagLaws.{flag-small}
+use Rattle.truncate.proofs.PickLaws.{flagged-next}
+use Rattle.truncate.proofs.MoveLaws.{Moved, moved-start, moved-next}
 use Rattle.truncate.proofs.RetainLaws.{retained-count, lanes-done}
 use Rattle.truncate.proofs.retain.retain_words.Statement.{statement}
 use Rattle.truncate.proofs.retain.retain_words.Tie as tie
@@ -30,24 +30,23 @@ loop-holds c = let a = c .before .before .args in (search needs, refl, refl, mov
 
 loop-again : tie.Need-loop-again Inv-loop μ-loop
 loop-again c =
-    let a = c .before .before .before .before .before .before .args in
-    let l = c .before .before .before .loop in
-    let e = eq-eqb (getD (a .kept .now) (l .i) 0) 0 (c .if1 .taken) in
-    (omega arith, l .inv .1 ∙ sym (flagged-skips (a .kept .now) (l .i) (omega arith) e), l .inv .2, moved-skip (a .kept .now) (wordsOf (a .words .now)) (wordsOf (l .words)) (l .held) (l .i) (l .inv .3) (omega arith) e)
-
-loop-again-2 : tie.Need-loop-again-2 Inv-loop μ-loop
-loop-again-2 c =
     let a = c .before .before .before .before .before .before .before .before .before .before .before .before .args in
     let l = c .before .before .before .before .before .before .before .before .before .loop in
-    let e = ne-eqb (getD (a .kept .now) (l .i) 0) 0 (c .before .before .before .before .before .before .if1 .left) in
-    let v = c .before .before .before .before .word-at in
-    let w = c .before .before .set-word in (
+    let v = c .before .before .before .before .before .before .word-at in
+    let w = c .before .before .before .before .set-word in
+    let k = c .flag-of in (
       omega arith,
-      rw (flagged-takes (a .kept .now) (l .i) (omega arith) e) (ap (λ (n : ℕ). n + 1) (l .inv .1)),
+      rw (flagged-next (a .kept .now) (l .i) (omega arith), l .inv .1, k .ensures),
       w .kept .0 ∙ l .inv .2,
-      moved-put (a .kept .now) (wordsOf (a .words .now)) (wordsOf (l .words)) (l .held) (l .i) (l .inv .3) (omega arith) identity (v .result) (wordsOf (w .last .0))
-          (omega (arith, words-high (a .words .now))) e (v .ensures) (w .ensures .list),
+      moved-next (a .kept .now) (wordsOf (a .words .now)) (wordsOf (l .words)) (l .held) (l .i) (l .inv .3) (omega arith) identity (v .result) (wordsOf (w .last .0))
+          (omega (arith, words-high (a .words .now))) (v .ensures) (w .ensures .list) (k .result) (k .ensures),
     )
+
+add-held : tie.Need-add-held Inv-loop μ-loop
+add-held c =
+    let a = c .before .before .before .before .before .before .before .before .before .before .before .before .args in
+    let l = c .before .before .before .before .before .before .before .before .before .loop in
+    omega (arith, l .inv .3 .few, flag-small (getD (a .kept .now) (l .i) 0))
 
 returns : tie.Need-returns Inv-loop μ-loop
 returns c =
@@ -65,17 +64,15 @@ retain-words-spec =
     Inv-loop
     μ-loop
     loop-holds
+    (λ c κs. search needs)
+    (λ c κs. search needs)
     (λ c. search needs)
     (λ c. search needs)
+    (λ c κs. search needs)
+    add-held
     (λ c. search needs)
     (λ c. search needs)
     loop-again
-    (λ c κs. search needs)
-    (λ c κs. search needs)
-    (λ c. search needs)
-    (λ c. search needs)
-    (λ c. search needs)
-    loop-again-2
     (λ c. search needs)
     (λ c. search needs)
     (λ c. search needs)

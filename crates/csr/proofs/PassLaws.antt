@@ -1,0 +1,201 @@
+-- SPDX-FileCopyrightText: 2026 The PPVM Authors
+-- SPDX-License-Identifier: Apache-2.0
+
+-- The walk against the tests: where no row stops it, all tests pass and all that is to be stored is finite; where all tests pass, a row
+-- stops it exactly if what is to be stored there is not finite. Assumes nothing.
+use mathlib.Core.Path.{_≡_, refl, sym, ap, _∙_}
+use mathlib.Core.Bool.{Bool, true, false, not, _&&_, _||_, cond, false≢true}
+use mathlib.Core.List.{List, [], _∷_, _++_}
+use Prim.Native.Nat.{ℕ, zero, suc, _+_, _-_, _≤_, _<_}
+use native.Mathlib.Omega.{arith}
+use borrow.Author.Tests.{not-false, leb-true, le-leb}
+use lib.Dec.{leb}
+use lib.Ieee.{Float, nan, binary64, add, eq}
+use lib.ListN.{getD, length, drop, replicate}
+use Rattle.number.specs.Floats.{float0, isFinite}
+use Rattle.model.specs.Tested.{firstTo}
+use Rattle.model.proofs.Firsts.{NoneBefore, first-inside, first-before, first-none, first-cong}
+use Rattle.basis.specs.Tests.{notFinite}
+use Rattle.csr.specs.Rows.{partOf}
+use Rattle.csr.specs.Products.{beside, rowEntries, rowSum, storedAt, product, badColumn}
+use Rattle.csr.specs.Walks.{badPlace, stopsAt, notClear, Ready, rowPasses, rowStops}
+use Rattle.csr.specs.declared.rows.Row.{Row}
+use Rattle.csr.proofs.RowLaws.{part-length, part-at}
+use Rattle.csr.proofs.NumberLaws.{clear-is, add-finite}
+use Rattle.csr.proofs.SumLaws.{added-finite}
+use Rattle.csr.proofs.OffsetLaws.{Rising, rising, none-bad, offset-inside, by-rows}
+use Rattle.csr.proofs.ColumnLaws.{place-is}
+use Rattle.csr.proofs.CheckLaws.{Sound}
+use Rattle.csr.proofs.WalkLaws.{product-at, columns-here, values-here, passes-is}
+
+-- ---- tests taken apart
+two-hold : (a b : Bool) → (not a || not b) ≡ false → (a ≡ true) × (b ≡ true)
+two-hold true true e = (refl, refl)
+two-hold true false e = absurd (false≢true (sym e))
+two-hold false b e = absurd (false≢true (sym e))
+
+both-hold : (a b d : Bool) → ((a && b) && d) ≡ true → (a ≡ true) × (b ≡ true)
+both-hold true true d e = (refl, refl)
+both-hold true false d e = absurd (false≢true e)
+both-hold false b d e = absurd (false≢true e)
+
+neither-holds : (a b : Bool) → (a || b) ≡ false → (a ≡ false) × (b ≡ false)
+neither-holds true b e = absurd (false≢true (sym e))
+neither-holds false b e = (refl, e)
+
+-- a search that came to its end
+pub all-first : (n : ℕ) (f : ℕ → Bool) {x : ℕ} → x ≡ firstTo n f → n ≤ x → firstTo n f ≡ n
+all-first n f e h = let i = first-inside n f in omega arith
+
+-- a part that was zero is made so again
+pub restored : {A : Type 0} (z d : A) (l : List A) (n : ℕ) → n ≤ length l → ((k : ℕ) → k < n → getD l k d ≡ z) → replicate n z ++ drop n l ≡ l
+restored z d l zero h f = refl
+restored z d [] (suc n) h f = absurd (omega arith)
+restored {A} z d (x ∷ l) (suc n) h f =
+    ap (λ (y : A). y ∷ (replicate n z ++ drop n l)) (sym (f 0 (omega arith))) ∙ ap (λ (t : List A). x ∷ t) (restored z d l n (omega arith) (λ k m. f (suc k) (omega arith)))
+
+module _ (offsets columns : List ℕ) (values input : List Float) (overwrite : Bool) (output : List Float) (sized : length offsets ≡ length input + 1) (same : length values ≡ length columns) where
+  abbrev rows : ℕ
+  rows = length input
+
+  abbrev offset : ℕ → ℕ
+  offset k = getD offsets k 0
+
+  abbrev stops : ℕ → Bool
+  stops = rowStops offsets columns values input overwrite output
+
+  abbrev stored : ℕ → Float
+  stored = storedAt rows offsets columns values input overwrite output
+
+  abbrev products : List Float
+  products = product rows offsets columns values input overwrite output
+
+  abbrev here : ℕ → Row
+  here r = record { start = offset r; end = offset (r + 1) }
+
+  -- ---- a row that does not stop the walk
+  record Clean (r : ℕ) : Type 0 where
+    pub ordered : offset r ≤ offset (r + 1)
+    pub within : offset (r + 1) ≤ length columns
+    pub passed : NoneBefore (stopsAt input (partOf (here r) columns) (partOf (here r) values)) (offset (r + 1) - offset r)
+    pub finite : isFinite (stored r) ≡ true
+
+  clean : (r : ℕ) → r < rows → stops r ≡ false → Clean r
+  unfolding rowStops rowPasses
+  clean r h e =
+      let t = two-hold (rowPasses offsets columns values input r) (isFinite (stored r)) e in
+      let b = both-hold (leb (offset r) (offset (r + 1))) (leb (offset (r + 1)) (length columns)) _ (t .0) in
+      let o = leb-true (offset r) (offset (r + 1)) (b .0) in
+      let w = leb-true (offset (r + 1)) (length columns) (b .1) in
+      let p = sym (passes-is offsets columns values input r (omega arith) o w) ∙ t .0 in
+      let f = leb-true (offset (r + 1) - offset r) _ p in
+      record {
+        ordered = o;
+        within = w;
+        passed = λ k m. first-before (offset (r + 1) - offset r) (stopsAt input (partOf (here r) columns) (partOf (here r) values)) k (omega arith);
+        finite = t .1;
+      }
+
+  module _ (r : ℕ) (h : r < rows) (c : Clean r) where
+    abbrev cs : List ℕ
+    cs = partOf (here r) columns
+
+    abbrev vs : List Float
+    vs = partOf (here r) values
+
+    sum-finite : isFinite (rowSum input (beside cs vs)) ≡ true
+    unfolding storedAt rowEntries
+    sum-finite =
+        let e = columns-here offsets columns values input r (omega arith) (c .ordered) (c .within) in
+        let f = values-here offsets columns values input r (omega arith) (c .ordered) (c .within) in
+        rw (e, f) at (go overwrite (c .finite))
+      where
+        go : (b : Bool) → isFinite (cond b (rowSum input (rowEntries offsets columns values r)) (add binary64 (getD output r nan) (rowSum input (rowEntries offsets columns values r)))) ≡ true
+            → isFinite (rowSum input (rowEntries offsets columns values r)) ≡ true
+        go true g = g
+        go false g = add-finite (getD output r nan) (rowSum input (rowEntries offsets columns values r)) g .1
+
+    place-clean : (k : ℕ) → k < offset (r + 1) - offset r → badPlace rows cs k ≡ false
+    unfolding stopsAt
+    place-clean k m = neither-holds (badPlace rows cs k) _ (c .passed k m) .0
+
+    value-finite : (k : ℕ) → k < offset (r + 1) - offset r → isFinite (getD vs k nan) ≡ true
+    unfolding stopsAt notFinite
+    value-finite k m = go (eq (getD input (getD cs k 0) nan) float0) refl (neither-holds (badPlace rows cs k) _ (c .passed k m) .1)
+      where
+        go : (a : Bool) → eq (getD input (getD cs k 0) nan) float0 ≡ a → (eq (getD input (getD cs k 0) nan) float0 && not (isFinite (getD vs k nan))) ≡ false → isFinite (getD vs k nan) ≡ true
+        go true e g = not-false (isFinite (getD vs k nan)) (sym (ap (λ (b : Bool). b && not (isFinite (getD vs k nan))) e) ∙ g)
+        go false e g =
+            let lc = part-length (here r) columns (c .ordered) (c .within) in
+            let lv = part-length (here r) values (c .ordered) (omega (arith, c .within)) in
+            added-finite input float0 cs vs (lv ∙ sym lc) sum-finite k (omega arith) e
+
+    value-clean : (k : ℕ) → k < offset (r + 1) - offset r → notFinite values (offset r + k) ≡ false
+    unfolding notFinite
+    value-clean k m =
+        let i : offset (r + 1) ≤ length values = omega (arith, c .within) in
+        ap not (sym (ap (λ (x : Float). isFinite x) (part-at (here r) values (c .ordered) i k nan m)) ∙ value-finite k m)
+
+  -- ---- no row stops the walk, and the short tables are as it asks
+  module _ (work : List Float) (ready : Ready input overwrite output work) where
+    none-fails : (f : ℕ → Bool) → firstTo rows f ≡ rows → NoneBefore f rows
+    none-fails f e k m = first-before rows f k (omega arith)
+
+    module _ (none : NoneBefore stops rows) (first : offset 0 ≡ 0) (last : offset rows ≡ length columns) where
+      each : (r : ℕ) → r < rows → Clean r
+      each r h = clean r h (none r h)
+
+      rise : Rising rows (length columns) offsets
+      rise = record { first = first; rises = λ r h. each r h .ordered; last = last }
+
+      pub passed-sound : Sound rows offsets columns values input overwrite output
+      passed-sound = record {
+        offsets-sound = none-bad rows (length columns) offsets rise;
+        columns-sound = by-rows rows (length columns) offsets rise (badColumn rows offsets columns) (λ r k h m. sym (place-is rows offsets columns sized rise r h k m) ∙ place-clean r h (each r h) k m);
+        values-sound = λ k m. by-rows rows (length columns) offsets rise (notFinite values) (λ r i h n. value-clean r h (each r h) i n) k (omega arith);
+        input-sound = none-fails (notFinite input) (ready .finite);
+        output-sound = λ e. none-fails (notFinite output) (ready .added e);
+      }
+
+      pub passed-finite : NoneBefore (notFinite products) rows
+      unfolding notFinite
+      passed-finite r h = ap not (ap (λ (x : Float). isFinite x) (product-at offsets columns values input overwrite output r nan h) ∙ each r h .finite)
+
+    -- what is made zero again was zero
+    pub zero-again : rows ≤ length work → (d : ℕ) → d ≤ rows → replicate d float0 ++ drop d work ≡ work
+    zero-again m d l = restored float0 nan work d (omega arith) (λ k n. clear-is (getD work k nan) (not-false _ (none-fails (notClear work) (ready .clear) k (omega arith))))
+
+  -- ---- all tests pass
+  module _ (s : Sound rows offsets columns values input overwrite output) where
+    risen : Rising rows (length columns) offsets
+    risen = rising rows (length columns) offsets (s .offsets-sound)
+
+    module _ (r : ℕ) (h : r < rows) where
+      is-inside : offset (r + 1) ≤ length columns
+      is-inside = offset-inside rows (length columns) offsets risen (r + 1) (omega arith)
+
+      none-stops : NoneBefore (stopsAt input (partOf (here r) columns) (partOf (here r) values)) (offset (r + 1) - offset r)
+      unfolding stopsAt notFinite
+      none-stops k m =
+          let w = is-inside in
+          let o = risen .rises r h in
+          let p = place-is rows offsets columns sized risen r h k m ∙ s .columns-sound (offset r + k) (omega arith) in
+          let v = s .values-sound (offset r + k) (omega arith) in
+          rw (p, part-at (here r) values o (omega arith) k nan m, v) (never (eq (getD input (getD (partOf (here r) columns) k 0) nan) float0))
+        where
+          never : (a : Bool) → (a && false) ≡ false
+          never true = refl
+          never false = refl
+
+      stops-is : stops r ≡ notFinite products r
+      unfolding rowStops notFinite
+      stops-is =
+          let w = is-inside in
+          let o = risen .rises r h in
+          let n = offset (r + 1) - offset r in
+          let e = first-none n (stopsAt input (partOf (here r) columns) (partOf (here r) values)) none-stops in
+          let p = passes-is offsets columns values input r (omega arith) o w ∙ le-leb n _ (omega arith) in
+          rw (p, product-at offsets columns values input overwrite output r nan h)
+
+    pub stops-first : firstTo rows stops ≡ firstTo rows (notFinite products)
+    stops-first = first-cong rows stops (notFinite products) stops-is

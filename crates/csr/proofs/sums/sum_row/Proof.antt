@@ -1,0 +1,106 @@
+-- SPDX-FileCopyrightText: 2026 The PPVM Authors
+-- SPDX-License-Identifier: Apache-2.0
+
+-- `sums::sum_row` meets its contract: the entries before k are passed, and summed. Assumes nothing.
+use mathlib.Core.Path.{sym, _∙_}
+use Prim.Native.Nat.{_-_, _<_}
+use native.Mathlib.Omega.{arith}
+use borrow.Author.Tests.{not-true, not-false}
+use lib.ListN.{length}
+use Rattle.csr.proofs.PlaceLaws.{in-place}
+use Rattle.csr.proofs.SumLaws.{Passing, passing-start, all-passed, stops-misplaced, passing-added, passing-skipped, stops-skipped}
+use borrow.Author.Needs.{needs}
+use Rattle.csr.proofs.sums.sum_row.Statement.{statement}
+use Rattle.csr.proofs.sums.sum_row.Tie as tie
+
+abbrev Inv-loop : tie.InvT-loop
+Inv-loop columns values input sum₀ least₀ k₀ sum least k = Passing input columns values sum least k
+
+abbrev μ-loop : tie.MeasureT-loop
+μ-loop columns values input sum₀ least₀ k₀ sum least k = length columns - k
+
+loop-holds : tie.Need-loop-holds Inv-loop μ-loop
+loop-holds c = let s = c .before .before .before in passing-start (s .args .input .now) (s .args .columns .now) (s .args .values .now) (s .pre)
+
+is-misplaced-requires : tie.Need-is-misplaced-requires Inv-loop μ-loop
+is-misplaced-requires c κs = c .before .before .before .loop .inv .placed .low
+
+returns : tie.Need-returns Inv-loop μ-loop
+returns c =
+    let s = c .before .before .before .before .before .before .before .before .before in
+    let l = c .before .before .before .before .before .loop in
+    stops-misplaced (s .args .input .now) (s .args .columns .now) (s .args .values .now) (s .pre) (l .sum) (l .least) (l .k) _ (l .inv) (c .before .before .before .before .loop-test .taken) (c .before .before .wide .ensures) (c .before .is-misplaced .ensures) (c .if1 .taken)
+
+-- the column is one of input's places
+below : (c : tie.Else1 Inv-loop μ-loop) → c .before .before .wide .result < length (c .before .before .before .before .before .before .before .before .before .args .input .now)
+below c = in-place (c .before .before .before .before .before .loop .least) (length (c .before .before .before .before .before .before .before .before .before .args .input .now)) _ (sym (c .before .is-misplaced .ensures) ∙ c .if1 .left) .1
+
+mul-value : tie.Need-mul-value Inv-loop μ-loop
+mul-value c = let h = c .before .before .before .before .before .before .before .before .before .pre in search needs
+
+shared-slice-read-value : tie.Need-shared-slice-read-value Inv-loop μ-loop
+shared-slice-read-value c = omega (arith, c .before .before .before .before .before .before .before .before .before .before .pre, c .before .before .before .before .before .loop-test .taken)
+
+mul-x : tie.Need-mul-x Inv-loop μ-loop
+mul-x c = let h = below (c .before) in search needs
+
+shared-slice-read-x : tie.Need-shared-slice-read-x Inv-loop μ-loop
+shared-slice-read-x c = below (c .before .before)
+
+returns-2 : tie.Need-returns-2 Inv-loop μ-loop
+returns-2 c =
+    let s = c .before .before .before .before .before .before .before .before .before .before .before .before .before .before in
+    let l = c .before .before .before .before .before .before .before .before .before .before .loop in
+    stops-skipped (s .args .input .now) (s .args .columns .now) (s .args .values .now) (s .pre) (l .sum) (l .least) (l .k) _ (l .inv) (c .before .before .before .before .before .before .before .before .before .loop-test .taken) (c .before .before .before .before .before .before .before .wide .ensures) (c .before .before .before .before .before .before .is-misplaced .ensures) (c .before .before .before .before .before .if1 .left) (c .before .before .if2 .taken) (c .before .is-finite .ensures) (not-true _ (c .if3 .taken))
+
+add-least : tie.Need-add-least Inv-loop μ-loop
+add-least c = let h = below (c .before .before .before .before .before) in search needs
+
+loop-again : tie.Need-loop-again Inv-loop μ-loop
+loop-again c =
+    let s = c .before .before .before .before .before .before .before .before .before .before .before .before .before .before in
+    let l = c .before .before .before .before .before .before .before .before .before .before .loop in
+    passing-skipped (s .args .input .now) (s .args .columns .now) (s .args .values .now) (s .pre) (l .sum) (l .least) (l .k) _ (l .inv) (c .before .before .before .before .before .before .before .before .before .loop-test .taken) (c .before .before .before .before .before .before .before .wide .ensures) (c .before .before .before .before .before .before .is-misplaced .ensures) (c .before .before .before .before .before .if1 .left) (c .before .before .if2 .taken) (c .before .is-finite .ensures) (not-false _ (c .if3 .left))
+
+add-least-2 : tie.Need-add-least-2 Inv-loop μ-loop
+add-least-2 c = let h = below (c .before .before .before) in search needs
+
+loop-again-2 : tie.Need-loop-again-2 Inv-loop μ-loop
+loop-again-2 c =
+    let s = c .before .before .before .before .before .before .before .before .before .before .before .before in
+    let l = c .before .before .before .before .before .before .before .before .loop in
+    passing-added (s .args .input .now) (s .args .columns .now) (s .args .values .now) (s .pre) (l .sum) (l .least) (l .k) _ (l .inv) (c .before .before .before .before .before .before .before .loop-test .taken) (c .before .before .before .before .before .wide .ensures) (c .before .before .before .before .is-misplaced .ensures) (c .before .before .before .if1 .left) (c .if2 .left)
+
+returns-3 : tie.Need-returns-3 Inv-loop μ-loop
+returns-3 c =
+    let s = c .before .before .before .before .before in
+    let l = c .before .loop in
+    all-passed (s .args .input .now) (s .args .columns .now) (s .args .values .now) (s .pre) (l .sum) (l .least) (l .k) (l .inv) (c .loop-test .left)
+
+pub sum-row-spec : {M : Type 1} → statement M
+sum-row-spec =
+    tie.close
+    (tie.spec
+    Inv-loop
+    μ-loop
+    loop-holds
+    (λ c. search needs)
+    (λ c. search needs)
+    (λ c κs. search needs)
+    is-misplaced-requires
+    returns
+    mul-value
+    shared-slice-read-value
+    mul-x
+    shared-slice-read-x
+    (λ c κs. search needs)
+    returns-2
+    add-least
+    (λ c. search needs)
+    (λ c. search needs)
+    loop-again
+    add-least-2
+    (λ c. search needs)
+    (λ c. search needs)
+    loop-again-2
+    returns-3)

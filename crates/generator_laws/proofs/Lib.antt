@@ -1,0 +1,9 @@
+-- SPDX-FileCopyrightText: 2026 The PPVM Authors
+-- SPDX-License-Identifier: Apache-2.0
+
+-- Laws of this crate.
+pub mod Accepted
+pub mod Calls
+pub mod Growth
+pub mod RowEntries
+pub mod TableLaws

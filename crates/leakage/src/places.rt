@@ -1,0 +1,46 @@
+// SPDX-FileCopyrightText: 2026 The PPVM Authors
+// SPDX-License-Identifier: Apache-2.0
+
+// The places of the tables that 13 names, from the lengths of the lent ones.
+ghost use mathlib.Core.Path.{_≡_};
+ghost use Rattle.leakage.specs.Leakages.{actionPlaces, rowPlaces};
+use model::test::smaller;
+use word::flat::WORD_LANES;
+
+// Table 1: those of the shortest table that holds the words of one action.
+pub fn action_places(
+    work_words: usize,
+    work_sums: usize,
+    log_words: usize,
+    log_values: usize,
+    place_order: usize,
+    place_work: usize,
+) -> usize
+    ensures { λ r. ⌜ r ≡ actionPlaces «work_words» «work_sums» «log_words» «log_values» «place_order» «place_work» ⌝ }
+{
+    let summed = smaller(work_words / WORD_LANES, work_sums / 2);
+    let logged = smaller(log_words / WORD_LANES, log_values);
+    let ordered = smaller(place_order, place_work);
+    let entries = smaller(logged, ordered);
+    smaller(summed, entries)
+}
+
+// Table 2: those of the shortest table that holds candidates.
+pub fn row_places(
+    cand_words: usize,
+    cand_sums: usize,
+    next_words: usize,
+    next_sums: usize,
+    place_order: usize,
+    place_work: usize,
+    place_kept: usize,
+) -> usize
+    ensures { λ r. ⌜ r ≡ rowPlaces «cand_words» «cand_sums» «next_words» «next_sums» «place_order» «place_work» «place_kept» ⌝ }
+{
+    let held = smaller(cand_words / WORD_LANES, cand_sums);
+    let merged = smaller(next_words / WORD_LANES, next_sums);
+    let rows = smaller(held, merged);
+    let ordered = smaller(place_order, place_work);
+    let places = smaller(ordered, place_kept);
+    smaller(rows, places)
+}

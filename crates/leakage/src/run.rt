@@ -1,0 +1,115 @@
+// SPDX-FileCopyrightText: 2026 The PPVM Authors
+// SPDX-License-Identifier: Apache-2.0
+
+// The passes, and then zero in every table that they write but the candidates.
+ghost use mathlib.Core.Path.{_≡_};
+ghost use mathlib.Core.List.{[]};
+ghost use lib.ListN.{length};
+ghost use Rattle.word.specs.Flat.{words as wordsIn};
+ghost use Rattle.order.specs.Merge.{AllBelow};
+ghost use Rattle.model.specs.Stored.{tables};
+ghost use Rattle.passes.specs.Leaks.{passes, passCount, touchedAt, leaksAt, ModelReady, BasisReady, Took};
+ghost use Rattle.leakage.specs.Leakages.{actionPlaces, rowPlaces, passWork, zeroedPass};
+use crate::clear::clear_rows;
+use crate::clear::clear_three;
+use crate::places::action_places;
+use crate::places::row_places;
+use model::tables::Model;
+use passes::passes::run_passes;
+use passes::taken::Taken;
+use table::clear::clear_lanes;
+
+pub fn run_and_clear(
+    m: Model,
+    h_words: &[u64],
+    h_coeffs: &[f64],
+    jumps: &[u64],
+    rates: &[f64],
+    t_words: &[u64],
+    t_numbers: &[f64],
+    h_index: &[u64],
+    j_index: &[u64],
+    mask: &mut [u64],
+    work_words: &mut [u64],
+    work_sums: &mut [f64],
+    basis: &[u64],
+    coeffs: &[f64],
+    heads: &[u64],
+    nexts: &[u64],
+    protected: &[u64],
+    fixed_heads: &[u64],
+    fixed_nexts: &[u64],
+    positions: &[u64],
+    log_words: &mut [u64],
+    log_values: &mut [f64],
+    cand_words: &mut [u64],
+    cand_sums: &mut [f64],
+    room: usize,
+    next_words: &mut [u64],
+    next_sums: &mut [f64],
+    place_order: &mut [u64],
+    place_work: &mut [u64],
+    place_kept: &mut [u64],
+) -> Taken
+    requires { ⌜ ModelReady m (tables (now «h_words») (now «h_coeffs») (now jumps) (now rates) (now «t_words») (now «t_numbers»)) (now «h_index») (now «j_index») (now mask) ⌝ }
+    requires { ⌜ BasisReady (m .qubits) (now basis) (now coeffs) (now heads) (now nexts) (now protected) (now «fixed_heads») (now «fixed_nexts») × AllBelow (length (now coeffs)) (now positions) ⌝ }
+    ensures { λ r. ⌜ Took (rowPlaces (length (now («cand_words» .entry))) (length (now («cand_sums» .entry))) (length (now («next_words» .entry))) (length (now («next_sums» .entry))) (length (now («place_order» .entry))) (length (now («place_work» .entry))) (length (now («place_kept» .entry)))) (passes (touchedAt m (tables (now («h_words» .entry)) (now («h_coeffs» .entry)) (now (jumps .entry)) (now (rates .entry)) (now («t_words» .entry)) (now («t_numbers» .entry))) (wordsIn (now (basis .entry))) (now (coeffs .entry)) (wordsIn (now (protected .entry)))) (leaksAt m (tables (now («h_words» .entry)) (now («h_coeffs» .entry)) (now (jumps .entry)) (now (rates .entry)) (now («t_words» .entry)) (now («t_numbers» .entry))) (wordsIn (now (basis .entry))) (now (coeffs .entry)) (wordsIn (now (protected .entry)))) (actionPlaces (length (now («work_words» .entry))) (length (now («work_sums» .entry))) (length (now («log_words» .entry))) (length (now («log_values» .entry))) (length (now («place_order» .entry))) (length (now («place_work» .entry)))) (rowPlaces (length (now («cand_words» .entry))) (length (now («cand_sums» .entry))) (length (now («next_words» .entry))) (length (now («next_sums» .entry))) (length (now («place_order» .entry))) (length (now («place_work» .entry))) (length (now («place_kept» .entry)))) room (passCount (length (now (positions .entry)))) (now (positions .entry)) []) (now («cand_words» .exit)) (now («cand_sums» .exit)) r × (passWork (now (mask .exit)) (now («work_words» .exit)) (now («work_sums» .exit)) (now («log_words» .exit)) (now («log_values» .exit)) (now («next_words» .exit)) (now («next_sums» .exit)) (now («place_order» .exit)) (now («place_work» .exit)) (now («place_kept» .exit)) ≡ zeroedPass (passWork (now (mask .entry)) (now («work_words» .entry)) (now («work_sums» .entry)) (now («log_words» .entry)) (now («log_values» .entry)) (now («next_words» .entry)) (now («next_sums» .entry)) (now («place_order» .entry)) (now («place_work» .entry)) (now («place_kept» .entry)))) ⌝ }
+{
+    let sum_room = action_places(
+        work_words.len(),
+        work_sums.len(),
+        log_words.len(),
+        log_values.len(),
+        place_order.len(),
+        place_work.len(),
+    );
+    let candidate_room = row_places(
+        cand_words.len(),
+        cand_sums.len(),
+        next_words.len(),
+        next_sums.len(),
+        place_order.len(),
+        place_work.len(),
+        place_kept.len(),
+    );
+    let taken = run_passes(
+        m,
+        h_words,
+        h_coeffs,
+        jumps,
+        rates,
+        t_words,
+        t_numbers,
+        h_index,
+        j_index,
+        mask,
+        work_words,
+        work_sums,
+        sum_room,
+        basis,
+        coeffs,
+        heads,
+        nexts,
+        protected,
+        fixed_heads,
+        fixed_nexts,
+        positions,
+        log_words,
+        log_values,
+        cand_words,
+        cand_sums,
+        candidate_room,
+        room,
+        place_order,
+        place_work,
+        place_kept,
+        next_words,
+        next_sums,
+    );
+    clear_lanes(mask);
+    clear_rows(work_words, work_sums);
+    clear_rows(log_words, log_values);
+    clear_rows(next_words, next_sums);
+    clear_three(place_order, place_work, place_kept);
+    taken
+}

@@ -1,0 +1,204 @@
+-- SPDX-FileCopyrightText: 2026 The PPVM Authors
+-- SPDX-License-Identifier: Apache-2.0
+
+-- Leakage as a call: what an accepted call lists, that its passes keep the largest, that looser limits lose nobody, and which words
+-- are listed. Assumes nothing.
+use mathlib.Core.Path.{_≡_, refl, sym, ap, ap₂, subst, _∙_}
+use mathlib.Core.Bool.{Bool, true, false, cond}
+use mathlib.Core.List.{List}
+use Prim.Native.Nat.{ℕ, zero, suc, _*_, _/_, _≤_, _<_}
+use native.Mathlib.Omega.{arith}
+use borrow.Author.Tests.{ltb-false}
+use lib.Dec.{ltb, eqb}
+use lib.Ieee.{Float, nan, binary64, isNan, ofBits}
+use lib.Ieee.Bits.{ofBits-fits}
+use lib.ListN.{length, getD, set}
+use lib.Seq.{length-take-le}
+use Rattle.refusal.specs.declared.Refusal.{Refusal}
+use Rattle.refusal.specs.declared.Refusal.the-variants.{TableFull, NumberOutOfRange}
+use Rattle.refusal.specs.declared.Answer.{Answer}
+use Rattle.refusal.specs.declared.Answer.the-variants as Tests
+use Rattle.word.specs.Word.{identity, Sound}
+use Rattle.word.specs.Flat.{words, layWord}
+use Rattle.word.proofs.FlatLaws.{words-high}
+use Rattle.word.specs.declared.word.Word.{Word}
+use Rattle.number.specs.Floats.{float0, isFinite}
+use Rattle.truncate.proofs.PruneLaws.{Number}
+use Rattle.candidates.specs.Log.{Rows, table}
+use Rattle.model.specs.Stored.{Tables}
+use Rattle.model.specs.Given.{Read, got, refused}
+use Rattle.model.specs.Laid.{laid}
+use Rattle.model.specs.Tested.{testModel}
+use Rattle.model.specs.declared.tables.Model.{Model}
+use Rattle.model.proofs.BuildLaws.{both, equal-passed, lent-passed, counted-passed}
+use Rattle.action.specs.Acts.{listPlaces}
+use Rattle.action.specs.Counts.{maxWords}
+use Rattle.action.specs.declared.act.Acted.the-variants.{Listed, Refused}
+use Rattle.model_laws.specs.Every.{Every}
+use Rattle.basis.specs.Tests.{finiteThreshold}
+use Rattle.basis.proofs.ThresholdLaws.{finite-number}
+use Rattle.passes.specs.Leaks.{wordsOf, sumsOf, passSize, passCount, above}
+use Rattle.leakage.specs.Leakages.{Basis, Work, Out, Leaking, tauOf, limitTests, tauTests, workTests, entryTests, leakTests, listing, leakCourse, sumPlaces, candidatePlaces, leak, tested}
+use Rattle.leakage.specs.declared.limits.Limits.{Limits}
+use Rattle.leakage.proofs.GatherLaws.{leak-passed}
+use Rattle.leakage_laws.specs.Members.{Member, Has}
+use Rattle.leakage_laws.specs.Calls.{basisWords, basisCoeffs, roomOf, stayAfter, heldIn, listOf, RoomForAll, listedBy, LargestStay, Looser, TauFits, TauBelowZero, LosesNobody, Reached, ListsReached}
+use Rattle.leakage_laws.proofs.KeepLaws.{member-fits, member-finite, largest-more, largest-in, above-of, above-in, above-lower, ended-finite}
+use Rattle.leakage_laws.proofs.CourseLaws.{Ends, course-passes, keeps-largest, held-fits}
+use Rattle.leakage_laws.proofs.ReadLaws.{read-back, list-sound}
+use Rattle.leakage_laws.proofs.ReachLaws.{HasRow, above-has, stay-reached, stay-all, reached-stays}
+use Rattle.leakage_laws.proofs.BelowZero.{all-above}
+
+-- ---- an accepted call
+refused-lists : (q : Refusal) (n : ℕ) → Refused q ≡ Listed n → ⊥
+refused-lists q n e = let z : _≡_ {A = ℕ} 0 1 = cc in omega arith
+
+module _ (outWords : List ℕ) (outValues : List Float) (w : Work) (m : Model) (t : Tables) (b : Basis) (l : Limits) (n : ℕ) where
+  -- the candidates left, and their list in the lent tables
+  record Accepts : Type 0 where
+    tests : leakTests m t b l w ≡ Tests.Accepted
+    rows : Rows
+    course : leakCourse m t b l w ≡ got rows
+    places : length (above (tauOf l) rows) ≤ listPlaces outWords outValues
+    count : n ≡ length (above (tauOf l) rows)
+    words-laid : leak outWords outValues w m t b l .out .outWords ≡ laid layWord 0 (wordsOf (above (tauOf l) rows)) outWords
+    values-laid : leak outWords outValues w m t b l .out .outValues ≡ laid set 0 (sumsOf (above (tauOf l) rows)) outValues
+
+  accepts : leak outWords outValues w m t b l .out .answer ≡ Listed n → Accepts
+  unfolding leak listing
+  accepts e = go (leakTests m t b l w) refl (leakCourse m t b l w) refl e
+    where
+      go : (a : Answer) → leakTests m t b l w ≡ a → (c : Read Rows) → leakCourse m t b l w ≡ c → tested outWords outValues w a (listing (tauOf l) outWords outValues c) .out .answer ≡ Listed n → Accepts
+      go (Tests.Refused q) f c g h = absurd (refused-lists q n h)
+      go Tests.Accepted f (refused q) g h = absurd (refused-lists q n h)
+      go Tests.Accepted f (got S) g h = lists (ltb (listPlaces outWords outValues) (length (above (tauOf l) S))) refl h
+        where
+          lists : (c : Bool) → ltb (listPlaces outWords outValues) (length (above (tauOf l) S)) ≡ c
+              → (cond {A = Out} c (record { answer = Refused (TableFull 3 (listPlaces outWords outValues)); outWords = outWords; outValues = outValues })
+              (record { answer = Listed (length (above (tauOf l) S)); outWords = laid layWord 0 (wordsOf (above (tauOf l) S)) outWords; outValues = laid set 0 (sumsOf (above (tauOf l) S)) outValues })) .answer ≡ Listed n
+              → Accepts
+          lists true x y = absurd (refused-lists _ n y)
+          lists false x y =
+              record {
+                tests = f;
+                rows = S;
+                course = g;
+                places = ltb-false (listPlaces outWords outValues) (length (above (tauOf l) S)) x;
+                count = cc;
+                words-laid = rw (f, g, x);
+                values-laid = rw (f, g, x);
+              }
+
+  -- ---- what it lists, and its passes
+  module _ (answers : leak outWords outValues w m t b l .out .answer ≡ Listed n) where
+    abbrev call : Leaking
+    call = leak outWords outValues w m t b l
+
+    coeffs-long : length (basisCoeffs b) ≡ b .len
+    coeffs-long = length-take-le (b .len) (b .coeffs) (leak-passed m t b l w (accepts answers .tests) .coeffs-long)
+
+    pub words-each : length (basisWords b) ≡ b .len
+    words-each = length-take-le (b .len) (words (b .lanes)) (omega (arith, leak-passed m t b l w (accepts answers .tests) .words-long, words-high (b .lanes)))
+
+    course-is : (accepts answers .rows ≡ stayAfter m t b l (passCount (b .len))) × ((i : ℕ) → i < passCount (b .len) → Ends m t b l i)
+    unfolding leakCourse
+    course-is = course-passes m t b l (sumPlaces w) (candidatePlaces w) coeffs-long (accepts answers .rows) (accepts answers .course)
+
+    -- pass k, with what stayed before it, holds finite sums, and the largest stay
+    pub leakage-passes : (k : ℕ) → k < passCount (b .len) → LargestStay (roomOf b l) (heldIn m t b l k) (stayAfter m t b l (suc k))
+    leakage-passes k h = keeps-largest m t b l k (course-is .1 k h)
+
+    pub leakage-finite : (k : ℕ) → k < passCount (b .len) → (i : ℕ) → i < length (heldIn m t b l k) → isFinite (getD (sumsOf (heldIn m t b l k)) i nan) ≡ true
+    leakage-finite k h = ended-finite (roomOf b l) (heldIn m t b l k) (stayAfter m t b l (suc k)) (course-is .1 k h) .1
+
+    -- the list is what stays after the last pass and is above tau_add
+    pub leakage-lists : listedBy call n ≡ listOf m t b l
+    leakage-lists =
+        let a = accepts answers in
+        let R : Rows = above (tauOf l) (a .rows) in
+        let same : R ≡ listOf m t b l = ap (above (tauOf l)) (course-is .0) in
+        let sound = subst (λ (q : Rows). Every Sound (wordsOf q)) (sym same) (list-sound m t b l (tauOf l) (passCount (b .len))) in
+        ap (listedBy call) (a .count)
+        ∙ ap₂ (λ (ws : List ℕ) (xs : List Float). table (length R) ws xs) (a .words-laid) (a .values-laid)
+        ∙ read-back R outWords outValues sound (a .places)
+        ∙ same
+
+    pub leakage-count : n ≡ length (listOf m t b l)
+    leakage-count = accepts answers .count ∙ ap (λ (R : Rows). length (above (tauOf l) R)) (course-is .0)
+
+    -- ---- reached words
+    pub leakage-only-reached : (u : Word) → Has u (wordsOf (listedBy call n)) → Reached m t b u
+    leakage-only-reached u h =
+        stay-reached u m t b l coeffs-long (passCount (b .len)) (above-has u (tauOf l) (stayAfter m t b l (passCount (b .len))) (subst (HasRow u) leakage-lists h))
+
+    stay-finite : RoomForAll m t b l → (k : ℕ) → k ≤ passCount (b .len) → (i : ℕ) → i < length (stayAfter m t b l k) → isFinite (getD (sumsOf (stayAfter m t b l k)) i nan) ≡ true
+    unfolding stayAfter
+    stay-finite enough zero h = λ i x. absurd (omega arith)
+    stay-finite enough (suc k) h =
+        subst (λ (R : Rows). (i : ℕ) → i < length R → isFinite (getD (sumsOf R) i nan) ≡ true) (sym (stay-all identity m t b l coeffs-long enough k (omega arith))) (leakage-finite k (omega arith))
+
+    -- with room for all and tau_add below 0 the words listed are the reached ones
+    pub leakage-reaches : RoomForAll m t b l → TauBelowZero l → ListsReached m t b (listedBy call n)
+    leakage-reaches enough low =
+        let P : ℕ = passCount (b .len) in
+        let all-listed : listedBy call n ≡ stayAfter m t b l P = leakage-lists ∙ all-above (tauOf l) low (stayAfter m t b l P) (stay-finite enough P (omega arith)) in
+        record {
+          every = leakage-only-reached;
+          all = λ u r. subst (HasRow u) (sym all-listed) (reached-stays u m t b l coeffs-long enough r);
+        }
+
+-- ---- the threshold of an accepted call is a number
+tau-tested : (m : Model) (t : Tables) (b : Basis) (l : Limits) (w : Work) → leakTests m t b l w ≡ Tests.Accepted → tauTests (b .len) l ≡ Tests.Accepted
+unfolding leakTests
+tau-tested m t b l w e =
+    let count : ℕ = length (b .protected) / 4 in
+    let e0 = both (testModel m t) _ e in
+    let e1 = counted-passed maxWords (b .len) _ (e0 .1) in
+    let e2 = counted-passed maxWords count _ (e1 .1) in
+    let e3 = both (limitTests l) _ (e2 .1) in
+    let e4 = lent-passed (b .len) (length (b .lanes) / 4) _ (e3 .1) in
+    let e5 = lent-passed (b .len) (length (b .coeffs)) _ (e4 .1) in
+    let e6 = equal-passed (count * 4) (length (b .protected)) _ (e5 .1) in
+    let e7 = both (workTests (m .qubits) (b .len) count w) _ (e6 .1) in
+    both (entryTests (m .qubits) b) _ (e7 .1) .1
+
+zero-number : Number float0
+zero-number = record { fits-f64 = ofBits-fits binary64 0; no-nan = unfold isNan ofBits in tt }
+
+tau-number : (count : ℕ) (l : Limits) → TauFits l → tauTests count l ≡ Tests.Accepted → Number (tauOf l)
+unfolding tauTests tauOf
+tau-number count l f e = go (eqb (l .«tau_given») 0) e
+  where
+    given : (a : Bool) → isFinite (l .«tau_add») ≡ a → cond a Tests.Accepted (Tests.Refused (NumberOutOfRange count)) ≡ Tests.Accepted → Number (l .«tau_add»)
+    given true x y = record { fits-f64 = f; no-nan = finite-number (l .«tau_add») x }
+    given false x y = let z : _≡_ {A = ℕ} 0 1 = cc in absurd (omega arith)
+
+    go : (a : Bool) → cond a Tests.Accepted (finiteThreshold count (l .«tau_add») Tests.Accepted) ≡ Tests.Accepted → Number (cond a float0 (l .«tau_add»))
+    go true x = zero-number
+    go false x = given (isFinite (l .«tau_add»)) refl x
+
+-- ---- of two accepted calls over at most 4,096 words, alike but for looser limits and whatever tables are lent, the second lists
+-- every word that the first lists, with the same value
+module _ (m : Model) (t : Tables) (b : Basis) (few : b .len ≤ passSize) (l l′ : Limits) (looser : Looser l l′) (fit : TauFits l) (fit′ : TauFits l′) where
+  listed-stays : (k : ℕ) → k ≤ 1 → (k ≡ 1 → Ends m t b l 0) → Number (tauOf l) → Number (tauOf l′) → LosesNobody (above (tauOf l) (stayAfter m t b l k)) (above (tauOf l′) (stayAfter m t b l′ k))
+  unfolding stayAfter above Member
+  listed-stays zero h e n n′ r x = absurd x
+  listed-stays (suc (suc k)) h e n n′ r x = absurd (omega arith)
+  listed-stays (suc zero) h e n n′ r x =
+      let R : Rows = heldIn m t b l 0 in
+      let kept = above-of r (tauOf l) (stayAfter m t b l 1) x in
+      let given : Member r R = largest-in r (roomOf b l) R (kept .0) in
+      above-in r (tauOf l′) (stayAfter m t b l′ 1)
+      (largest-more r (roomOf b l) (roomOf b l′) R (omega (arith, looser .raised)) (kept .0))
+      (above-lower (tauOf l) (tauOf l′) (r .sum) n n′ (looser .lowered) (member-fits r R (held-fits m t b l 0) given) (member-finite r R (ended-finite (roomOf b l) R (stayAfter m t b l 1) (e refl) .1) given) (kept .1))
+
+  pub leakage-loses-nobody : (outWords : List ℕ) (outValues : List Float) (w : Work) (n : ℕ) → leak outWords outValues w m t b l .out .answer ≡ Listed n
+      → (outWords′ : List ℕ) (outValues′ : List Float) (w′ : Work) (n′ : ℕ) → leak outWords′ outValues′ w′ m t b l′ .out .answer ≡ Listed n′
+      → LosesNobody (listedBy (leak outWords outValues w m t b l) n) (listedBy (leak outWords′ outValues′ w′ m t b l′) n′)
+  leakage-loses-nobody outWords outValues w n e outWords′ outValues′ w′ n′ e′ r x =
+      let P : ℕ = passCount (b .len) in
+      let a = accepts outWords outValues w m t b l n e in
+      let a′ = accepts outWords′ outValues′ w′ m t b l′ n′ e′ in
+      subst (Member r) (sym (leakage-lists outWords′ outValues′ w′ m t b l′ n′ e′))
+      (listed-stays P (omega (arith, few)) (λ z. course-is outWords outValues w m t b l n e .1 0 (omega (arith, z))) (tau-number (b .len) l fit (tau-tested m t b l w (a .tests))) (tau-number (b .len) l′ fit′ (tau-tested m t b l′ w′ (a′ .tests))) r
+      (subst (Member r) (leakage-lists outWords outValues w m t b l n e) x))

@@ -1,0 +1,119 @@
+-- SPDX-FileCopyrightText: 2026 The PPVM Authors
+-- SPDX-License-Identifier: Apache-2.0
+
+-- A call of leakage, pass by pass: which candidates are held and which stay, what is listed, what a looser limit means, and which
+-- words a model reaches from a basis. No work table and no place shows in it.
+use Prim.Native.Nat.{ℕ, zero, suc, _-_, _*_, _≤_, _<_, min}
+use mathlib.Core.Path.{_≡_}
+use mathlib.Core.Bool.{true}
+use mathlib.Core.List.{List, [], _∷_, map}
+use lib.Dec.{T}
+use lib.Ieee.{Float, binary64, fits, lt, le}
+use lib.ListN.{length, getD, take, drop}
+use Rattle.word.specs.Order.{before}
+use Rattle.word.specs.Flat.{words}
+use Rattle.word.specs.Word.{identity}
+use Rattle.word.specs.declared.word.Word.{Word}
+use Rattle.number.specs.Floats.{float0}
+use Rattle.order.specs.Magnitudes.{byMagnitude, keyAt}
+use Rattle.truncate.specs.Retained.{pick}
+use Rattle.candidates.specs.Sums.{Row, Rising}
+use Rattle.candidates.specs.Log.{Rows, table, putRows}
+use Rattle.model.specs.Stored.{Tables}
+use Rattle.model.specs.Given.{Term}
+use Rattle.model.specs.declared.tables.Model.{Model}
+use Rattle.action.specs.Acts.{actionOf}
+use Rattle.passes.specs.Leaks.{outside, sumsOf, wordsOf, largest, passSize, passCount, above, leaksAt}
+use Rattle.leakage.specs.Leakages.{Basis, Leaking, limitOf, tauOf}
+use Rattle.leakage.specs.declared.limits.Limits.{Limits}
+use Rattle.leakage_laws.specs.Members.{Member, Has}
+
+-- ---- the passes
+-- positions one after another, each adding what it leaks
+unfoldable pub gathered : (ℕ → Rows) → List ℕ → Rows → Rows
+gathered leaks [] R = R
+gathered leaks (p ∷ ps) R = gathered leaks ps (putRows (leaks p) R)
+
+abbrev pub basisWords : Basis → List Word
+basisWords b = take (b .len) (words (b .lanes))
+
+abbrev pub basisCoeffs : Basis → List Float
+basisCoeffs b = take (b .len) (b .coeffs)
+
+abbrev pub leaksOf : Model → Tables → Basis → ℕ → Rows
+leaksOf m t b = leaksAt m t (basisWords b) (basisCoeffs b) (words (b .protected))
+
+abbrev pub roomOf : Basis → Limits → ℕ
+roomOf b l = limitOf l - b .len
+
+-- the positions of pass k, counted from 0: 4,096 at a time, in falling magnitude
+abbrev pub passOf : Basis → ℕ → List ℕ
+passOf b k = take passSize (drop (k * passSize) (byMagnitude (basisCoeffs b)))
+
+-- pass k on top of what stayed before it
+abbrev pub takePass : Model → Tables → Basis → ℕ → Rows → Rows
+takePass m t b k R = gathered (leaksOf m t b) (passOf b k) R
+
+module _ (m : Model) (t : Tables) (b : Basis) (l : Limits) where
+  -- the candidates that stay after so many passes: after each the largest, as many as there is room for
+  unfoldable pub stayAfter : ℕ → Rows
+  stayAfter zero = []
+  stayAfter (suc k) = largest (roomOf b l) (takePass m t b k (stayAfter k))
+
+  -- those that pass k holds before the room rule
+  abbrev pub heldIn : ℕ → Rows
+  heldIn k = takePass m t b k (stayAfter k)
+
+  -- after the last pass those above tau_add
+  abbrev pub listOf : Rows
+  listOf = above (tauOf l) (stayAfter (passCount (b .len)))
+
+  -- no pass drops a candidate
+  abbrev pub RoomForAll : Type 0
+  RoomForAll = (k : ℕ) → k < passCount (b .len) → length (heldIn k) ≤ roomOf b l
+
+-- the first n words and values of the list, read from the lent tables afterwards
+abbrev pub listedBy : Leaking → ℕ → Rows
+listedBy k n = table n (k .out .outWords) (k .out .outValues)
+
+-- the room rule of one pass, by a flag for each candidate: as many stay as there is room for, or all; one that stays is at least as
+-- large as one that does not, and the earlier of equals, where candidates stand in word order
+pub record LargestStay (room : ℕ) (candidates stay : Rows) : Type 0 where
+  pub rising : Rising before candidates
+  pub flags : List ℕ
+  pub each : length flags ≡ length candidates
+  pub stay-are : stay ≡ pick flags candidates
+  pub count : length stay ≡ min room (length candidates)
+  pub larger : (p q : ℕ) → p < length candidates → q < length candidates → (getD flags p 0 ≡ 0 → ⊥) → getD flags q 0 ≡ 0
+      → (keyAt (sumsOf candidates) q ≤ keyAt (sumsOf candidates) p) × (keyAt (sumsOf candidates) q ≡ keyAt (sumsOf candidates) p → p < q)
+
+-- ---- looser limits
+-- a raised word limit, a lowered tau_add, or both, each given or absent
+pub record Looser (l l′ : Limits) : Type 0 where
+  pub raised : limitOf l ≤ limitOf l′
+  pub lowered : le (tauOf l′) (tauOf l) ≡ true
+
+-- tau_add is a number that an f64 can hold, as that of every call
+abbrev pub TauFits : Limits → Type 0
+TauFits l = T (fits binary64 (l .«tau_add»))
+
+-- tau_add is given and below 0
+abbrev pub TauBelowZero : Limits → Type 0
+TauBelowZero l = lt (tauOf l) float0 ≡ true
+
+-- every word of the one list stands in the other, with the same value
+abbrev pub LosesNobody : Rows → Rows → Type 0
+LosesNobody R R′ = (r : Row Word Float) → Member r R → Member r R′
+
+-- ---- reached words
+-- neither in the basis nor protected, and listed by the action on some basis word
+pub record Reached (m : Model) (t : Tables) (b : Basis) (w : Word) : Type 0 where
+  pub is-outside : outside (basisWords b) (words (b .protected)) w ≡ true
+  pub position : ℕ
+  pub in-basis : position < b .len
+  pub by-action : Has w (map (λ (c : Term). c .word) (actionOf m t (getD (basisWords b) position identity)))
+
+-- the words of a list are the reached ones
+pub record ListsReached (m : Model) (t : Tables) (b : Basis) (R : Rows) : Type 0 where
+  pub every : (w : Word) → Has w (wordsOf R) → Reached m t b w
+  pub all : (w : Word) → Reached m t b w → Has w (wordsOf R)

@@ -1,0 +1,48 @@
+-- SPDX-FileCopyrightText: 2026 The PPVM Authors
+-- SPDX-License-Identifier: Apache-2.0
+
+-- An empty basis has norm 0 and degree (1,1). Assumes nothing.
+use mathlib.Core.Path.{_≡_, refl, ap}
+use mathlib.Core.Bool.{false}
+use mathlib.Core.List.{List, []}
+use Prim.Native.Nat.{ℕ}
+use native.Mathlib.Omega.{arith}
+use borrow.Author.Tests.{le-ltb}
+use lib.Ieee.{Float, nan, inf, fin, binary64, lt, mul, ofBits}
+use Rattle.refusal.specs.declared.Answer.the-variants as Tests
+use Rattle.number.specs.Floats.{float0, magnitude}
+use Rattle.number.proofs.ExactLaws.{is-nought}
+use Rattle.number.proofs.WholeFloats.{whole-nought, is-lt}
+use Rattle.expm.proofs.LeastLaws.{degree-none}
+use Rattle.model.specs.Stored.{Tables}
+use Rattle.model.specs.declared.tables.Model.{Model}
+use Rattle.action.specs.Counts.{most}
+use Rattle.norm.specs.Columns.{meanOf, largestFrom, muOf, normOf}
+use Rattle.norm.specs.Norms.{Work, zeroed, normTested, degreeTested, normAnswer, partition, degreeAnswer, norming, selecting}
+use Rattle.norm.specs.declared.norm.Normed.the-variants.{Norm}
+use Rattle.norm.specs.declared.degree.Selected.the-variants.{Partition}
+
+none : (room : ℕ) (m : Model) (t : Tables) → normAnswer room m t [] ≡ Norm float0 float0
+unfolding normAnswer most meanOf largestFrom muOf normOf
+none room m t = rw (le-ltb room 0 (omega arith))
+
+-- nothing times 0 is above 0
+times-zero : (x : Float) → lt float0 (mul binary64 x float0) ≡ false
+unfolding lt mul ofBits
+times-zero nan = refl
+times-zero (inf s) = refl
+times-zero (fin s m e) = is-lt is-nought (whole-nought binary64 (fin s m e) tt is-nought)
+
+none-degree : (dt dropTol : Float) → degreeAnswer dt dropTol (Norm float0 float0) ≡ Partition float0 float0 1 1
+unfolding degreeAnswer
+none-degree dt dropTol = ap (partition float0 float0) (degree-none dropTol (mul binary64 (magnitude dt) float0) (times-zero (magnitude dt)))
+
+-- ---- the calls
+module _ (w : Work) (m : Model) (t : Tables) (lanes : List ℕ) where
+  pub norm-empty : normTested m t lanes 0 w ≡ Tests.Accepted → norming w m t lanes 0 ≡ record { answer = Norm float0 float0; work = zeroed w }
+  unfolding norming
+  norm-empty e = rw (e, none _ m t)
+
+  pub degree-empty : (dt dropTol : Float) → degreeTested m t lanes 0 dt dropTol w ≡ Tests.Accepted → selecting w m t lanes 0 dt dropTol ≡ record { answer = Partition float0 float0 1 1; work = zeroed w }
+  unfolding selecting
+  degree-empty dt dropTol e = rw (e, none _ m t, none-degree dt dropTol)

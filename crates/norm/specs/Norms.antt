@@ -1,0 +1,127 @@
+-- SPDX-FileCopyrightText: 2026 The PPVM Authors
+-- SPDX-License-Identifier: Apache-2.0
+
+-- Norm and degree over a lent model and basis: refusals in their order, the answer, and every lent table afterwards.
+use Prim.Native.Nat.{ℕ, _*_, _/_}
+use mathlib.Core.Bool.{cond}
+use mathlib.Core.List.{List}
+use lib.Dec.{ltb}
+use lib.Ieee.{Float}
+use lib.ListN.{length, take, replicate}
+use Rattle.refusal.specs.declared.Refusal.the-variants.{TableFull}
+use Rattle.refusal.specs.declared.Answer.{Answer}
+use Rattle.refusal.specs.declared.Answer.the-variants as Tests
+use Rattle.word.specs.Flat.{words}
+use Rattle.word.specs.declared.word.Word.{Word}
+use Rattle.number.specs.Floats.{floats, float0, magnitude}
+use Rattle.expm.specs.Selects.{degreeBy, tableFor}
+use Rattle.expm.specs.declared.Degree.{Degree}
+use Rattle.model.specs.Stored.{Tables}
+use Rattle.model.specs.Tested.{counted, lent, testModel}
+use Rattle.model.specs.Built.{andThen}
+use Rattle.model.specs.declared.tables.Model.{Model}
+use Rattle.action.specs.Acts.{sumPlaces}
+use Rattle.action.specs.Counts.{maxWords, rowLanes, insideTo, most, touchedBy}
+use Rattle.basis.specs.Tests.{finiteThreshold}
+use Rattle.norm.specs.Columns.{meanOf, largest, columnNorms, muOf, normOf}
+use Rattle.norm.specs.declared.norm.Normed.{Normed}
+use Rattle.norm.specs.declared.norm.Normed.the-variants.{Norm, Refused}
+use Rattle.norm.specs.declared.degree.Selected.{Selected}
+use Rattle.norm.specs.declared.degree.Selected.the-variants as Choice
+
+-- ---- what is lent
+pub record Work : Type 0 where
+  pub hIndex : List ℕ
+  pub jIndex : List ℕ
+  pub mask : List ℕ
+  pub workWords : List ℕ
+  pub workSums : List Float
+  pub raws : List Float
+  pub diags : List Float
+
+abbrev pub workOf : List ℕ → List ℕ → List ℕ → List ℕ → List Float → List Float → List Float → Work
+workOf hIndex jIndex mask workWords workSums raws diags =
+    record { hIndex = hIndex; jIndex = jIndex; mask = mask; workWords = workWords; workSums = workSums; raws = raws; diags = diags }
+
+abbrev pub zeroed : Work → Work
+zeroed w = record {
+  hIndex = replicate (length (w .hIndex)) 0;
+  jIndex = replicate (length (w .jIndex)) 0;
+  mask = replicate (length (w .mask)) 0;
+  workWords = replicate (length (w .workWords)) 0;
+  workSums = replicate (length (w .workSums)) float0;
+  raws = replicate (length (w .raws)) float0;
+  diags = replicate (length (w .diags)) float0;
+}
+
+-- ---- the tests
+-- the model, 8, 9, 11, over the first len words and tables of so many places
+unfoldable pub normTests : Model → Tables → List ℕ → ℕ → ℕ → ℕ → ℕ → ℕ → ℕ → Answer
+normTests m t lanes len hIndex jIndex mask raws diags =
+    andThen (testModel m t)
+    (counted maxWords len
+    (lent len (length lanes / 4)
+    (lent (rowLanes * m .qubits) hIndex
+    (lent (rowLanes * m .qubits) jIndex
+    (lent rowLanes mask
+    (lent len raws
+    (lent len diags
+    (insideTo len lanes (m .qubits)
+    Tests.Accepted))))))))
+
+abbrev pub normTested : Model → Tables → List ℕ → ℕ → Work → Answer
+normTested m t lanes len w = normTests m t lanes len (length (w .hIndex)) (length (w .jIndex)) (length (w .mask)) (length (w .raws)) (length (w .diags))
+
+-- then 7 for dt, and 7 for drop_tol: no coefficients are lent, so a threshold's index is 0
+unfoldable pub finiteTests : Float → Float → Answer
+finiteTests dt dropTol = finiteThreshold 0 dt (finiteThreshold 0 dropTol Tests.Accepted)
+
+abbrev pub degreeTested : Model → Tables → List ℕ → ℕ → Float → Float → Work → Answer
+degreeTested m t lanes len dt dropTol w = andThen (normTested m t lanes len w) (finiteTests dt dropTol)
+
+-- ---- the answers
+-- 13 where one action touches more words than there is room for
+unfoldable pub normAnswer : ℕ → Model → Tables → List Word → Normed
+normAnswer room m t ps = cond (ltb room (most (touchedBy m t) ps)) (Refused (TableFull 1 room)) (Norm (muOf m t ps) (normOf m t ps))
+
+abbrev pub partition : Float → Float → Degree → Selected
+partition mu norm d = Choice.Partition mu norm (d .m) (d .s)
+
+-- the same from raws and diagonals side by side
+abbrev pub normFrom : Answer → List Float → List Float → Normed
+normFrom (Tests.Refused r) raws diags = Refused r
+normFrom Tests.Accepted raws diags = Norm (meanOf diags) (largest (columnNorms (meanOf diags) raws diags))
+
+-- the degree for t = |dt| × norm
+unfoldable pub degreeAnswer : Float → Float → Normed → Selected
+degreeAnswer dt dropTol (Refused r) = Choice.Refused r
+degreeAnswer dt dropTol (Norm mu norm) = partition mu norm (degreeBy (tableFor dropTol) (floats .times (magnitude dt) norm))
+
+-- ---- what the calls answer, and the lent tables afterwards
+pub record Norming : Type 0 where
+  pub answer : Normed
+  pub work : Work
+
+pub record Selecting : Type 0 where
+  pub answer : Selected
+  pub work : Work
+
+module _ (w : Work) where
+  -- the norm of the first len words
+  abbrev pub normCourse : Model → Tables → List ℕ → ℕ → Normed
+  normCourse m t lanes len = normAnswer (sumPlaces (w .workWords) (w .workSums)) m t (take len (words lanes))
+
+  -- a refusal by a test changes nothing; work tables are zero after acceptance and 13
+  abbrev pub normAfter : Answer → Normed → Norming
+  normAfter Tests.Accepted answer = record { answer = answer; work = zeroed w }
+  normAfter (Tests.Refused r) answer = record { answer = Refused r; work = w }
+
+  unfoldable pub norming : Model → Tables → List ℕ → ℕ → Norming
+  norming m t lanes len = normAfter (normTested m t lanes len w) (normCourse m t lanes len)
+
+  abbrev pub degreeAfter : Answer → Selected → Selecting
+  degreeAfter Tests.Accepted answer = record { answer = answer; work = zeroed w }
+  degreeAfter (Tests.Refused r) answer = record { answer = Choice.Refused r; work = w }
+
+  unfoldable pub selecting : Model → Tables → List ℕ → ℕ → Float → Float → Selecting
+  selecting m t lanes len dt dropTol = degreeAfter (degreeTested m t lanes len dt dropTol w) (degreeAnswer dt dropTol (normCourse m t lanes len))

@@ -1,0 +1,128 @@
+// SPDX-FileCopyrightText: 2026 The PPVM Authors
+// SPDX-License-Identifier: Apache-2.0
+
+// What norm and degree ask of what they are lent: the model, 8, 9, 11; then 7 for the numbers of a
+// degree.
+ghost use mathlib.Core.Path.{_≡_};
+ghost use Rattle.model.specs.Stored.{tables};
+ghost use Rattle.model.specs.Built.{andThen};
+ghost use Rattle.norm.specs.Norms.{normTests, finiteTests};
+use action::words::MAX_WORDS;
+use action::words::ROW_LANES;
+use action::words::first_outside;
+use model::lengths::mismatch;
+use model::tables::Model;
+use model::test::test_model;
+use number::scalar::is_finite;
+use refusal::Answer;
+use refusal::Refusal;
+use word::flat::WORD_LANES;
+
+pub fn check_norm(
+    m: Model,
+    h_words: &[u64],
+    h_coeffs: &[f64],
+    jumps: &[u64],
+    rates: &[f64],
+    t_words: &[u64],
+    t_numbers: &[f64],
+    words: &[u64],
+    len: usize,
+    h_index: usize,
+    j_index: usize,
+    mask: usize,
+    raws: usize,
+    diags: usize,
+) -> Answer
+    ensures { λ r. ⌜ r ≡ normTests m (tables (now («h_words» .entry)) (now («h_coeffs» .entry)) (now (jumps .entry)) (now (rates .entry)) (now («t_words» .entry)) (now («t_numbers» .entry))) (now (words .entry)) len «h_index» «j_index» mask raws diags ⌝ }
+{
+    let model = test_model(m, h_words, h_coeffs, jumps, rates, t_words, t_numbers);
+    let Answer::Accepted = model else {
+        return model;
+    };
+    if MAX_WORDS < len {
+        return Answer::Refused(Refusal::CountAboveLimit { count: len });
+    }
+    let places = words.len() / WORD_LANES;
+    if places < len {
+        return mismatch(len, places);
+    }
+    let rows = ROW_LANES * m.qubits;
+    if h_index < rows {
+        return mismatch(rows, h_index);
+    }
+    if j_index < rows {
+        return mismatch(rows, j_index);
+    }
+    if mask < ROW_LANES {
+        return mismatch(ROW_LANES, mask);
+    }
+    if raws < len {
+        return mismatch(len, raws);
+    }
+    if diags < len {
+        return mismatch(len, diags);
+    }
+    let n = m.qubits;
+    let first = first_outside(words, len, n);
+    if first < len {
+        return Answer::Refused(Refusal::WordOutsideRegister { position: first });
+    }
+    Answer::Accepted
+}
+
+fn check_finite(dt: f64, drop_tol: f64) -> Answer
+    ensures { λ r. ⌜ r ≡ finiteTests dt «drop_tol» ⌝ }
+{
+    let step = is_finite(dt);
+    if !step {
+        return Answer::Refused(Refusal::NumberOutOfRange { index: 0 });
+    }
+    let threshold = is_finite(drop_tol);
+    if !threshold {
+        return Answer::Refused(Refusal::NumberOutOfRange { index: 0 });
+    }
+    Answer::Accepted
+}
+
+pub fn check_degree(
+    m: Model,
+    h_words: &[u64],
+    h_coeffs: &[f64],
+    jumps: &[u64],
+    rates: &[f64],
+    t_words: &[u64],
+    t_numbers: &[f64],
+    words: &[u64],
+    len: usize,
+    dt: f64,
+    drop_tol: f64,
+    h_index: usize,
+    j_index: usize,
+    mask: usize,
+    raws: usize,
+    diags: usize,
+) -> Answer
+    ensures { λ r. ⌜ r ≡ andThen (normTests m (tables (now («h_words» .entry)) (now («h_coeffs» .entry)) (now (jumps .entry)) (now (rates .entry)) (now («t_words» .entry)) (now («t_numbers» .entry))) (now (words .entry)) len «h_index» «j_index» mask raws diags) (finiteTests dt «drop_tol») ⌝ }
+{
+    let lent = check_norm(
+        m,
+        h_words,
+        h_coeffs,
+        jumps,
+        rates,
+        t_words,
+        t_numbers,
+        words,
+        len,
+        h_index,
+        j_index,
+        mask,
+        raws,
+        diags,
+    );
+    let Answer::Accepted = lent else {
+        return lent;
+    };
+    check_finite(dt, drop_tol)
+}

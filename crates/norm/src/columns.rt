@@ -1,0 +1,123 @@
+// SPDX-FileCopyrightText: 2026 The PPVM Authors
+// SPDX-License-Identifier: Apache-2.0
+
+// Raw and diagonal of each column of the generator: one action for each basis word. The model is tested
+// and indexed once, before.
+ghost use mathlib.Core.Path.{_≡_};
+ghost use Prim.Native.Nat.{_*_, _≤_};
+ghost use lib.ListN.{length, take};
+ghost use Rattle.word.specs.Flat.{words as wordsIn};
+ghost use Rattle.table.specs.Sums.{table};
+ghost use Rattle.model.specs.Stored.{tables};
+ghost use Rattle.action.specs.Acts.{listed};
+ghost use Rattle.norm.specs.Columns.{rawOf, diagOf, ColumnRoom, Fills};
+use action::act::SUMS_TABLE;
+use kernel::near::put_rules_near;
+use model::product::term_at;
+use model::tables::Model;
+use number::scalar::is_zero;
+use number::scalar::magnitude;
+use refusal::Answer;
+use refusal::Refusal;
+use table::sums::Added;
+use word::flat::word_at;
+use word::word::Word;
+use word::word::same_word;
+
+// The magnitudes of the first `len` sums, added in word order.
+fn raw_of(words: &[u64], sums: &[f64], len: usize) -> f64
+    requires { ⌜ (4 * len ≤ length (now words)) × (2 * len ≤ length (now sums)) ⌝ }
+    ensures { λ r. ⌜ r ≡ rawOf (listed (table len (now (words .entry)) (now (sums .entry)))) ⌝ }
+{
+    let mut raw = 0.0;
+    let mut i = 0;
+    while i < len {
+        let t = term_at(words, sums, i);
+        let x = t.number.re;
+        if is_zero(x) {
+            i += 1;
+        } else {
+            raw = raw + magnitude(x);
+            i += 1;
+        }
+    }
+    raw
+}
+
+// The one onto a word, or 0.
+fn diagonal_of(words: &[u64], sums: &[f64], len: usize, w: Word) -> f64
+    requires { ⌜ (4 * len ≤ length (now words)) × (2 * len ≤ length (now sums)) ⌝ }
+    ensures { λ r. ⌜ r ≡ diagOf w (listed (table len (now (words .entry)) (now (sums .entry)))) ⌝ }
+{
+    let mut i = 0;
+    while i < len {
+        let t = term_at(words, sums, i);
+        let x = t.number.re;
+        let v = t.word;
+        if is_zero(x) {
+            i += 1;
+        } else {
+            if same_word(v, w) {
+                return x;
+            }
+            i += 1;
+        }
+    }
+    0.0
+}
+
+pub fn fill_columns(
+    m: Model,
+    h_words: &[u64],
+    h_coeffs: &[f64],
+    jumps: &[u64],
+    rates: &[f64],
+    t_words: &[u64],
+    t_numbers: &[f64],
+    words: &[u64],
+    len: usize,
+    h_index: &[u64],
+    j_index: &[u64],
+    mask: &mut [u64],
+    work_words: &mut [u64],
+    work_sums: &mut [f64],
+    room: usize,
+    raws: &mut [f64],
+    diags: &mut [f64],
+) -> Answer
+    requires { ⌜ ColumnRoom m (tables (now «h_words») (now «h_coeffs») (now jumps) (now rates) (now «t_words») (now «t_numbers»)) (now «h_index») (now «j_index») (now mask) (now «work_words») (now «work_sums») room (now words) len (now raws) (now diags) ⌝ }
+    ensures { λ r. ⌜ Fills room m (tables (now («h_words» .entry)) (now («h_coeffs» .entry)) (now (jumps .entry)) (now (rates .entry)) (now («t_words» .entry)) (now («t_numbers» .entry))) (take len (wordsIn (now (words .entry)))) len (now (raws .exit)) (now (diags .exit)) r ⌝ }
+{
+    let mut k = 0;
+    while k < len {
+        let p = word_at(words, k);
+        let added = put_rules_near(
+            work_words,
+            work_sums,
+            room,
+            m,
+            h_words,
+            h_coeffs,
+            jumps,
+            rates,
+            t_words,
+            t_numbers,
+            h_index,
+            j_index,
+            mask,
+            p,
+        );
+        let Added::Held(count) = added else {
+            return Answer::Refused(Refusal::TableFull {
+                table: SUMS_TABLE,
+                places: room,
+            });
+        };
+        let raw = raw_of(work_words, work_sums, count);
+        let diag = diagonal_of(work_words, work_sums, count, p);
+        raws[k] = raw;
+        diags[k] = diag;
+        k += 1;
+    }
+    Answer::Accepted
+}

@@ -1,0 +1,12 @@
+-- SPDX-FileCopyrightText: 2026 The PPVM Authors
+-- SPDX-License-Identifier: Apache-2.0
+
+-- Laws of this crate.
+pub mod TookLaws
+pub mod TableLaws
+pub mod FlushLaws
+pub mod LogLaws
+pub mod PassLaws
+pub mod RoomLaws
+pub mod ListLaws
+pub mod PassesLaws

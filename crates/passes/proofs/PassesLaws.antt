@@ -1,0 +1,118 @@
+-- SPDX-FileCopyrightText: 2026 The PPVM Authors
+-- SPDX-License-Identifier: Apache-2.0
+
+-- The passes one by one: what is left of them gives the answer of all. Assumes nothing.
+use mathlib.Core.Path.{_≡_, ap, sym, _∙_}
+use mathlib.Core.List.{List, []}
+use Prim.Native.Nat.{ℕ, suc, _+_, _-_, _≤_, _<_, min}
+use native.Mathlib.Omega.{arith}
+use native.Mathlib.Decide.{decLt}
+use lib.Ieee.{Float}
+use lib.ListN.{length, take, drop, length-drop, drop-of-length-le}
+use lib.Seq.{take-all, drop-drop}
+use Rattle.refusal.specs.declared.Refusal.{Refusal}
+use Rattle.candidates.specs.Log.{Rows, table}
+use Rattle.model.specs.Stored.{Tables}
+use Rattle.model.specs.declared.tables.Model.{Model}
+use Rattle.model.specs.Given.{Read, got, refused, onward}
+use Rattle.passes.specs.Leaks.{takenBy, ended, passSize, passCount, passes, ModelReady, ActionRoom, Holding, Took}
+use Rattle.passes.specs.declared.taken.Taken.{Taken}
+use Rattle.passes.specs.declared.taken.Taken.the-variants.{Held, Refused}
+use Rattle.passes.proofs.TookLaws.{took-held, took-refused}
+
+-- ---- tables that a pass has written keep their lengths, and so what is asked of them
+pub ready-still : (m : Model) (t : Tables) (hIndex jIndex mask mask′ : List ℕ) → ModelReady m t hIndex jIndex mask → length mask′ ≡ length mask → ModelReady m t hIndex jIndex mask′
+ready-still m t hIndex jIndex mask mask′ r e = record { tested = r .tested; indexed = r .indexed; h-rows = r .h-rows; j-rows = r .j-rows; row = omega (arith, r .row, e) }
+
+pub action-room-still : (room : ℕ) (workWords workWords′ : List ℕ) (workSums workSums′ : List Float) (logWords logWords′ : List ℕ) (logValues logValues′ : List Float) (order order′ work work′ : List ℕ)
+    → ActionRoom room workWords workSums logWords logValues order work
+    → length workWords′ ≡ length workWords → length workSums′ ≡ length workSums → length logWords′ ≡ length logWords → length logValues′ ≡ length logValues → length order′ ≡ length order → length work′ ≡ length work
+    → ActionRoom room workWords′ workSums′ logWords′ logValues′ order′ work′
+action-room-still room workWords workWords′ workSums workSums′ logWords logWords′ logValues logValues′ order order′ work work′ r e1 e2 e3 e4 e5 e6 =
+    record {
+      work-words = omega (arith, r .work-words, e1);
+      work-sums = omega (arith, r .work-sums, e2);
+      log-words = omega (arith, r .log-words, e3);
+      log-values = omega (arith, r .log-values, e4);
+      order-long = omega (arith, r .order-long, e5);
+      work-long = omega (arith, r .work-long, e6);
+    }
+
+pub holding-still : (room n n′ : ℕ) (lanes lanes′ : List ℕ) (sums sums′ : List Float) → Holding room n lanes sums → length lanes′ ≡ length lanes → length sums′ ≡ length sums → n′ ≤ room → Holding room n′ lanes′ sums′
+holding-still room n n′ lanes lanes′ sums sums′ h el es l = record { lanes-long = omega (arith, h .lanes-long, el); sums-long = omega (arith, h .sums-long, es); inside = l }
+
+-- ---- the positions of a pass
+module _ (ps : List ℕ) (from to : ℕ) (is : to ≡ min (from + passSize) (length ps)) where
+  -- its part of the list is the next positions, as many as make a pass
+  pub pass-part : take passSize (drop from ps) ≡ take (to - from) (drop from ps)
+  pass-part = go (decLt (length ps) (from + passSize))
+    where
+      go : Dec (length ps < from + passSize) → take passSize (drop from ps) ≡ take (to - from) (drop from ps)
+      go (yes h) =
+          let l = length-drop from ps in
+          take-all passSize (drop from ps) (omega (arith, l, h)) ∙ sym (take-all (to - from) (drop from ps) (omega (arith, l, h, is)))
+      go (no h) = let e : passSize ≡ to - from = omega (arith, is, h) in ap (λ (k : ℕ). take k (drop from ps)) e
+
+  pub pass-rest : drop passSize (drop from ps) ≡ drop to ps
+  pass-rest = drop-drop passSize from ps ∙ go (decLt (length ps) (from + passSize))
+    where
+      go : Dec (length ps < from + passSize) → drop (from + passSize) ps ≡ drop to ps
+      go (yes h) =
+          let a : length ps ≤ from + passSize = omega (arith, h) in
+          let b : length ps ≤ to = omega (arith, h, is) in
+          drop-of-length-le ps a ∙ sym (drop-of-length-le ps b)
+      go (no h) = let e : from + passSize ≡ to = omega (arith, is, h) in ap (λ (k : ℕ). drop k ps) e
+
+  pub pass-count : from < length ps → passCount (length ps - from) ≡ suc (passCount (length ps - to))
+  pass-count h = omega (arith, h, is)
+
+-- ---- one pass of all
+module _ (touched : ℕ → ℕ) (leaks : ℕ → Rows) (sumRoom candidateRoom room : ℕ) (ps : List ℕ) where
+  abbrev taken : List ℕ → Rows → Read Rows
+  taken = takenBy touched leaks sumRoom candidateRoom
+
+  -- the passes from a position on
+  abbrev pub rest : ℕ → Rows → Read Rows
+  rest from = passes touched leaks sumRoom candidateRoom room (passCount (length ps - from)) (drop from ps)
+
+  pub rest-start : rest 0 [] ≡ passes touched leaks sumRoom candidateRoom room (passCount (length ps)) ps []
+  rest-start = let z : length ps - 0 ≡ length ps = omega arith in rw z
+
+  pub rest-none : (from : ℕ) (T : Rows) → length ps ≤ from → rest from T ≡ got T
+  unfolding passes
+  rest-none from T h = let z : passCount (length ps - from) ≡ 0 = omega (arith, h) in rw z
+
+  pub rest-next : (from to : ℕ) (T : Rows) → to ≡ min (from + passSize) (length ps) → from < length ps
+      → rest from T ≡ onward (taken (take (to - from) (drop from ps)) T) (λ (T′ : Rows). onward (ended room T′) (rest to))
+  unfolding passes
+  rest-next from to T is h = rw (pass-count ps from to is h, pass-part ps from to is, pass-rest ps from to is)
+
+  -- ---- a turn, where the passes from this one on give the answer of all
+  module _ (all : Read Rows) (from to : ℕ) (T : Rows) (going : rest from T ≡ all) (is : to ≡ min (from + passSize) (length ps)) (h : from < length ps) where
+    through : onward (taken (take (to - from) (drop from ps)) T) (λ (T′ : Rows). onward (ended room T′) (rest to)) ≡ all
+    through = sym (rest-next from to T is h) ∙ going
+
+    module _ (lanes : List ℕ) (sums : List Float) (r : Taken) (took : Took candidateRoom (taken (take (to - from) (drop from ps)) T) lanes sums r) where
+      pub pass-refused : (q : Refusal) → r ≡ Refused q → Took candidateRoom all lanes sums r
+      pass-refused q e =
+          let stop : taken (take (to - from) (drop from ps)) T ≡ refused q = took .stopped q e in
+          rw e (took-refused candidateRoom all lanes sums q (sym (rw stop at through)))
+
+      module _ (n : ℕ) (e : r ≡ Held n) where
+        after : onward (ended room (table n lanes sums)) (rest to) ≡ all
+        after = let gave : taken (take (to - from) (drop from ps)) T ≡ got (table n lanes sums) = took .held n e .0 in rw gave at through
+
+        module _ (lanes′ : List ℕ) (sums′ : List Float) (r′ : Taken) (end : Took n (ended room (table n lanes sums)) lanes′ sums′ r′) where
+          pub end-refused : (q : Refusal) → r′ ≡ Refused q → Took candidateRoom all lanes′ sums′ r′
+          end-refused q e′ =
+              let stop : ended room (table n lanes sums) ≡ refused q = end .stopped q e′ in
+              rw e′ (took-refused candidateRoom all lanes′ sums′ q (sym (rw stop at after)))
+
+          pub end-held : (k : ℕ) → r′ ≡ Held k → (rest to (table k lanes′ sums′) ≡ all) × (k ≤ candidateRoom)
+          end-held k e′ =
+              let gave : ended room (table n lanes sums) ≡ got (table k lanes′ sums′) = end .held k e′ .0 in
+              (rw gave at after, omega (arith, end .held k e′ .1, took .held n e .1))
+
+  pub passes-end : (all : Read Rows) (from n : ℕ) (lanes : List ℕ) (sums : List Float) → rest from (table n lanes sums) ≡ all → length ps ≤ from → n ≤ candidateRoom
+      → Took candidateRoom all lanes sums (Held n)
+  passes-end all from n lanes sums going h l = took-held candidateRoom all lanes sums n l (sym going ∙ rest-none from (table n lanes sums) h)

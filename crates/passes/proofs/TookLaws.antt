@@ -1,0 +1,29 @@
+-- SPDX-FileCopyrightText: 2026 The PPVM Authors
+-- SPDX-License-Identifier: Apache-2.0
+
+-- The answer of a step, as it is given. Assumes nothing.
+use mathlib.Core.Path.{_≡_, ap, _∙_}
+use mathlib.Core.List.{List}
+use Prim.Native.Nat.{ℕ, _≤_}
+use native.Mathlib.Omega.{arith}
+use lib.Ieee.{Float}
+use Rattle.refusal.specs.declared.Refusal.{Refusal}
+use Rattle.candidates.specs.Log.{Rows, table}
+use Rattle.model.specs.Given.{Read, got, refused}
+use Rattle.passes.specs.Leaks.{Took}
+use Rattle.passes.specs.declared.taken.Taken.the-variants.{Held, Refused}
+
+module _ (room : ℕ) (course : Read Rows) (lanes : List ℕ) (sums : List Float) where
+  pub took-held : (n : ℕ) → n ≤ room → course ≡ got (table n lanes sums) → Took room course lanes sums (Held n)
+  took-held n h e =
+      record {
+        held = λ m z. let q : n ≡ m = cc in (rw (← q) e, rw (← q) h);
+        stopped = λ r z. let q : _≡_ {A = ℕ} 0 1 = cc in absurd (omega arith);
+      }
+
+  pub took-refused : (r : Refusal) → course ≡ refused r → Took room course lanes sums (Refused r)
+  took-refused r e =
+      record {
+        held = λ m z. let q : _≡_ {A = ℕ} 0 1 = cc in absurd (omega arith);
+        stopped = λ s z. let q : r ≡ s = cc in e ∙ ap refused q;
+      }

@@ -1,0 +1,56 @@
+-- SPDX-FileCopyrightText: 2026 The PPVM Authors
+-- SPDX-License-Identifier: Apache-2.0
+
+-- `flush::copy_rows` meets its contract: each turn copies the next row. Assumes nothing.
+use mathlib.Core.Path.{_≡_, refl}
+use Prim.Native.Nat.{_≤_, _-_}
+use lib.ListN.{length, length-set}
+use Rattle.candidates.specs.Log.{table}
+use Rattle.passes.proofs.FlushLaws.{copied}
+use native.Mathlib.Omega.{arith}
+use borrow.Author.Needs.{needs}
+use Rattle.passes.proofs.flush.copy_rows.Statement.{statement}
+use Rattle.passes.proofs.flush.copy_rows.Tie as tie
+
+abbrev Inv-loop : tie.InvT-loop
+Inv-loop from sums n to₀ copies₀ i₀ to copies i =
+    (i ≤ n) × (length to ≡ length to₀) × (length copies ≡ length copies₀) × (table i to copies ≡ table i from sums)
+
+abbrev μ-loop : tie.MeasureT-loop
+μ-loop from sums n to₀ copies₀ i₀ to copies i = n - i
+
+loop-holds : tie.Need-loop-holds Inv-loop μ-loop
+loop-holds c = (omega arith, refl, refl, refl)
+
+loop-again : tie.Need-loop-again Inv-loop μ-loop
+loop-again c =
+    let s = c .before .before .before .before .before .before .before .before .before .before .before .before in
+    let l = c .before .before .before .before .before .before .before .loop in
+    let b = s .pre .0 in
+    (omega arith, omega arith, simp length-set (omega arith), copied (s .args .from .now) (l .to) _ (s .args .sums .now) (l .copies) (l .i) (c .before .before .before .before .before .word-at .result) (omega arith) (omega arith) (omega arith) (omega arith) (c .before .before .before .before .before .word-at .ensures) (c .before .before .before .set-word .ensures .list) (l .inv .3))
+
+returns : tie.Need-returns Inv-loop μ-loop
+returns c =
+    let l = c .before .loop in
+    let e : l .i ≡ c .before .before .before .before .before .before .args .n = omega arith in
+    rw e at (l .inv .3)
+
+pub copy-rows-spec : {M : Type 1} → statement M
+copy-rows-spec =
+    tie.close
+    (tie.spec
+    Inv-loop
+    μ-loop
+    loop-holds
+    (λ c κs. search needs)
+    (λ c κs. search needs)
+    (λ c. search needs)
+    (λ c. search needs)
+    (λ c. search needs)
+    (λ c. search needs)
+    (λ c. search needs)
+    (λ c. search needs)
+    loop-again
+    (λ c. search needs)
+    (λ c. search needs)
+    returns)

@@ -1,0 +1,164 @@
+-- SPDX-FileCopyrightText: 2026 The PPVM Authors
+-- SPDX-License-Identifier: Apache-2.0
+
+-- What leaks out of a basis. Candidates are words neither in the basis nor protected, each with a sum, in word order.
+use Prim.Native.Nat.{ℕ, zero, suc, _+_, _*_, _/_, _≤_, _<_, min}
+use mathlib.Core.Path.{_≡_}
+use mathlib.Core.Bool.{Bool, not, _&&_, cond}
+use mathlib.Core.List.{List, [], _∷_, map}
+use lib.Dec.{ltb}
+use lib.Ieee.{Float, nan, lt}
+use lib.ListN.{length, getD, take, drop, replicate}
+use Rattle.refusal.specs.declared.Refusal.{Refusal}
+use Rattle.refusal.specs.declared.Refusal.the-variants.{TableFull, SumNotFinite}
+use Rattle.refusal.specs.declared.Answer.the-variants.{Accepted}
+use Rattle.word.specs.Flat.{words}
+use Rattle.word.specs.Word.{identity}
+use Rattle.word.specs.declared.word.Word.{Word}
+use Rattle.number.specs.Floats.{floats, magnitude}
+use Rattle.order.specs.Magnitudes.{byMagnitude}
+use Rattle.order.specs.Places.{isAmong}
+use Rattle.slots.specs.Slots.{Slotted}
+use Rattle.truncate.specs.Retained.{pick}
+use Rattle.truncate.specs.Chosen.{chosen}
+use Rattle.table.specs.declared.sums.Added.{Added}
+use Rattle.table.specs.declared.sums.Added.the-variants as Put
+use Rattle.candidates.specs.Sums.{Row, row}
+use Rattle.candidates.specs.Log.{Rows, table, putRows}
+use Rattle.model.specs.Stored.{Tables}
+use Rattle.model.specs.Given.{Term, Read, got, refused, onward, refuseIf}
+use Rattle.model.specs.Tested.{firstTo, testModel}
+use Rattle.model.specs.declared.tables.Model.{Model}
+use Rattle.action.specs.Acts.{actionOf}
+use Rattle.action.specs.Counts.{touchedBy, AllInside}
+use Rattle.basis.specs.Tests.{notFinite}
+use Rattle.kernel.specs.Near.{ModelIndexed}
+use Rattle.passes.specs.declared.taken.Taken.{Taken}
+use Rattle.passes.specs.declared.taken.Taken.the-variants.{Held, Refused}
+use Rattle.passes.specs.declared.pass.Pending.{Pending}
+use Rattle.passes.specs.declared.pass.Pending.the-variants.{Open, NoRoom}
+
+-- ---- one position
+-- neither in the basis nor protected
+unfoldable pub outside : List Word → List Word → Word → Bool
+outside basis protected w = not (isAmong w basis) && not (isAmong w protected)
+
+-- coefficient × term for each word of an action that passes a test
+unfoldable pub leaked : (Word → Bool) → Float → List Term → Rows
+leaked out c [] = []
+leaked out c (t ∷ ts) = cond (out (t .word)) (row (t .word) (floats .times c (t .num .re)) ∷ leaked out c ts) (leaked out c ts)
+
+-- ---- one pass
+-- positions one after another: table 1, words touched by one action, before table 2, candidates held, for each
+module _ (touched : ℕ → ℕ) (leaks : ℕ → Rows) (sumRoom candidateRoom : ℕ) where
+  unfoldable pub takenBy : List ℕ → Rows → Read Rows
+  takenBy [] T = got T
+  takenBy (p ∷ ps) T =
+      refuseIf (ltb sumRoom (touched p)) (TableFull 1 sumRoom)
+      (refuseIf (ltb candidateRoom (length (putRows (leaks p) T))) (TableFull 2 candidateRoom)
+      (takenBy ps (putRows (leaks p) T)))
+
+abbrev pub sumsOf : Rows → List Float
+sumsOf = map (λ (r : Row Word Float). r .sum)
+
+abbrev pub wordsOf : Rows → List Word
+wordsOf = map (λ (r : Row Word Float). r .word)
+
+-- the room rule: the largest stay, in their order; ties to the lower word
+unfoldable pub largest : ℕ → Rows → Rows
+largest room T = pick (chosen (byMagnitude (sumsOf T)) (replicate (length T) 0) room) T
+
+-- a pass's end: 14 at the first candidate whose sum is not finite, then the room rule
+unfoldable pub ended : ℕ → Rows → Read Rows
+ended room T =
+    let bad : ℕ = firstTo (length T) (notFinite (sumsOf T)) in
+    refuseIf (ltb bad (length T)) (SumNotFinite bad) (got (largest room T))
+
+-- ---- all passes
+abbrev pub passSize : ℕ
+passSize = 4096
+
+abbrev pub passCount : ℕ → ℕ
+passCount n = (n + 4095) / 4096
+
+module _ (touched : ℕ → ℕ) (leaks : ℕ → Rows) (sumRoom candidateRoom room : ℕ) where
+  -- so many passes over the positions
+  unfoldable pub passes : ℕ → List ℕ → Rows → Read Rows
+  passes zero ps T = got T
+  passes (suc k) ps T =
+      onward (takenBy touched leaks sumRoom candidateRoom (take passSize ps) T)
+      (λ T′. onward (ended room T′) (passes k (drop passSize ps)))
+
+-- those with magnitude > tau_add
+abbrev pub isAbove : Float → Float → Bool
+isAbove tau x = lt tau (magnitude x)
+
+unfoldable pub above : Float → Rows → Rows
+above tau [] = []
+above tau (r ∷ rs) = cond (isAbove tau (r .sum)) (r ∷ above tau rs) (above tau rs)
+
+-- ---- of a model
+module _ (m : Model) (t : Tables) (basis : List Word) (coeffs : List Float) (protected : List Word) where
+  abbrev pub touchedAt : ℕ → ℕ
+  touchedAt p = touchedBy m t (getD basis p identity)
+
+  abbrev pub leaksAt : ℕ → Rows
+  leaksAt p = leaked (outside basis protected) (getD coeffs p nan) (actionOf m t (getD basis p identity))
+
+  -- positions in falling magnitude, 4,096 to a pass
+  unfoldable pub candidatesOf : ℕ → ℕ → ℕ → Read Rows
+  candidatesOf sumRoom candidateRoom room = passes touchedAt leaksAt sumRoom candidateRoom room (passCount (length coeffs)) (byMagnitude coeffs) []
+
+-- ---- for the functions that work on lent tables
+-- a tested model with its index, and a mask
+pub record ModelReady (m : Model) (t : Tables) (hIndex jIndex mask : List ℕ) : Type 0 where
+  pub tested : testModel m t ≡ Accepted
+  pub indexed : ModelIndexed m t hIndex jIndex
+  pub h-rows : 64 * m .qubits ≤ length hIndex
+  pub j-rows : 64 * m .qubits ≤ length jIndex
+  pub row : 64 ≤ length mask
+
+-- a basis with a coefficient for each word, and a protected list, each with its slots; the basis words inside the register
+pub record BasisReady (n : ℕ) (basis : List ℕ) (coeffs : List Float) (heads nexts protected fixedHeads fixedNexts : List ℕ) : Type 0 where
+  pub basis-slots : Slotted (words basis) heads nexts
+  pub fixed-slots : Slotted (words protected) fixedHeads fixedNexts
+  pub each : 4 * length coeffs ≡ length basis
+  pub inside : AllInside basis n
+
+-- places for the words of one action, in the tables that hold them
+pub record ActionRoom (room : ℕ) (workWords : List ℕ) (workSums : List Float) (logWords : List ℕ) (logValues : List Float) (order work : List ℕ) : Type 0 where
+  pub work-words : 4 * room ≤ length workWords
+  pub work-sums : 2 * room ≤ length workSums
+  pub log-words : 4 * room ≤ length logWords
+  pub log-values : room ≤ length logValues
+  pub order-long : room ≤ length order
+  pub work-long : room ≤ length work
+
+-- so many rows in use of so many places
+pub record Holding (room n : ℕ) (lanes : List ℕ) (sums : List Float) : Type 0 where
+  pub lanes-long : 4 * room ≤ length lanes
+  pub sums-long : room ≤ length sums
+  pub inside : n ≤ room
+
+-- what is held and logged, with places for more in the log; or that what the log adds finds no room
+pub record Opens (room capacity more : ℕ) (all : Rows) (logWords : List ℕ) (logValues : List Float) (lanes : List ℕ) (sums : List Float) (r : Pending) : Type 0 where
+  pub opened : (held logged : ℕ) → r ≡ Open held logged → (putRows (table logged logWords logValues) (table held lanes sums) ≡ all) × (logged + more ≤ capacity) × (held ≤ room)
+  pub full : r ≡ NoRoom → room < length all
+
+-- what putting the log answers, at a pass's end and where an action found no room
+abbrev pub heldAfter : ℕ → Added → Taken
+heldAfter room (Put.Held n) = Held n
+heldAfter room Put.Full = Refused (TableFull 2 room)
+
+abbrev pub noSums : ℕ → ℕ → Added → Taken
+noSums sumRoom room (Put.Held n) = Refused (TableFull 1 sumRoom)
+noSums sumRoom room Put.Full = Refused (TableFull 2 room)
+
+-- the entries that the log takes
+abbrev pub logPlaces : List ℕ → List Float → List ℕ → List ℕ → ℕ
+logPlaces logWords logValues order work = min (min (length logWords / 4) (length logValues)) (min (length order) (length work))
+
+-- the answer of a step, and the candidates in the lent tables afterwards
+pub record Took (room : ℕ) (course : Read Rows) (lanes : List ℕ) (sums : List Float) (r : Taken) : Type 0 where
+  pub held : (n : ℕ) → r ≡ Held n → (course ≡ got (table n lanes sums)) × (n ≤ room)
+  pub stopped : (q : Refusal) → r ≡ Refused q → course ≡ refused q

@@ -1,0 +1,68 @@
+// SPDX-FileCopyrightText: 2026 The PPVM Authors
+// SPDX-License-Identifier: Apache-2.0
+
+// The candidates whose sum is above a threshold in magnitude: how many there are, and their list.
+ghost use mathlib.Core.Path.{_≡_};
+ghost use Prim.Native.Nat.{_*_, _≤_};
+ghost use lib.ListN.{length, set};
+ghost use Rattle.word.specs.Flat.{layWord};
+ghost use Rattle.candidates.specs.Log.{table};
+ghost use Rattle.model.specs.Laid.{laid};
+ghost use Rattle.passes.specs.Leaks.{isAbove, above, wordsOf, sumsOf, Holding};
+use number::scalar::magnitude;
+use word::flat::set_word;
+use word::flat::word_at;
+
+// Whether a sum is above the threshold in magnitude.
+fn is_above(x: f64, tau_add: f64) -> bool
+    ensures { λ r. ⌜ r ≡ isAbove «tau_add» x ⌝ }
+{
+    let size = magnitude(x);
+    tau_add < size
+}
+
+// How many of the first n candidates are listed.
+pub fn count_above(words: &[u64], sums: &[f64], n: usize, tau_add: f64) -> usize
+    requires { ⌜ Holding n n (now words) (now sums) ⌝ }
+    ensures { λ r. ⌜ r ≡ length (above «tau_add» (table n (now (words .entry)) (now (sums .entry)))) ⌝ }
+{
+    let mut count = 0;
+    let mut i = 0;
+    while i < n {
+        if is_above(sums[i], tau_add) {
+            count += 1;
+            i += 1;
+        } else {
+            i += 1;
+        }
+    }
+    count
+}
+
+// Lays their words and sums one after another.
+pub fn list_above(
+    words: &[u64],
+    sums: &[f64],
+    n: usize,
+    tau_add: f64,
+    out_words: &mut [u64],
+    out_values: &mut [f64],
+)
+    requires { ⌜ Holding n n (now words) (now sums) × (4 * length (above «tau_add» (table n (now words) (now sums))) ≤ length (now «out_words»)) × (length (above «tau_add» (table n (now words) (now sums))) ≤ length (now «out_values»)) ⌝ }
+    ensures { λ _. ⌜ (now («out_words» .exit) ≡ laid layWord 0 (wordsOf (above «tau_add» (table n (now (words .entry)) (now (sums .entry))))) (now («out_words» .entry))) × (now («out_values» .exit) ≡ laid set 0 (sumsOf (above «tau_add» (table n (now (words .entry)) (now (sums .entry))))) (now («out_values» .entry))) ⌝ }
+{
+    let mut place = 0;
+    let mut i = 0;
+    while i < n {
+        let x = sums[i];
+        if is_above(x, tau_add) {
+            let w = word_at(words, i);
+            set_word(out_words, place, w);
+            out_values[place] = x;
+            place += 1;
+            i += 1;
+        } else {
+            i += 1;
+        }
+    }
+}

@@ -1,0 +1,88 @@
+// SPDX-FileCopyrightText: 2026 The PPVM Authors
+// SPDX-License-Identifier: Apache-2.0
+
+// A pass's end: every sum is finite, and the largest candidates stay, as many as there is room for.
+ghost use mathlib.Core.Path.{_≡_};
+ghost use Prim.Native.Nat.{_*_, _≤_};
+ghost use lib.ListN.{length};
+ghost use Rattle.candidates.specs.Log.{table};
+ghost use Rattle.passes.specs.Leaks.{largest, ended, Holding, Took};
+use crate::taken::Taken;
+use basis::tests::first_not_finite;
+use order::magnitudes::order_by_desc_mag;
+use refusal::Refusal;
+use table::clear::clear_lanes;
+use truncate::choose::choose_largest;
+use truncate::retain::retain_in_place;
+use word::flat::WORD_LANES;
+
+// Keeps the largest, ties to the lower word: how many stay. The tables are of exact lengths. Once the
+// order is laid its work table is cleared and says that no candidate is fixed.
+fn retain_largest(
+    words: &mut [u64],
+    sums: &mut [f64],
+    room: usize,
+    order: &mut [u64],
+    work: &mut [u64],
+    kept: &mut [u64],
+) -> usize
+    requires { ⌜ (length (now words) ≡ 4 * length (now sums)) × (length (now order) ≡ length (now sums)) × (length (now work) ≡ length (now sums)) × (length (now kept) ≡ length (now sums)) ⌝ }
+    ensures { λ r. ⌜ (r ≤ length (now (sums .entry))) × (table r (now (words .exit)) (now (sums .exit)) ≡ largest room (table (length (now (sums .entry))) (now (words .entry)) (now (sums .entry)))) ⌝ }
+{
+    let n = sums.len();
+    order_by_desc_mag(sums, order, work);
+    clear_lanes(work);
+    choose_largest(order, work, room, kept);
+    retain_in_place(words, sums, n, kept)
+}
+
+// The room rule on the first n candidates: how many stay. With room for all, or for none, nothing is
+// ordered.
+fn keep_largest(
+    words: &mut [u64],
+    sums: &mut [f64],
+    n: usize,
+    room: usize,
+    order: &mut [u64],
+    work: &mut [u64],
+    kept: &mut [u64],
+) -> usize
+    requires { ⌜ Holding n n (now words) (now sums) × (n ≤ length (now order)) × (n ≤ length (now work)) × (n ≤ length (now kept)) ⌝ }
+    ensures { λ r. ⌜ (r ≤ n) × (table r (now (words .exit)) (now (sums .exit)) ≡ largest room (table n (now (words .entry)) (now (sums .entry)))) ⌝ }
+{
+    if n <= room {
+        return n;
+    }
+    if room == 0 {
+        return 0;
+    }
+    retain_largest(
+        &mut words[..n * WORD_LANES],
+        &mut sums[..n],
+        room,
+        &mut order[..n],
+        &mut work[..n],
+        &mut kept[..n],
+    )
+}
+
+// 14, then the room rule.
+pub fn end_pass(
+    words: &mut [u64],
+    sums: &mut [f64],
+    n: usize,
+    room: usize,
+    order: &mut [u64],
+    work: &mut [u64],
+    kept: &mut [u64],
+) -> Taken
+    requires { ⌜ Holding n n (now words) (now sums) × (n ≤ length (now order)) × (n ≤ length (now work)) × (n ≤ length (now kept)) ⌝ }
+    ensures { λ r. ⌜ Took n (ended room (table n (now (words .entry)) (now (sums .entry)))) (now (words .exit)) (now (sums .exit)) r ⌝ }
+{
+    let bad = first_not_finite(sums, n);
+    if bad < n {
+        return Taken::Refused(Refusal::SumNotFinite { position: bad });
+    }
+    let held = keep_largest(words, sums, n, room, order, work, kept);
+    Taken::Held(held)
+}

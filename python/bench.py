@@ -1,0 +1,185 @@
+# SPDX-FileCopyrightText: 2026 The PPVM Authors
+# SPDX-License-Identifier: Apache-2.0
+"""What the package costs beside the C call: leakage, generator and CSR of a chain of 128 qubits over 65,536
+words, and loading.
+
+usage: python/run bench [--words N] [--rounds R] [--seed S]
+
+The chain has XX, YY and ZZ couplings, Z fields, and the jumps (X + iY)/2 and Z on each qubit; words have one
+to four letters on six neighbouring qubits. Package and C call take turns in one process, each lending
+tables of its own; the C call's are ready before the clock starts. The shortest of the rounds counts. The
+first call of the package, which finds out how long its tables must be, is told apart."""
+import argparse
+import random
+import subprocess
+import sys
+import time
+
+import numpy as np
+
+from pebblelinen import Basis, Model, _library
+
+QUBITS = 128
+LIMIT = 65_536
+# More words than one action touches, and more candidates than are held at a time.
+TOUCHED = 1024
+CANDIDATES = 1 << 17
+# More entries in a column than there are on average.
+ENTRIES = 16
+
+
+def chain(rng):
+    def number():
+        return 1 + rng.randrange(1000) / 1024
+
+    neighbours = [(f"{p}{q} {p}{q + 1}", number()) for q in range(QUBITS - 1) for p in "XYZ"]
+    fields = [(f"Z{q}", number()) for q in range(QUBITS)]
+    decay = [(number(), {f"X{q}": 0.5, f"Y{q}": 0.5j}) for q in range(QUBITS)]
+    dephasing = [(number(), f"Z{q}") for q in range(QUBITS)]
+    return Model(QUBITS, neighbours + fields, decay + dephasing)
+
+
+def local_words(rng, count):
+    found = {}
+    while len(found) < count:
+        first = rng.randrange(QUBITS - 5)
+        x = z = 0
+        for _ in range(rng.randint(1, 4)):
+            bit = 1 << first + rng.randrange(6)
+            letter = rng.choice("XYZ")
+            x, z = x & ~bit | bit * (letter != "Z"), z & ~bit | bit * (letter != "X")
+        low = (1 << 64) - 1
+        found[x & low, x >> 64, z & low, z >> 64] = None
+    return np.array(list(found), np.uint64)
+
+
+def c_call(name, *arguments):
+    """A call with all its arguments ready: the address and length of each array."""
+    arrays = [array for array in arguments if isinstance(array, np.ndarray)]
+    passed = []
+    for argument in arguments:
+        if isinstance(argument, np.ndarray):
+            passed += [argument.ctypes.data, argument.size]
+        else:
+            passed.append(argument)
+    function = _library._function(name)
+
+    def call():
+        assert arrays
+        answer = function(*passed)
+        assert answer.status.refusal == 0, answer.status.refusal
+        return answer.count
+
+    return call
+
+
+def tables(lengths, types):
+    return [
+        np.zeros(getattr(lengths, name), types.get(name, np.uint64)) for name, _ in lengths._fields_
+    ]
+
+
+def leakage_call(model, basis):
+    lengths = _library.call("leakage_sizes", QUBITS, len(basis), 0, TOUCHED, CANDIDATES)
+    floats = dict.fromkeys("work_sums log_values cand_sums next_sums".split(), np.float64)
+    return c_call(
+        "leakage_with_prune",
+        *model._lent(),
+        basis.lanes,
+        basis.coefficients,
+        len(basis),
+        np.zeros(0, np.uint64),
+        _library.Limits(LIMIT, 0, 0, 0, 0.0),
+        *tables(lengths, floats),
+        np.zeros(4 * LIMIT, np.uint64),
+        np.zeros(LIMIT),
+    )
+
+
+def generator_call(name, model, basis, first):
+    entries = ENTRIES * len(basis)
+    lengths = _library.call("generator_sizes", QUBITS, len(basis), TOUCHED, entries)
+    types = dict(work_sums=np.float64, stage_values=np.float64, stage_rows=np.uint32, stage_columns=np.uint32)
+    return c_call(
+        name,
+        *model._lent(),
+        basis.lanes,
+        len(basis),
+        *tables(lengths, types),
+        first(entries),
+        np.zeros(entries, np.uint32),
+        np.zeros(entries),
+    )
+
+
+def timed(call):
+    # The processor's time, since other work on the machine is none of ours.
+    start = time.process_time()
+    count = call()
+    return time.process_time() - start, count
+
+
+def compare(what, package, direct, rounds):
+    first, count = timed(package)
+    best = {package: first, direct: float("inf")}
+    for _ in range(rounds):
+        for call in direct, package:
+            seconds, listed = timed(call)
+            assert listed == count, (listed, count)
+            best[call] = min(best[call], seconds)
+    over = best[package] / best[direct] - 1
+    print(
+        f"{what}: C call {best[direct] * 1e3:.1f} ms, package {best[package] * 1e3:.1f} ms"
+        f" ({over * 100:+.1f} %), its first call {first * 1e3:.1f} ms, {count} listed"
+    )
+    return over
+
+
+def loading():
+    """Seconds until a word was read, in a fresh process: the clock's and the processor's."""
+    program = (
+        "import time; clocks = time.perf_counter, time.process_time; start = [c() for c in clocks];"
+        "import pebblelinen; pebblelinen.Word('X', n=1);"
+        "print(*(c() - s for c, s in zip(clocks, start)))"
+    )
+    ran = [subprocess.run([sys.executable, "-c", program], capture_output=True, text=True) for _ in range(15)]
+    return [min(times) for times in zip(*(map(float, each.stdout.split()) for each in ran))]
+
+
+def main():
+    parser = argparse.ArgumentParser(prog="python/run bench")
+    parser.add_argument("--words", type=int, default=65_536)
+    parser.add_argument("--rounds", type=int, default=9)
+    parser.add_argument("--seed", type=int, default=1)
+    options = parser.parse_args()
+    rng = random.Random(options.seed)
+    model = chain(rng)
+    words = local_words(rng, options.words)
+    basis = Basis.from_arrays(QUBITS, words, [rng.uniform(-0.5, 0.5) for _ in words])
+    print(f"{model}, {len(basis)} words, limit {LIMIT}")
+
+    import scipy.sparse  # noqa: F401  loaded once, not in the first call
+
+    comparisons = [
+        ("leakage", lambda: len(model.leakage(basis, max_basis=LIMIT)), lambda: leakage_call(model, basis)),
+        (
+            "generator",
+            lambda: model.generator(basis).nnz,
+            lambda: generator_call("generator", model, basis, lambda k: np.zeros(k, np.uint32)),
+        ),
+        (
+            "CSR",
+            lambda: model.csr(basis).nnz,
+            lambda: generator_call("build_csr", model, basis, lambda k: np.zeros(len(basis) + 1, np.uint64)),
+        ),
+    ]
+    worst = max(
+        compare(what, package, direct(), options.rounds) for what, package, direct in comparisons
+    )
+    clock, processor = loading()
+    print(f"loading: {clock:.3f} s, {processor:.3f} s of the processor")
+    return 0 if worst < 0.05 and processor < 0.3 else 1
+
+
+if __name__ == "__main__":
+    sys.exit(main())

@@ -1,0 +1,42 @@
+# SPDX-FileCopyrightText: 2026 The PPVM Authors
+# SPDX-License-Identifier: Apache-2.0
+"""Pebblelinen: how noise moves an observable of a quantum device.
+
+The adjoint Lindblad generator on Pauli words of up to 128 qubits. Every answer comes from a library that is
+proved to give it; this package carries numbers in and out.
+
+    from pebblelinen import Basis, Model
+
+    model = Model(2, {"X0 X1": 1.0}, [(0.1, {"X0": 0.5, "Y0": 0.5j})])
+    print(model.action("Z0"))
+"""
+from .basis import Basis, Entry
+from .errors import CAUSES, InputError, LibraryMissing, PebblelinenError, Refusal
+from .matrix import Choice, product, row, select_ms
+from .model import Degree, Model, Norm
+from .modelfile import ModelFile, load
+from .terms import Terms
+from .words import Position, Qubit, Word
+
+__all__ = [
+    "Basis",
+    "CAUSES",
+    "Choice",
+    "Degree",
+    "Entry",
+    "InputError",
+    "LibraryMissing",
+    "Model",
+    "ModelFile",
+    "Norm",
+    "PebblelinenError",
+    "Position",
+    "Qubit",
+    "Refusal",
+    "Terms",
+    "Word",
+    "load",
+    "product",
+    "row",
+    "select_ms",
+]

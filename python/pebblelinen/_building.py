@@ -1,0 +1,292 @@
+# SPDX-FileCopyrightText: 2026 The PPVM Authors
+# SPDX-License-Identifier: Apache-2.0
+"""Building a model: what was given as flat tables, the library's own tables, and, where it refuses, the
+item that is to blame.
+
+The library says by which cause and index it refused. Which item has the text or the number that is meant is
+found by asking it again about one item at a time."""
+from collections.abc import Mapping
+
+import numpy as np
+
+from . import _given, _library, words
+from ._tables import work_tables, zeros
+from .errors import CAUSES, InputError, Refusal
+from .words import Word
+
+TABLES = "h_words h_coeffs jumps rates t_words t_numbers".split()
+_LANES = {"h_words", "jumps", "t_words"}
+# Numbers that a place takes.
+_EACH = dict(h_words=4, h_coeffs=1, jumps=8, rates=1, t_words=4, t_numbers=2)
+
+_RANGE = "0, or 2^-200 to 2^200 in magnitude, is needed"
+_LIMITS = {"hamiltonian": 4096, "jumps": 4096, "terms": 16, "operators": 64}
+
+
+# ---- what was given ----
+
+
+def hamiltonian_of(given, n, path=("hamiltonian",)):
+    """(text, number, word as given) of each item."""
+    items = _given.pairs(given, "Hamiltonian item", path)
+    return [
+        (
+            words.bytes_of(word, n, (*path, i)),
+            _given.real(x, f"the number of Hamiltonian item {i}", (*path, i)),
+            word,
+        )
+        for i, (word, x) in enumerate(items)
+    ]
+
+
+def jumps_of(given, n, path=("jumps",)):
+    """(rate, terms) of each jump."""
+    items = _given.pairs(_listed_only(given, "jumps", path), "jump", path)
+    return [
+        (
+            _given.real(rate, f"the rate of jump {i}", (*path, i, "rate")),
+            operator_of(operator, n, (*path, i, "operator")),
+        )
+        for i, (rate, operator) in enumerate(items)
+    ]
+
+
+def matrices_of(given, n, path=("matrices",)):
+    """(operators, K) of each matrix; K is flat."""
+    found = []
+    for i, (operators, k) in enumerate(_given.pairs(_listed_only(given, "matrices", path), "matrix", path)):
+        where = (*path, i, "operators")
+        listed = _given.listed(_listed_only(operators, "operators", where), "operators", where)
+        terms = [operator_of(operator, n, (*where, j)) for j, operator in enumerate(listed)]
+        found.append((terms, entries_of(k, len(terms), (*path, i, "k"))))
+    return found
+
+
+def _listed_only(given, what, path):
+    if isinstance(given, Mapping):
+        raise InputError(f"{what} is a mapping: a list is needed", path)
+    return given
+
+
+def operator_of(given, n, path):
+    """(text, number, word as given) of each term. A word alone is an operator of one term with the
+    number 1."""
+    alone = isinstance(given, (str, Word)) or (
+        isinstance(given, Mapping) and given and not any(isinstance(k, (str, Word)) for k in given)
+    )
+    if alone:
+        return [(words.bytes_of(given, n, path), 1 + 0j, given)]
+    return [
+        (
+            words.bytes_of(word, n, (*path, i)),
+            _given.number(x, f"the number of term {i}", (*path, i)),
+            word,
+        )
+        for i, (word, x) in enumerate(_given.pairs(given, "term", path))
+    ]
+
+
+def entries_of(given, k, path):
+    """The entries of K, row by row. As many rows as operators are asked for, of as many entries each: the
+    library sees only how many entries there are, and judges that."""
+    if isinstance(given, np.ndarray) and given.dtype.kind in "fciu":
+        given = given.tolist()
+    rows = [_given.listed(row, "a row of K", (*path, i)) for i, row in enumerate(_given.listed(given, "K", path))]
+    entries = [
+        _given.number(x, f"K[{i}][{j}]", (*path, i, j))
+        for i, row in enumerate(rows)
+        for j, x in enumerate(row)
+    ]
+    if len(entries) == k * k and any(len(row) != k for row in rows):
+        lengths = ", ".join(str(len(row)) for row in rows)
+        raise InputError(f"K has rows of {lengths} entries: {k} rows of {k} are needed", path)
+    return entries
+
+
+def flat(operators):
+    """Counts of terms and their numbers, and the texts of the terms."""
+    terms = [term for operator in operators for term in operator]
+    counts = np.array([len(operator) for operator in operators], np.uint64)
+    return [text for text, *_ in terms], counts, _given.parts([x for _, x, _ in terms])
+
+
+def joined(texts):
+    """The bytes of all texts, and the length of each."""
+    bytes_ = np.concatenate(texts) if texts else np.zeros(0, np.uint8)
+    return bytes_, np.array([len(text) for text in texts], np.uint64)
+
+
+# ---- the library's tables ----
+
+
+def build(n, hamiltonian, jumps):
+    """The answer and the tables of a model."""
+    longest = max((len(terms) for _, terms in jumps), default=0)
+    sizes = _library.call("model_sizes", len(hamiltonian), len(jumps), longest)
+    texts, counts, numbers = flat([terms for _, terms in jumps])
+    given = [
+        *joined([text for text, *_ in hamiltonian] + texts),
+        np.array([x for _, x, _ in hamiltonian], np.float64),
+        np.array([rate for rate, _ in jumps], np.float64),
+        counts,
+        numbers,
+    ]
+    tables = {name: _table(name, getattr(sizes, name)) for name in TABLES}
+    with work_tables() as work:
+        built = _library.call("build_model", *given, n, *tables.values(), *_lent(work, sizes))
+    return built, tables
+
+
+def add_matrix(counts, tables, operators, entries):
+    """The answer and the tables, which become longer where they must."""
+    longest = max((len(terms) for terms in operators), default=0)
+    sizes = _library.call("matrix_sizes", len(operators), longest)
+    tables = {name: _longer(name, tables[name], counts, getattr(sizes, name)) for name in TABLES}
+    texts, term_counts, numbers = flat(operators)
+    given = [*joined(texts), term_counts, numbers, _given.parts(entries)]
+    with work_tables() as work:
+        added = _library.call(
+            "add_kossakowski", counts, *given, *tables.values(), *_lent(work, sizes)
+        )
+    return added, tables
+
+
+def _lent(work, sizes):
+    return [
+        work.table("work_words", sizes.work_words),
+        work.table("work_numbers", sizes.work_numbers),
+    ]
+
+
+def _table(name, length):
+    return zeros(length, np.uint64 if name in _LANES else np.float64)
+
+
+def _in_use(name, counts):
+    places = dict(h_words="hamiltonian", h_coeffs="hamiltonian", jumps="jumps", rates="jumps")
+    return _EACH[name] * getattr(counts, places.get(name, "terms"))
+
+
+def _longer(name, table, counts, more):
+    used = _in_use(name, counts)
+    if len(table) >= used + more:
+        return table
+    made = _table(name, 2 * (used + more))
+    made[:used] = table[:used]
+    return made
+
+
+def trimmed(tables, counts):
+    """The places in use, so that a model holds no more than it needs."""
+    return {name: table[: _in_use(name, counts)].copy() for name, table in tables.items()}
+
+
+# ---- refusals ----
+
+
+def model_refusal(status, n, hamiltonian, jumps):
+    """The refusal of building."""
+    number, first = status.refusal, status.first
+    if number == 1:
+        return words.text_refusal(status, "", n, ("n",))
+    if number == 8:
+        for what, items in ("hamiltonian", hamiltonian), ("jumps", jumps):
+            if len(items) > _LIMITS[what]:
+                return _count(first, what, "the model", {}, (what,))
+    for i, item in enumerate(hamiltonian):
+        if build(n, [item], [])[0].status.refusal:
+            return _hamiltonian_refusal(status, n, i, item)
+    for i, (rate, terms) in enumerate(jumps):
+        if build(n, [], [(rate, terms)])[0].status.refusal:
+            return _jump_refusal(status, n, i, rate, terms)
+    return _unexplained(status, "the model")
+
+
+def _hamiltonian_refusal(status, n, i, item):
+    _, x, word = item
+    what, path = f"Hamiltonian item {i}", ("hamiltonian", i)
+    if status.refusal == 7:
+        return Refusal(7, f"{what} has the number {x}: {_RANGE}", {"item": i}, path)
+    return _text_refusal(status, word, n, what, {"item": i}, path)
+
+
+def _jump_refusal(status, n, i, rate, terms):
+    what, path, values = f"jump {i}", ("jumps", i), {"jump": i}
+    if status.refusal == 5:
+        return Refusal(5, f"{what} has the rate {rate}, below 0", values, (*path, "rate"))
+    sound = [(np.frombuffer(b"I" * n, np.uint8), 1, None)]
+    if build(n, [], [(rate, sound)])[0].status.refusal:
+        return Refusal(7, f"{what} has the rate {rate}: {_RANGE}", values, (*path, "rate"))
+    return _operator_refusal(status, n, what, terms, values, (*path, "operator"))
+
+
+def matrix_refusal(status, n, i, operators, entries):
+    """The refusal of matrix i."""
+    number, first, second = status.refusal, status.first, status.second
+    what, values, path = f"matrix {i}", {"matrix": i}, ("matrices", i)
+    k = len(operators)
+    if number == 9:
+        said = f"{what} has {second} entries in K, and its {k} operators need {first}"
+        return Refusal(9, said, values | {"needed": first, "given": second}, (*path, "k"))
+    if number == 10:
+        said = f"{what}: K[{first}][{second}] is not the conjugate of K[{second}][{first}]"
+        return Refusal(10, said, values | {"row": first, "column": second}, (*path, "k", first, second))
+    if number == 8 and k > _LIMITS["operators"]:
+        return _count(first, "operators", what, values, (*path, "operators"))
+    if number == 7 and _alone(n, operators, [0j] * (k * k)) != 7:
+        row, column = divmod(first, k)
+        values |= {"place": first, "row": row, "column": column}
+        said = f"{what}: K[{row}][{column}] is {entries[first]}: {_RANGE}"
+        return Refusal(7, said, values, (*path, "k", row, column))
+    for j, terms in enumerate(operators):
+        if _alone(n, [terms], [0j]):
+            values |= {"operator": j}
+            where = (*path, "operators", j)
+            return _operator_refusal(status, n, f"operator {j} of {what}", terms, values, where)
+    if number == 8:
+        return _count(first, "jumps", "the model", values, path)
+    return _unexplained(status, what)
+
+
+def _alone(n, operators, entries):
+    """The number by which a matrix is refused that is added to an empty model, or 0."""
+    built, tables = build(n, [], [])
+    return add_matrix(built.model, tables, operators, entries)[0].status.refusal
+
+
+def _operator_refusal(status, n, what, terms, values, path):
+    """The refusal of an operator's terms."""
+    if status.refusal == 6:
+        return Refusal(6, f"{what} has no terms", values, path)
+    if status.refusal == 8:
+        return _count(status.first, "terms", what, values, path)
+    for j, term in enumerate(terms):
+        if build(n, [], [(0.0, [term])])[0].status.refusal:
+            _, x, word = term
+            if status.refusal == 7:
+                said = f"term {j} of {what} has the number {x}: {_RANGE}"
+                return Refusal(7, said, values, (*path, j))
+            return _text_refusal(status, word, n, f"term {j} of {what}", values, (*path, j))
+    return _unexplained(status, what)
+
+
+def _text_refusal(status, word, n, what, values, path):
+    found = words.text_refusal(status, word, n, path)
+    return Refusal(found.number, f"{what}: {found.said}", values | found.values, path)
+
+
+def _count(count, what, of, values, path):
+    names = {
+        "hamiltonian": "Hamiltonian items",
+        "terms": "terms",
+        "operators": "operators",
+        "jumps": "jumps and pairs",
+    }
+    limit = _LIMITS[what]
+    said = f"{of} has {count} {names[what]}: at most {limit}"
+    return Refusal(8, said, values | {"count": count, "limit": limit}, path)
+
+
+def _unexplained(status, what):
+    values = {"first": status.first, "second": status.second}
+    return Refusal(status.refusal, f"{what}: {CAUSES[status.refusal]} {tuple(values.values())}", values)

@@ -1,0 +1,140 @@
+# SPDX-FileCopyrightText: 2026 The PPVM Authors
+# SPDX-License-Identifier: Apache-2.0
+"""Numbers and arrays as a user gives them, as the numbers and tables that the library takes.
+
+Only what cannot be handed over is turned away here. Ranges and limits are the library's to judge: a NaN,
+a rate below 0 or 70,000 words go through."""
+import operator
+import reprlib
+from collections.abc import Mapping
+
+import numpy as np
+
+from .errors import InputError
+
+_short = reprlib.Repr()
+_short.maxstring = _short.maxother = _short.maxlong = 60
+
+
+def whole(given, what, path=()):
+    """A number of 64 bits."""
+    if _is_number(given):
+        try:
+            value = operator.index(given)
+        except TypeError:
+            pass
+        else:
+            if 0 <= value < 1 << 64:
+                return value
+            raise InputError(f"{what} is {shown(value)}: from 0 to 2^64 - 1 is needed", path)
+    raise InputError(f"{what} is {shown(given)}: a whole number is needed", path)
+
+
+def real(given, what, path=()):
+    if _is_number(given) and not isinstance(given, (complex, np.complexfloating)):
+        try:
+            return float(given)
+        except (TypeError, ValueError, OverflowError):
+            pass
+    raise InputError(f"{what} is {shown(given)}: a real number is needed", path)
+
+
+def number(given, what, path=()):
+    """A complex number."""
+    if _is_number(given):
+        try:
+            return complex(given)
+        except (TypeError, ValueError, OverflowError):
+            pass
+    raise InputError(f"{what} is {shown(given)}: a number is needed", path)
+
+
+def _is_number(given):
+    # Texts and truth values have a float, arrays of one number too; and a qubit or a position is no
+    # number of anything else.
+    others = str, bytes, bytearray, bool, np.bool_, np.ndarray
+    return not isinstance(given, others) and not hasattr(given, "_kind")
+
+
+def shown(given):
+    """What was given, in few letters, and quickly, however much it is."""
+    try:
+        return _short.repr(given)
+    except Exception:
+        return f"a {type(given).__name__}"
+
+
+def counted(count, one, many=None):
+    """1 word, 2 words."""
+    return f"{count} {one if count == 1 else many or one + 's'}"
+
+
+def pairs(given, what, path=()):
+    """A list of pairs, given as such or as a mapping."""
+    items = listed(given.items() if isinstance(given, Mapping) else given, what, path)
+    for place, item in enumerate(items):
+        if isinstance(item, (str, bytes, Mapping)) or not hasattr(item, "__len__") or len(item) != 2:
+            raise InputError(f"{what} {place} is {shown(item)}: a pair is needed", (*path, place))
+    return items
+
+
+def listed(given, what, path=()):
+    if isinstance(given, (str, bytes)):
+        raise InputError(f"{what} is the text {shown(given)}: a list is needed", path)
+    try:
+        return list(given)
+    except TypeError:
+        raise InputError(f"{what} is {shown(given)}: a list is needed", path) from None
+
+
+def array(given, what):
+    """An array of whatever type was given, which is not copied."""
+    if isinstance(given, np.ma.MaskedArray):
+        raise InputError(f"{what} is a masked array: fill it first")
+    if not hasattr(given, "__len__"):
+        given = listed(given, what)
+    try:
+        made = np.asarray(given)
+    except (ValueError, TypeError, OverflowError) as error:
+        raise InputError(f"{what} is no array of numbers: {error}") from None
+    # Of an empty array the type says nothing.
+    return made if made.size else np.zeros(made.shape, np.uint64)
+
+
+def numbers(given, what):
+    """A table of real numbers: the array itself, where it can be lent."""
+    made = array(given, what)
+    if made.size and (made.dtype.kind not in "fiu" or not np.can_cast(made.dtype, np.float64)):
+        raise InputError(f"{what} is an array of {made.dtype}: float64 is needed")
+    if made.ndim != 1:
+        raise InputError(f"{what} has {made.ndim} dimensions: 1 is needed")
+    return np.require(made, np.float64, ["C", "A"])
+
+
+def lanes(given, what):
+    """A flat table of words, four lanes each: the array itself, where it can be lent. A last word may
+    be cut off, for the library to refuse."""
+    if not hasattr(given, "__len__"):
+        given = listed(given, what)
+    made = array(given, what)
+    if made.dtype.kind in "fO" and not hasattr(given, "__array__"):
+        # Lanes from 2^63 on, beside others, are not whole numbers to numpy.
+        made = _whole_array(given, what)
+    if made.dtype.kind not in "iu":
+        raise InputError(f"{what} is an array of {made.dtype}: uint64 is needed")
+    if made.dtype.kind == "i" and made.size and made.min() < 0:
+        raise InputError(f"{what} has a number below 0: lanes are uint64")
+    if made.ndim != 1 and made.shape[1:] != (4,):
+        raise InputError(f"{what} has the shape {made.shape}: (words, 4) is needed")
+    return np.require(made, np.uint64, ["C", "A"]).reshape(-1)
+
+
+def _whole_array(given, what):
+    objects = np.array(given, object)
+    lanes = [whole(x, f"a lane of {what}") for x in objects.reshape(-1)]
+    return np.array(lanes, np.uint64).reshape(objects.shape)
+
+
+def parts(given):
+    """Real part, imaginary part of each number."""
+    return np.array(given, np.complex128).view(np.float64)

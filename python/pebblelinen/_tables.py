@@ -1,0 +1,79 @@
+# SPDX-FileCopyrightText: 2026 The PPVM Authors
+# SPDX-License-Identifier: Apache-2.0
+"""Work tables: lent by the lengths that the library names, and lent again larger where it says that a
+table was too short (refusal 13).
+
+The library leaves work tables zero after an accepted call and after refusals 13 and 14, and as they were
+after every other refusal. So tables that were zero once stay zero, and are kept for the next call."""
+from contextlib import contextmanager
+
+import numpy as np
+
+# Of tables whose numbers are not of 64 bits without sign.
+_TYPES = {
+    **dict.fromkeys(
+        "work_sums work_numbers log_values cand_sums next_sums stage_values raws diags".split(),
+        np.float64,
+    ),
+    **dict.fromkeys("stage_rows stage_columns".split(), np.uint32),
+}
+
+# The most words that one action of a built model touches: one for each Hamiltonian term, and for each
+# jump or pair one for each two terms of its operators, and one for each word of their product.
+MOST_TOUCHED = 4096 + 4096 * (16 * 16 + 16 * 16)
+
+# What is kept from call to call, in bytes.
+_MOST_KEPT = 256 << 20
+
+_kept = []
+
+
+@contextmanager
+def work_tables():
+    """Tables for one call, which nobody else has. Those of a call that was broken off are dropped."""
+    try:
+        tables = _kept.pop()
+    except IndexError:
+        tables = WorkTables()
+    yield tables
+    if not _kept and tables.bytes() <= _MOST_KEPT:
+        _kept.append(tables)
+
+
+class WorkTables:
+    def __init__(self):
+        self._tables = {}
+
+    def lend(self, lengths, **more):
+        """A zeroed table for each length, in their order."""
+        named = {name: getattr(lengths, name) for name, _ in lengths._fields_}
+        return [self.table(name, length) for name, length in (named | more).items()]
+
+    def table(self, name, length):
+        table = self._tables.get(name)
+        if table is None or len(table) < length:
+            # The shorter one goes first, so that both are never held at once.
+            table = None
+            self._tables.pop(name, None)
+            table = self._tables[name] = zeros(length, _TYPES.get(name, np.uint64))
+        return table[:length]
+
+    def bytes(self):
+        return sum(table.nbytes for table in self._tables.values())
+
+
+def zeros(length, dtype):
+    """A zeroed table, unless the machine has no room for it: memory that is promised and not there ends
+    the process when it is used."""
+    wanted = length * np.dtype(dtype).itemsize
+    if wanted > 1 << 28 and wanted > _available() // 4:
+        raise MemoryError(f"a table of {wanted} bytes is more than the machine has left")
+    return np.zeros(length, dtype)
+
+
+def _available():
+    with open("/proc/meminfo") as lines:
+        for line in lines:
+            if line.startswith("MemAvailable:"):
+                return int(line.split()[1]) << 10
+    return 1 << 62

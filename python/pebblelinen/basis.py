@@ -1,0 +1,338 @@
+# SPDX-FileCopyrightText: 2026 The PPVM Authors
+# SPDX-License-Identifier: Apache-2.0
+"""A basis: an ordered list of words with a coefficient each."""
+import threading
+from typing import NamedTuple
+
+import numpy as np
+
+from . import _given, _library
+from ._tables import work_tables, zeros
+from .errors import InputError, Refusal
+from .terms import Terms
+from .words import (
+    MAX_QUBITS,
+    AnyWord,
+    Position,
+    Qubit,
+    Word,
+    lanes_of,
+    made,
+    qubits,
+    register,
+    table,
+    text_refusal,
+)
+
+# The most words of a list, and the largest word limit.
+MAX_WORDS = 65_536
+
+# How many entries are shown.
+_SHOWN = 20
+
+
+class Entry(NamedTuple):
+    position: Position
+    word: Word
+    coefficient: float
+
+    def __str__(self):
+        return f"{self.position}: {self.word.by_site}, coefficient {self.coefficient!r}"
+
+
+class Basis:
+    """Words with a coefficient each, told apart by their position.
+
+    A word may stand at several positions. Entries are given as (word, coefficient) pairs or as a
+    mapping.
+    """
+
+    def __init__(self, n: int, entries=()):
+        self.n = register(n)
+        terms = Terms.of(entries, n=self.n)
+        self._hold(terms.lanes, terms.values, own=not isinstance(entries, Terms))
+
+    @classmethod
+    def from_arrays(cls, n: int, words, coefficients=None) -> "Basis":
+        """The basis of an array of lanes, of the shape (entries, 4), and one of coefficients, which are
+        0 where none are given.
+
+        Arrays that can be lent as they are are not copied: the basis reads them where they are, and
+        takes a copy of its own before it changes anything."""
+        self = object.__new__(cls)
+        self.n = register(n)
+        lanes = _given.lanes(words, "words")
+        if coefficients is None:
+            coefficients = np.zeros(len(lanes) // 4)
+        self._hold(lanes, _given.numbers(coefficients, "coefficients"), own=False)
+        return self
+
+    def _hold(self, lanes, coefficients, own):
+        if 4 * len(coefficients) != len(lanes):
+            raise InputError(
+                f"{len(coefficients)} coefficients beside {len(lanes)} lanes: each has a word of 4"
+            )
+        self._lanes = lanes
+        self._coefficients = coefficients
+        self._len = len(coefficients)
+        self._own = own
+        # The library reads and writes the tables while other threads run.
+        self._lock = threading.RLock()
+
+    def copy(self) -> "Basis":
+        with self._lock:
+            other = object.__new__(Basis)
+            other.n = self.n
+            other._hold(self.lanes.copy(), self.coefficients.copy(), own=True)
+            return other
+
+    __copy__ = copy
+
+    def __deepcopy__(self, memo):
+        return self.copy()
+
+    def __reduce__(self):
+        return Basis.from_arrays, (self.n, self.words, self.coefficients)
+
+    @property
+    def lanes(self):
+        """The words in use, flat."""
+        return self._lanes[: 4 * self._len]
+
+    @property
+    def words(self):
+        """The words, four lanes each: an array of uint64 of the shape (entries, 4), to be read only."""
+        view = self.lanes.reshape(-1, 4)
+        view.flags.writeable = False
+        return view
+
+    @property
+    def coefficients(self):
+        """The coefficients by position. It is a view: after a call that changes the basis, ask again."""
+        return self._coefficients[: self._len]
+
+    @coefficients.setter
+    def coefficients(self, given):
+        given = _given.numbers(given, "coefficients")
+        if len(given) != self._len:
+            raise InputError(f"{len(given)} coefficients for {self._shown_len()}")
+        with self._lock:
+            self._take_over()
+            self._coefficients[: self._len] = given
+
+    def __len__(self):
+        return self._len
+
+    def entry(self, *, position: Position | int) -> Entry:
+        """The entry at a position."""
+        p = int(Position(position))
+        if p >= self._len:
+            raise InputError(f"position {p} is outside the basis of {self._shown_len()}")
+        lanes = self._lanes[4 * p : 4 * p + 4].tolist()
+        return Entry(Position(p), made(lanes, self.n), float(self._coefficients[p]))
+
+    def __iter__(self):
+        for p in range(self._len):
+            yield self.entry(position=p)
+
+    def positions(self, word: AnyWord) -> list[Position]:
+        """The positions at which a word stands."""
+        lanes = np.array(lanes_of(word, self.n), np.uint64)
+        return [Position(p) for p in np.flatnonzero((self.words == lanes).all(axis=1)).tolist()]
+
+    def touching(self, *, qubit: Qubit | int) -> list[Position]:
+        """The positions whose words have a letter other than I at a qubit."""
+        q = int(Qubit(qubit))
+        if q >= min(self.n, MAX_QUBITS):
+            raise InputError(f"qubit {q} is outside the register of {qubits(self.n)}")
+        lane, bit = q // 64, np.uint64(1 << q % 64)
+        found = (self.words[:, lane] | self.words[:, 2 + lane]) & bit
+        return [Position(p) for p in np.flatnonzero(found).tolist()]
+
+    def by_site(self) -> dict[str, float]:
+        """The coefficients by the words' texts: {"X12 Z40": 0.5}. Of a word that comes twice, the
+        last."""
+        return {entry.word.by_site: entry.coefficient for entry in self}
+
+    def __str__(self):
+        lines = [f"basis of {self._shown_len()} on {qubits(self.n)}"]
+        lines += [str(self.entry(position=p)) for p in range(min(self._len, _SHOWN))]
+        if self._len > _SHOWN:
+            lines.append(f".. and {self._len - _SHOWN} more")
+        return "\n".join(lines)
+
+    def __repr__(self):
+        return f"Basis of {self._shown_len()} on {qubits(self.n)}"
+
+    def _shown_len(self):
+        return _given.counted(self._len, "entry", "entries")
+
+    # ---- changes ----
+
+    def prune(self, *, drop_tol: float, protected=()) -> int:
+        """Drops the entries whose coefficient is below drop_tol in magnitude, but for those of protected
+        words. Returns how many entries there are then."""
+        drop_tol = _given.real(drop_tol, "drop_tol")
+        return self._shorten("prune_basis", drop_tol, protected, {}, {"drop_tol": drop_tol})
+
+    def cap(self, *, limit: int, protected=()) -> int:
+        """Keeps the entries of protected words and the largest others, so many that there are limit in
+        all; of equally large ones the lower positions. Returns how many entries there are then."""
+        limit = _given.whole(limit, "limit")
+        return self._shorten("cap_basis", limit, protected, {"limit": limit}, {})
+
+    def _shorten(self, name, number, protected, limits, thresholds):
+        fixed = table(protected, self.n, "protected")
+        with self._lock:
+            self._take_over()
+            fixed = self._apart(fixed)
+            lengths = _library.call("basis_sizes", self._len, len(fixed) // 4, 0)
+            with work_tables() as tables:
+                kept = _library.call(
+                    name,
+                    self.n,
+                    self._lanes,
+                    self._coefficients,
+                    self._len,
+                    fixed,
+                    number,
+                    *tables.lend(lengths),
+                )
+            if kept.status.refusal:
+                raise refusal(kept.status, self, "protected", fixed, limits, thresholds)
+            self._len = kept.entries
+            return self._len
+
+    def admit(self, listed, *, limit: int) -> int:
+        """Appends words, each with coefficient 0, in the order in which they are listed: as many as
+        there is room for below limit, those whose listed value is largest in magnitude. Returns how many
+        entries there are then.
+
+        Words are listed by terms, as leakage gives them, by (word, value) pairs or by a mapping."""
+        terms = Terms.of(listed, n=self.n)
+        limit = _given.whole(limit, "limit")
+        with self._lock:
+            self._take_over()
+            list_, values = self._apart(terms.lanes), self._apart(terms.values)
+            lengths = _library.call("basis_sizes", 0, 0, len(list_) // 4)
+            while True:
+                with work_tables() as tables:
+                    order, work, _, flags = tables.lend(lengths)
+                    kept = _library.call(
+                        "add_leakage_capped",
+                        self.n,
+                        self._lanes,
+                        self._coefficients,
+                        self._len,
+                        list_,
+                        values,
+                        limit,
+                        order,
+                        work,
+                        flags,
+                    )
+                # Places for the entries and all that is listed are enough.
+                places, enough = kept.status.second, self._len + len(list_) // 4
+                if kept.status.refusal != 13 or places >= enough:
+                    break
+                self._reserve(min(2 * places + 64, enough))
+            if kept.status.refusal:
+                raise refusal(kept.status, self, "listed", list_, {"limit": limit}, {}, values)
+            self._len = kept.entries
+            return self._len
+
+    def _take_over(self):
+        """Before a change: the tables are to be our own."""
+        if not self._own:
+            self._lanes, self._coefficients = self.lanes.copy(), self.coefficients.copy()
+            self._own = True
+
+    def _apart(self, given):
+        """An array that shares no memory with what is to be written."""
+        ours = self._lanes, self._coefficients
+        return given.copy() if any(np.may_share_memory(given, table) for table in ours) else given
+
+    def _reserve(self, places):
+        lanes, coefficients = zeros(4 * places, np.uint64), zeros(places, np.float64)
+        lanes[: 4 * self._len] = self.lanes
+        coefficients[: self._len] = self.coefficients
+        self._lanes, self._coefficients = lanes, coefficients
+
+
+def refusal(status, basis, others="", lanes=(), limits={}, thresholds={}, values=None):
+    """The refusal of a call on a basis, with its values under names.
+
+    others       what a second list of words is called, and its lanes; its values, where it has some
+    limits       word limits by their names
+    thresholds   by their names
+    """
+    number, first, second = status.refusal, status.first, status.second
+    if number == 1:
+        return text_refusal(status, "", basis.n)
+    if number == 8:
+        said = _count_said(first, basis, others, lanes, limits)
+        return Refusal(8, f"{said}: at most {MAX_WORDS}", {"count": first, "limit": MAX_WORDS})
+    if number == 9:
+        if values is not None and first == len(lanes) // 4 and second == len(values):
+            said = f"{first} {others} words and {second} values"
+        else:
+            said = f"the {others} words have {second} lanes: the last word is cut off"
+        return Refusal(9, said, {"needed": first, "given": second})
+    if number == 11:
+        return _outside(first, basis, others)
+    if number == 7:
+        return _number_refusal(first, basis, others, thresholds)
+    if number == 12:
+        entry = basis.entry(position=first)
+        said = f"the word {entry.word.by_site} at position {first} stood at a lower position"
+        return Refusal(12, said, {"position": entry.position})
+    if number == 14:
+        said = f"the sum of the candidate in place {first}, in word order, is not finite"
+        return Refusal(14, said, {"place": first})
+    return too_short(status)
+
+
+def too_short(status, why=""):
+    """Refusal 13, where there are no more places to lend."""
+    said = f"table {status.first} needs more than {status.second} places{why}"
+    return Refusal(13, said, {"table": status.first, "places": status.second})
+
+
+def _count_said(count, basis, others, lanes, limits):
+    if len(basis) > MAX_WORDS:
+        return f"the basis has {count} entries"
+    if len(lanes) // 4 > MAX_WORDS:
+        return f"there are {count} {others} words"
+    return next((f"{name} is {count}" for name, limit in limits.items() if limit == count), f"{count}")
+
+
+def _outside(place, basis, others):
+    """The basis is tested before the other words, so the first word of it that is outside is the one
+    that was found."""
+    if place < len(basis):
+        word = basis.entry(position=place).word
+        if not _library.call("fits_register", word.struct(), basis.n):
+            said = f"basis word at position {place} has a bit at or above qubit {basis.n}: {word.by_site}"
+            return Refusal(11, said, {"position": Position(place), "qubits": basis.n})
+    said = f"the {others} word in place {place} has a bit at or above qubit {basis.n}"
+    return Refusal(11, said, {"place": place, "qubits": basis.n}, (place,))
+
+
+def _number_refusal(index, basis, others, thresholds):
+    """Coefficients are tested first, then listed values or thresholds, which count on from them."""
+    if index < len(basis):
+        coefficient = basis.entry(position=index).coefficient
+        said = f"the coefficient at position {index} is {coefficient}: a finite number is needed"
+        return Refusal(7, said, {"position": Position(index)})
+    if thresholds:
+        return not_finite(thresholds)
+    place = index - len(basis)
+    said = f"the value of the {others} word in place {place} is not finite"
+    return Refusal(7, said, {"place": place}, (place,))
+
+
+def not_finite(thresholds):
+    """The refusal of the first number that is not finite."""
+    name = next((name for name, x in thresholds.items() if not np.isfinite(x)), "a threshold")
+    said = f"{name} is {thresholds.get(name)}: a finite number is needed"
+    return Refusal(7, said, {"threshold": name})

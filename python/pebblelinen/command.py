@@ -1,0 +1,354 @@
+# SPDX-FileCopyrightText: 2026 The PPVM Authors
+# SPDX-License-Identifier: Apache-2.0
+"""The command: a model file in, answers out, for people or as JSON.
+
+Exit status: 0 answered, 1 refused by the library, 2 bad usage (options, file, words that cannot be read)."""
+import argparse
+import json
+import math
+import sys
+
+from . import _given, demo, modelfile
+from ._given import counted
+from ._progress import working
+from .basis import Basis
+from .errors import InputError, PebblelinenError, Refusal
+from .words import Word, qubits
+
+# Lines of a list that are shown to people.
+_SHOWN = 40
+
+_ABOUT = """\
+How noise moves an observable of a quantum device: the adjoint Lindblad generator on Pauli words.
+
+  pebblelinen demo                            a chain of 128 qubits, in a few seconds
+  pebblelinen demo --model > chain.toml       the same device as a model file, to change
+  pebblelinen action chain.toml "Z64"         what the device does to Z on qubit 64
+  pebblelinen leakage chain.toml --max-basis 100
+  pebblelinen generator chain.toml
+  pebblelinen degree chain.toml --dt 0.1
+
+Every command has its own --help. A qubit is a site of the device, a position is a place in the basis; both
+are counted from 0, and no line says one for the other."""
+
+_WORDS = """\
+A word is given by site, "X12 Z40" for X on qubit 12 and Z on qubit 40 (the identity is "I0"), or as a text
+with a letter for each qubit, qubit 0 first."""
+
+_FILE = "A model file:\n" + modelfile.__doc__.split("\n", 1)[1]
+
+
+def main(arguments=None):
+    options = _parser().parse_args(arguments)
+    try:
+        if options.json:
+            _print_json(options.run(options)[0]())
+        else:
+            for line in options.run(options)[1]():
+                print(line, flush=True)
+    except (PebblelinenError, MemoryError) as error:
+        print(f"pebblelinen: {error}", file=sys.stderr)
+        if options.json:
+            _print_json({"error": _error(error)})
+        return 1 if isinstance(error, Refusal) else 2
+    return 0
+
+
+def _parser():
+    parser = argparse.ArgumentParser(
+        prog="pebblelinen", description=_ABOUT, formatter_class=argparse.RawDescriptionHelpFormatter
+    )
+    commands = parser.add_subparsers(title="commands", metavar="COMMAND", required=True)
+
+    def command(name, run, help_, about, file=True):
+        made = commands.add_parser(
+            name,
+            help=help_,
+            description=about,
+            epilog=_FILE if file else None,
+            formatter_class=argparse.RawDescriptionHelpFormatter,
+        )
+        made.set_defaults(run=run)
+        if file:
+            made.add_argument("file", metavar="FILE", help="a model file, in TOML")
+        made.add_argument("--json", action="store_true", help="answer as JSON, numbers in full")
+        if name not in ("degree", "demo"):
+            made.add_argument("--all", action="store_true", help=f"show more than {_SHOWN} lines")
+        return made
+
+    made = command(
+        "demo",
+        _demo,
+        "a chain of 128 qubits: an action, a growing basis, a degree",
+        "Shows what the library does on a chain of 128 qubits with couplings, fields, decay and\n"
+        "dephasing: the action on an observable; rounds in which the words that leak out of a basis are\n"
+        "admitted to it and its coefficients move on by a time step; at the end the norm and degree of\n"
+        "the generator.",
+        file=False,
+    )
+    made.add_argument("--rounds", type=int, default=6, metavar="R", help="rounds (default 6)")
+    made.add_argument("--limit", type=int, default=4096, metavar="N", help="most words (default 4096)")
+    made.add_argument("--dt", type=float, default=0.05, metavar="T", help="time step (default 0.05)")
+    made.add_argument("--model", action="store_true", help="print the device as a model file instead")
+
+    made = command(
+        "action",
+        _action,
+        "what the model does to a word",
+        "What the model does to each word, in the Heisenberg picture: the words with their numbers, in\n"
+        "word order.\n\n" + _WORDS,
+    )
+    made.add_argument("words", nargs="*", metavar="WORD", help="default: the words of the file's basis")
+
+    made = command(
+        "leakage",
+        _leakage,
+        "what the model moves out of the basis",
+        "What the model moves out of the file's basis, onto words neither in it nor protected: the\n"
+        "largest that there is room for, with their sums, in word order.",
+    )
+    made.add_argument(
+        "--max-basis", type=int, required=True, metavar="N", help="room is what N leaves beside the basis"
+    )
+    made.add_argument("--admit-basis", type=int, metavar="N", help="counts instead where it is larger")
+    made.add_argument("--tau-add", type=float, metavar="X", help="list sums above X (default 0)")
+
+    command(
+        "generator",
+        _generator,
+        "the model over the basis, as a sparse matrix",
+        "The model over the file's basis, as a sparse matrix whose rows and columns are positions. Entries\n"
+        "stand by column, then by word.",
+    )
+
+    made = command(
+        "degree",
+        _degree,
+        "norm of the generator, and how to compute its exponential",
+        "The norm of the generator over the file's basis, and how the exponential of dt times it is to be\n"
+        "computed: s stages of m products each.",
+    )
+    made.add_argument("--dt", type=float, required=True, metavar="T", help="the time step")
+    made.add_argument(
+        "--drop-tol", type=float, default=0.0, metavar="X", help="from 1e-4 on fewer products will do"
+    )
+    return parser
+
+
+# ---- commands: each gives an answer for programs, and lines for people, both when asked ----
+
+
+def _action(options):
+    file = _loaded(options)
+    model = file.model
+    words = [Word(word, n=model.n) for word in options.words] or [entry.word for entry in file.basis]
+    if not words:
+        raise InputError("name a word, or give the file a basis", where=options.file)
+
+    def act():
+        for word in words:
+            with working(f"action on {word.by_site}"):
+                terms = model.action(word)
+            yield word, terms
+
+    def answer():
+        actions = [{"word": word.by_site, "terms": _terms(terms)} for word, terms in act()]
+        return {"qubits": model.n, "actions": actions}
+
+    def lines():
+        yield str(model)
+        for word, terms in act():
+            yield ""
+            yield f"action on {word.by_site}: {counted(len(terms), 'word')}"
+            yield from _listed(terms, options.all)
+
+    return answer, lines
+
+
+def _leakage(options):
+    file = _loaded(options)
+    with working(f"leakage out of {len(file.basis)} entries"):
+        terms = file.model.leakage(
+            file.basis,
+            max_basis=options.max_basis,
+            admit_basis=options.admit_basis,
+            tau_add=options.tau_add,
+            protected=file.protected,
+        )
+
+    def answer():
+        return {"qubits": file.model.n, "largest": _json_number(terms.largest()), "terms": _terms(terms)}
+
+    def lines():
+        yield str(file.model)
+        protected = f", {counted(len(file.protected), 'protected word')}" if file.protected else ""
+        yield f"basis: {counted(len(file.basis), 'position')}{protected}"
+        yield ""
+        yield f"leakage: {counted(len(terms), 'word')}, largest {terms.largest()!r}"
+        yield from _listed(terms, options.all)
+
+    return answer, lines
+
+
+def _generator(options):
+    file = _loaded(options)
+    with working(f"generator over {len(file.basis)} entries"):
+        matrix = file.model.generator(file.basis)
+    entries = list(zip(matrix.row.tolist(), matrix.col.tolist(), matrix.data.tolist()))
+    words = [entry.word.by_site for entry in file.basis]
+
+    def answer():
+        named = [{"row": row, "column": column, "value": value} for row, column, value in entries]
+        return {"qubits": file.model.n, "basis": words, "entries": named}
+
+    def lines():
+        yield str(file.model)
+        yield ""
+        yield (
+            f"generator over {counted(len(words), 'position')}:"
+            f" {counted(len(entries), 'entry', 'entries')}, by column, then by word"
+        )
+        shown = [
+            (f"position {row}: {words[row]}", f"position {column}: {words[column]}", repr(value))
+            for row, column, value in (entries if options.all else entries[:_SHOWN])
+        ]
+        yield from _aligned([("row", "column", "value"), *shown])
+        yield from _more(len(entries), options.all)
+
+    return answer, lines
+
+
+def _degree(options):
+    file = _loaded(options)
+    with working(f"norm over {len(file.basis)} entries"):
+        degree = file.model.degree(file.basis, dt=options.dt, drop_tol=options.drop_tol)
+
+    def answer():
+        return {"qubits": file.model.n, "positions": len(file.basis), **_degree_answer(degree)}
+
+    def lines():
+        yield str(file.model)
+        yield from _degree_lines(len(file.basis), options.dt, degree)
+
+    return answer, lines
+
+
+def _degree_answer(degree):
+    return {name: _json_number(x) for name, x in degree._asdict().items()}
+
+
+def _degree_lines(positions, dt, degree):
+    yield f"generator over {counted(positions, 'position')}:"
+    yield from _aligned(
+        [
+            ("norm", repr(degree.norm)),
+            ("mu", f"{degree.mu!r} (mean of the diagonal)"),
+            ("degree", f"m = {degree.m}, s = {degree.s} for dt = {dt!r}: {degree.m * degree.s} products"),
+        ]
+    )
+
+
+def _demo(options):
+    if options.model:
+        return lambda: {"model": demo.as_file()}, lambda: [demo.as_file().rstrip("\n")]
+    count = _given.whole(options.rounds, "--rounds")
+    with working("building the model"):
+        model = demo.chain()
+    basis = Basis(model.n, {demo.OBSERVABLE: 1.0})
+
+    def rounds():
+        grown = demo.rounds(model, basis, limit=options.limit, count=count, dt=options.dt)
+        for number in range(1, count + 1):
+            with working(f"round {number}"):
+                each = next(grown)
+            yield each
+
+    def degree():
+        return model.degree(basis, dt=options.dt)
+
+    def answer():
+        action = _terms(model.action(demo.OBSERVABLE))
+        done = [each._asdict() for each in rounds()]
+        return {
+            "qubits": model.n,
+            "observable": demo.OBSERVABLE,
+            "action": action,
+            "rounds": done,
+            **_degree_answer(degree()),
+        }
+
+    def lines():
+        yield f"a chain of {qubits(model.n)} with couplings, fields, decay and dephasing"
+        yield str(model)
+        yield ""
+        yield f"action on the observable, Z on qubit {demo.SITE}:"
+        yield from _listed(model.action(demo.OBSERVABLE), True)
+        yield ""
+        yield f"a basis grows around it: at most {options.limit} words, time step {options.dt!r}"
+        yield "  round  leaked  largest leakage  words  entries of the generator  seconds"
+        for each in rounds():
+            yield (
+                f"  {each.number:5}  {each.leaked:6}  {each.largest_leakage:15.6f}  {each.words:5}"
+                f"  {each.entries:24}  {each.seconds:7.3f}"
+            )
+        yield ""
+        yield "the largest entries of the basis, by position:"
+        for entry in sorted(basis, key=lambda entry: -abs(entry.coefficient))[:5]:
+            yield f"  {entry.position}: {entry.word.by_site}, coefficient {entry.coefficient:.6f}"
+        touching = len(basis.touching(qubit=demo.SITE))
+        yield f"words at {touching} of {len(basis)} positions have a letter on qubit {demo.SITE}"
+        yield ""
+        yield from _degree_lines(len(basis), options.dt, degree())
+
+    return answer, lines
+
+
+def _loaded(options):
+    with working(f"reading {options.file}"):
+        return modelfile.load(options.file)
+
+
+# ---- what is printed ----
+
+
+def _terms(terms):
+    return [{"word": word.by_site, "value": _json_number(value)} for word, value in terms]
+
+
+def _json_number(x):
+    """JSON has no infinity and no NaN: these are texts."""
+    return x if math.isfinite(x) else str(x)
+
+
+def _error(error):
+    told = {"said": str(error)}
+    if isinstance(error, Refusal):
+        values = {name: x if isinstance(x, (int, str)) else int(x) for name, x in error.values.items()}
+        told |= {"refusal": error.number, "cause": error.cause, "values": values}
+    if getattr(error, "where", ""):
+        told |= {"where": error.where}
+    return told
+
+
+def _print_json(answer):
+    print(json.dumps(answer, allow_nan=False))
+
+
+def _listed(terms, all_):
+    rows = [(word.by_site, repr(value)) for word, value in terms]
+    yield from _aligned(rows if all_ else rows[:_SHOWN])
+    yield from _more(len(rows), all_)
+
+
+def _more(count, all_):
+    if count > _SHOWN and not all_:
+        yield f"  .. and {count - _SHOWN} more: --all shows them"
+
+
+def _aligned(rows):
+    """Columns of one width each, indented; what stands last has room for a sign."""
+    widths = [max(len(cell) for cell in column) for column in zip(*rows)]
+    for row in rows:
+        cells = [f"{cell:{width}}" for cell, width in zip(row[:-1], widths)]
+        signed = row[-1] if row[-1].startswith("-") else f" {row[-1]}"
+        yield "  " + "  ".join([*cells, signed])

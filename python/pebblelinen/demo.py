@@ -1,0 +1,99 @@
+# SPDX-FileCopyrightText: 2026 The PPVM Authors
+# SPDX-License-Identifier: Apache-2.0
+"""A device to look at: a chain of qubits with couplings, fields, decay and dephasing, and a basis that
+grows around one observable."""
+import math
+import time
+from typing import NamedTuple
+
+from .errors import InputError
+from .matrix import product
+from .model import Model
+
+QUBITS = 128
+SITE = 64
+OBSERVABLE = f"Z{SITE}"
+
+# A time step that asks for more products than this is mistyped.
+_MOST_PRODUCTS = 1 << 20
+
+
+def items(n=QUBITS):
+    """Hamiltonian and jumps of the chain: XX + YY couplings and weaker ZZ ones between neighbours, fields
+    that differ from qubit to qubit, decay and dephasing on each."""
+    hamiltonian = {}
+    for q in range(n - 1):
+        for letter, strength in ("X", 1.0), ("Y", 1.0), ("Z", 0.25):
+            hamiltonian[f"{letter}{q} {letter}{q + 1}"] = strength
+    for q in range(n):
+        hamiltonian[f"Z{q}"] = 0.5 + 0.125 * (q % 4)
+    jumps = []
+    for q in range(n):
+        jumps.append((0.05, {f"X{q}": 0.5, f"Y{q}": 0.5j}))
+        jumps.append((0.02, f"Z{q}"))
+    return hamiltonian, jumps
+
+
+def chain(n=QUBITS):
+    return Model(n, *items(n))
+
+
+def as_file():
+    """The chain as a model file."""
+    n = QUBITS
+    hamiltonian, jumps = items()
+    lines = [f"# A chain of {n} qubits with couplings, fields, decay and dephasing.", f"qubits = {n}", ""]
+    lines += ["[hamiltonian]", *(f'"{word}" = {x}' for word, x in hamiltonian.items())]
+    for rate, operator in jumps:
+        if isinstance(operator, dict):
+            terms = ", ".join(f'"{word}" = {_number(x)}' for word, x in operator.items())
+            operator = f"{{ {terms} }}"
+        else:
+            operator = f'"{operator}"'
+        lines += ["", "[[jumps]]", f"rate = {rate}", f"operator = {operator}"]
+    lines += ["", "[basis]", f'"{OBSERVABLE}" = 1.0', ""]
+    return "\n".join(lines)
+
+
+def _number(x):
+    return f'"{x}"' if isinstance(x, complex) else x
+
+
+class Round(NamedTuple):
+    """What a round of growing found and did."""
+
+    number: int
+    leaked: int
+    largest_leakage: float
+    words: int
+    entries: int
+    seconds: float
+
+
+def rounds(model, basis, *, limit, count, dt):
+    """Lets a basis grow: what leaks out of it is admitted, then its coefficients move on by a time step.
+    Yields what each round did."""
+    for number in range(1, count + 1):
+        start = time.perf_counter()
+        leaked = model.leakage(basis, max_basis=limit)
+        basis.admit(leaked, limit=limit)
+        generator = model.csr(basis)
+        basis.coefficients = evolved(model, basis, generator, dt)
+        seconds = time.perf_counter() - start
+        yield Round(number, len(leaked), leaked.largest(), len(basis), generator.nnz, seconds)
+
+
+def evolved(model, basis, generator, dt):
+    """The coefficients after a time step: the exponential's Taylor series in so many stages of so many
+    products as the library chooses, for the generator less mu."""
+    degree = model.degree(basis, dt=dt, drop_tol=1e-4)
+    if degree.m * degree.s > _MOST_PRODUCTS:
+        raise InputError(f"a time step of {dt} asks for {degree.m * degree.s} products")
+    v = basis.coefficients.copy()
+    for _ in range(degree.s):
+        b = v.copy()
+        for j in range(1, degree.m + 1):
+            b = (product(generator, b) - degree.mu * b) * (dt / (degree.s * j))
+            v += b
+        v *= math.exp(dt * degree.mu / degree.s)
+    return v

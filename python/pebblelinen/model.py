@@ -1,0 +1,286 @@
+# SPDX-FileCopyrightText: 2026 The PPVM Authors
+# SPDX-License-Identifier: Apache-2.0
+"""A model of a device: what it does to words and bases."""
+from typing import NamedTuple
+
+import numpy as np
+
+from . import _building, _given, _library, matrix
+from ._tables import MOST_TOUCHED, work_tables
+from .basis import MAX_WORDS, Basis, not_finite, refusal, too_short
+from .errors import InputError, Refusal
+from .terms import Terms
+from .words import AnyWord, Position, lanes_of, qubits, register, same_register, site_text, struct_of, table
+
+# Positions that leakage takes in a pass.
+_PASS = 4096
+
+
+class Norm(NamedTuple):
+    """The norm of a generator, shifted by mu, the mean of its diagonal."""
+
+    norm: float
+    mu: float
+
+
+class Degree(NamedTuple):
+    """How a generator's exponential over a time step is to be computed: s stages of m products each."""
+
+    m: int
+    s: int
+    norm: float
+    mu: float
+
+
+class Model:
+    """A model on a register of n qubits: Hamiltonian terms, jumps and Kossakowski matrices.
+
+    hamiltonian   (word, number) pairs, or a mapping: {"X0 X1": 1.0, "Z0": 0.5}
+    jumps         (rate, operator) pairs: [(0.1, {"X0": 0.5, "Y0": 0.5j}), (0.2, "Z0")]
+    matrices      (operators, K) pairs, K Hermitian with a row for each operator
+
+    An operator is (word, number) pairs, or a mapping, with complex numbers; a word alone has the number 1.
+    Words are texts, or letters by site; see pebblelinen.words. A model cannot be changed.
+    """
+
+    def __init__(self, n: int, hamiltonian=(), jumps=(), matrices=()):
+        n = register(n)
+        hamiltonian = _building.hamiltonian_of(hamiltonian, n)
+        jumps = _building.jumps_of(jumps, n)
+        matrices = _building.matrices_of(matrices, n)
+
+        built, tables = _building.build(n, hamiltonian, jumps)
+        if built.status.refusal:
+            raise _building.model_refusal(built.status, n, hamiltonian, jumps)
+        counts = built.model
+        for i, (operators, entries) in enumerate(matrices):
+            added, tables = _building.add_matrix(counts, tables, operators, entries)
+            if added.status.refusal:
+                raise _building.matrix_refusal(added.status, n, i, operators, entries)
+            counts = added.model
+
+        self.n = n
+        self.hamiltonian_terms = counts.hamiltonian
+        self.jumps = len(jumps)
+        self.pairs = counts.jumps - len(jumps)
+        self._counts = (counts.qubits, counts.hamiltonian, counts.jumps, counts.terms)
+        self._tables = _building.trimmed(tables, counts)
+        # Places to begin with: words that an action touches, candidates, and entries of a generator. They
+        # grow where the library asks for more.
+        self._touched = 256
+        self._candidates = 0
+        self._entries = 0
+
+    def __repr__(self):
+        terms = _given.counted(self.hamiltonian_terms, "Hamiltonian term")
+        jumps, pairs = _given.counted(self.jumps, "jump"), _given.counted(self.pairs, "pair")
+        return f"Model of {qubits(self.n)}: {terms}, {jumps}, {pairs}"
+
+    def _check(self, basis):
+        if not isinstance(basis, Basis):
+            raise InputError(f"{_given.shown(basis)} stands where a basis is needed")
+        same_register(basis, self.n, "basis")
+
+    def _lent(self):
+        return [_library.Model(*self._counts), *self._tables.values()]
+
+    def _lending(self, attempt, places=0, most=lambda touched: 0):
+        """The answer of attempt(touched, places), where touched are the places of table 1 and `places` those
+        of table 2 or 3. They are more each time that the library refuses them as too few, up to what can be
+        needed: every word that a model can touch, and `most` of the others. Also those other places."""
+        status = None
+        while True:
+            touched = self._touched
+            try:
+                answer = attempt(touched, places)
+            except MemoryError:
+                if status is None:
+                    raise
+                raise too_short(status, ": there is no memory for more") from None
+            status = answer.status
+            if status.refusal != 13:
+                break
+            if status.first == 1 and touched < MOST_TOUCHED:
+                self._touched = max(self._touched, min(4 * touched, MOST_TOUCHED))
+            elif status.first != 1 and places < most(touched):
+                places = min(2 * places + 64, most(touched))
+            else:
+                break
+        return answer, places
+
+    # ---- the action on a word ----
+
+    def action(self, word: AnyWord) -> Terms:
+        """What the model does to a word, in the Heisenberg picture: the words with their numbers, in word
+        order."""
+        lanes = lanes_of(word, self.n)
+        out = []
+
+        def attempt(touched, _):
+            # An action lists no more words than it touches.
+            out[:] = np.empty(4 * touched, np.uint64), np.empty(touched)
+            with work_tables() as work:
+                return _library.call(
+                    "compute_action_terms",
+                    *self._lent(),
+                    struct_of(lanes),
+                    work.table("work_words", 4 * touched),
+                    work.table("work_sums", 2 * touched),
+                    *out,
+                )
+
+        listed, _ = self._lending(attempt)
+        status = listed.status
+        if status.refusal == 11:
+            said = f"the word {site_text(lanes)} has a bit at or above qubit {self.n}"
+            raise Refusal(11, said, {"position": Position(status.first), "qubits": self.n})
+        if status.refusal:
+            raise too_short(status)
+        words, values = out
+        return Terms(self.n, words[: 4 * listed.count].copy(), values[: listed.count].copy())
+
+    # ---- leakage out of a basis ----
+
+    def leakage(
+        self,
+        basis: Basis,
+        *,
+        max_basis: int,
+        admit_basis: int | None = None,
+        tau_add: float | None = None,
+        protected=(),
+    ) -> Terms:
+        """What the model moves out of a basis, onto words neither in it nor protected: at most as many as
+        there is room for below max_basis, or admit_basis where that is larger, and those larger than
+        tau_add in magnitude, in word order."""
+        self._check(basis)
+        limits = {"max_basis": _given.whole(max_basis, "max_basis")}
+        if admit_basis is not None:
+            limits["admit_basis"] = _given.whole(admit_basis, "admit_basis")
+        thresholds = {} if tau_add is None else {"tau_add": _given.real(tau_add, "tau_add")}
+        passed = _library.Limits(
+            limits["max_basis"],
+            admit_basis is not None,
+            limits.get("admit_basis", 0),
+            tau_add is not None,
+            thresholds.get("tau_add", 0.0),
+        )
+        fixed = table(protected, self.n, "protected")
+        with basis._lock:
+            # No more words are listed than there is room for.
+            room = max(min(max(limits.values()), MAX_WORDS) - len(basis), 0)
+            out = np.empty(4 * room, np.uint64), np.empty(room)
+            listed = self._leak(basis, fixed, passed, room, out)
+            if listed.status.refusal:
+                raise refusal(listed.status, basis, "protected", fixed, limits, thresholds)
+        words, values = out
+        return Terms(self.n, words[: 4 * listed.count], values[: listed.count])
+
+    def _leak(self, basis, fixed, limits, room, out):
+        entries = len(basis)
+
+        def attempt(touched, candidates):
+            lengths = _library.call(
+                "leakage_sizes", self.n, entries, len(fixed) // 4, touched, candidates
+            )
+            with work_tables() as work:
+                return _library.call(
+                    "leakage_with_prune",
+                    *self._lent(),
+                    basis._lanes,
+                    basis._coefficients,
+                    entries,
+                    fixed,
+                    limits,
+                    *work.lend(lengths),
+                    *out,
+                )
+
+        def candidates(each):
+            """Those of a pass, and those of earlier passes that there was room for."""
+            return min(entries, _PASS) * each + min(room, entries * each)
+
+        first = min(max(candidates(32), self._candidates), candidates(self._touched))
+        listed, places = self._lending(attempt, first, candidates)
+        self._candidates = max(self._candidates, places)
+        return listed
+
+    # ---- the generator over a basis ----
+
+    def generator(self, basis: Basis):
+        """The model over a basis, as a scipy COO matrix: rows and columns are positions, and the column at
+        a position holds the action on its word, as far as it stays in the basis. Entries stand by column,
+        then by word."""
+        rows, columns, values = self._generated("generator", basis, None)
+        return matrix.coo(len(basis), rows, columns, values)
+
+    def csr(self, basis: Basis):
+        """The same as a scipy CSR matrix, with ascending columns in every row."""
+        self._check(basis)
+        offsets = np.empty(len(basis) + 1, np.uint64)
+        return matrix.csr(offsets, *self._generated("build_csr", basis, offsets)[1:])
+
+    def _generated(self, name, basis, offsets):
+        """Rows or offsets, columns and values."""
+        self._check(basis)
+        len_ = len(basis)
+        out = []
+
+        def attempt(touched, entries):
+            rows = np.empty(entries, np.uint32) if offsets is None else offsets
+            out[:] = rows, np.empty(entries, np.uint32), np.empty(entries)
+            lengths = _library.call("generator_sizes", self.n, len_, touched, entries)
+            with work_tables() as work:
+                return _library.call(name, *self._lent(), basis._lanes, len_, *work.lend(lengths), *out)
+
+        def entries(each):
+            return len_ * min(each, len_)
+
+        with basis._lock:
+            first = min(max(entries(8), self._entries), entries(self._touched))
+            listed, places = self._lending(attempt, first, entries)
+            self._entries = max(self._entries, places)
+            if listed.status.refusal:
+                raise refusal(listed.status, basis)
+        return [table if table is offsets else table[: listed.count] for table in out]
+
+    # ---- the exponential of the generator ----
+
+    def norm(self, basis: Basis) -> Norm:
+        """The norm that bounds the generator over a basis: of the largest column, shifted by mu."""
+        found = self._normed("norm", basis, {})
+        return Norm(found.norm, found.mu)
+
+    def degree(self, basis: Basis, *, dt: float, drop_tol: float = 0.0) -> Degree:
+        """How the exponential of dt times the generator is to be computed: s stages of m products, with
+        the norm that they come from. A drop_tol of at least 1e-4 asks for less accuracy."""
+        numbers = {"dt": _given.real(dt, "dt"), "drop_tol": _given.real(drop_tol, "drop_tol")}
+        found = self._normed("expm_degree", basis, numbers)
+        return Degree(found.m, found.s, found.norm, found.mu)
+
+    def _normed(self, name, basis, numbers):
+        self._check(basis)
+        len_ = len(basis)
+
+        def attempt(touched, _):
+            lengths = _library.call("generator_sizes", self.n, len_, touched, 0)
+            names = "h_index j_index mask work_words work_sums".split()
+            with work_tables() as work:
+                return _library.call(
+                    name,
+                    *self._lent(),
+                    basis._lanes,
+                    len_,
+                    *numbers.values(),
+                    *(work.table(each, getattr(lengths, each)) for each in names),
+                    work.table("raws", len_),
+                    work.table("diags", len_),
+                )
+
+        with basis._lock:
+            answer, _ = self._lending(attempt)
+            if answer.status.refusal == 7:
+                raise not_finite(numbers)
+            if answer.status.refusal:
+                raise refusal(answer.status, basis)
+        return answer

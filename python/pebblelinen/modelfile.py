@@ -1,0 +1,183 @@
+# SPDX-FileCopyrightText: 2026 The PPVM Authors
+# SPDX-License-Identifier: Apache-2.0
+"""Model files: a device, and a basis to look at it with, in TOML.
+
+    qubits = 2                          # needed; all else may be left out
+    protected = ["Z0"]                  # words that leakage leaves out
+
+    [hamiltonian]                       # words by site, or as texts: "XX", "ZI"
+    "X0 X1" = 1.0
+    "Z0" = 0.5
+
+    [[jumps]]
+    rate = 0.1
+    operator = { "X0" = 0.5, "Y0" = "0.5j" }    # complex numbers as texts
+
+    [[jumps]]
+    rate = 0.2
+    operator = "Z1"                     # one word with the number 1
+
+    [[matrices]]
+    operators = ["X0", "X1"]
+    k = [[1, "0.5j"], ["-0.5j", 1]]
+
+    [basis]                             # words with their coefficients; positions count from 0
+    "Z0" = 1.0
+
+Where an order or a word that comes twice matters, `hamiltonian`, `operator` and `basis` may be lists of
+[word, number] instead.
+"""
+import difflib
+import os
+import tomllib
+from typing import NamedTuple
+
+from . import _given, words
+from .basis import Basis
+from .errors import InputError, Refusal
+from .model import Model
+
+_KEYS = ["qubits", "protected", "hamiltonian", "jumps", "matrices", "basis"]
+
+
+class ModelFile(NamedTuple):
+    """What a file holds. Where it has no basis, that is empty."""
+
+    model: Model
+    basis: Basis
+    protected: list
+
+
+def load(path: str | os.PathLike) -> ModelFile:
+    """Reads a model file."""
+    name = os.fspath(path)
+    data = _read(name)
+    try:
+        return _made(data)
+    except (InputError, Refusal) as error:
+        key = _key(error.path, data)
+        raise error.at(f"{name}: {key}" if key else name) from None
+
+
+def _read(name):
+    try:
+        with open(name, "rb") as file:
+            return tomllib.load(file)
+    except OSError as error:
+        raise InputError(error.strerror or str(error), where=name) from None
+    except (tomllib.TOMLDecodeError, UnicodeDecodeError, RecursionError) as error:
+        raise InputError(f"this is no TOML: {error}", where=name) from None
+
+
+def _made(data):
+    _keys(data, _KEYS, ["qubits"], ())
+    n = _given.whole(data["qubits"], "the number of qubits", ("qubits",))
+    model = Model(
+        n,
+        data.get("hamiltonian", {}),
+        [
+            (jump["rate"], _operator(jump["operator"], ("jumps", i, "operator")))
+            for i, jump in _tables(data, "jumps", ["rate", "operator"])
+        ],
+        [
+            (
+                [_operator(x, ("matrices", i, "operators", j)) for j, x in enumerate(_list(matrix, i))],
+                _entries(matrix["k"], ("matrices", i, "k")),
+            )
+            for i, matrix in _tables(data, "matrices", ["operators", "k"])
+        ],
+    )
+    with _under("basis"):
+        basis = Basis(n, data.get("basis", {}))
+    with _under("protected"):
+        protected = _given.listed(data.get("protected", []), "protected")
+        lanes = [words.lanes_of(word, n, (i,)) for i, word in enumerate(protected)]
+    return ModelFile(model, basis, [words.made(each, n) for each in lanes])
+
+
+class _under:
+    """Errors inside are about the value of a key."""
+
+    def __init__(self, key):
+        self.key = key
+
+    def __enter__(self):
+        pass
+
+    def __exit__(self, kind, error, _):
+        if isinstance(error, (InputError, Refusal)):
+            error.path = (self.key, *error.path)
+
+
+def _tables(data, key, keys):
+    """The tables of an array, with their places."""
+    given = data.get(key, [])
+    if not isinstance(given, list):
+        raise InputError(f"this is to be an array of tables: [[{key}]]", (key,))
+    for i, table in enumerate(given):
+        if not isinstance(table, dict):
+            raise InputError(f"this is to be a table with {' and '.join(keys)}", (key, i))
+        _keys(table, keys, keys, (key, i))
+    return enumerate(given)
+
+
+def _keys(table, known, needed, path):
+    for key in table:
+        if key not in known:
+            near = difflib.get_close_matches(key, known, 1)
+            hint = f"did you mean {near[0]}?" if near else f"known are {', '.join(known)}"
+            raise InputError(f"the key {key!r} is unknown: {hint}", path)
+    for key in needed:
+        if key not in table:
+            raise InputError(f"the key {key!r} is missing", path)
+
+
+def _list(matrix, i):
+    return _given.listed(matrix["operators"], "operators", ("matrices", i, "operators"))
+
+
+def _operator(given, path):
+    if isinstance(given, str):
+        return given
+    pairs = _given.pairs(given, "term", path)
+    return [(word, _number(x, (*path, i))) for i, (word, x) in enumerate(pairs)]
+
+
+def _entries(given, path):
+    rows = _given.listed(given, "K", path)
+    return [
+        [_number(x, (*path, i, j)) for j, x in enumerate(_given.listed(row, "a row of K", (*path, i)))]
+        for i, row in enumerate(rows)
+    ]
+
+
+def _number(given, path):
+    """A number, or a text as Python writes complex numbers."""
+    if not isinstance(given, str):
+        return given
+    try:
+        return complex(given.replace(" ", ""))
+    except ValueError:
+        raise InputError(f"{given!r} is no number: such as 0.5, '0.5j' or '1-2j' is needed", path) from None
+
+
+def _key(path, data):
+    """The way to an item as a reader of the file sees it: jumps[3].operator."X12"."""
+    named = ""
+    for step in path:
+        if step == "n":
+            step = "qubits"
+        inside = isinstance(data, (dict, list)) and not (isinstance(data, list) and isinstance(step, str))
+        if not inside:
+            break
+        if isinstance(data, dict):
+            if isinstance(step, int):
+                step = list(data)[step]
+                named += f'."{step}"'
+            else:
+                named += f".{step}" if named else step
+            data = data.get(step)
+        else:
+            named += f"[{step}]"
+            data = data[step] if step < len(data) else None
+    return named

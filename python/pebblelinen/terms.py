@@ -1,0 +1,58 @@
+# SPDX-FileCopyrightText: 2026 The PPVM Authors
+# SPDX-License-Identifier: Apache-2.0
+"""Words with a value each, as actions and leakages list them."""
+from . import _given
+from .words import made, qubits, register, same_register, site_text, table
+
+
+class Terms:
+    """Words with their values, which actions and leakages list in word order.
+
+    n        the qubits of the register
+    words    four lanes each: an array of uint64 of the shape (words, 4)
+    values   one number each: an array of float64
+
+    Arrays that are given are not copied where they can be lent as they are.
+    """
+
+    def __init__(self, n: int, words, values):
+        self.n = register(n)
+        self.lanes = _given.lanes(words, "words")
+        self.values = _given.numbers(values, "values")
+
+    @classmethod
+    def of(cls, given, *, n: int) -> "Terms":
+        """The terms of (word, value) pairs or of a mapping; terms are taken as they are."""
+        if isinstance(given, Terms):
+            return same_register(given, n, "list")
+        items = _given.pairs(given, "term")
+        lanes = table([word for word, _ in items], n, "words")
+        return cls(n, lanes, [_given.real(x, f"value {i}", (i,)) for i, (_, x) in enumerate(items)])
+
+    @property
+    def words(self):
+        return self.lanes[: len(self.lanes) // 4 * 4].reshape(-1, 4)
+
+    def __len__(self):
+        return len(self.values)
+
+    def __iter__(self):
+        """(word, value), one after another."""
+        for lanes, value in zip(self.words.tolist(), self.values.tolist()):
+            yield made(lanes, self.n), value
+
+    def by_site(self) -> dict[str, float]:
+        """The values by the words' texts: {"X12 Z40": 0.5}. Of a word that comes twice, the last."""
+        return dict(zip(map(site_text, self.words.tolist()), self.values.tolist()))
+
+    def largest(self) -> float:
+        """The largest magnitude; 0 where there are no words."""
+        return float(abs(self.values).max(initial=0.0))
+
+    def __str__(self):
+        shown = [(word.by_site, value) for word, value in self]
+        width = max((len(text) for text, _ in shown), default=0)
+        return "\n".join(f"{text:{width}}  {' ' * (value >= 0)}{value!r}" for text, value in shown)
+
+    def __repr__(self):
+        return f"Terms of {_given.counted(len(self), 'word')} on {qubits(self.n)}"
