@@ -25,7 +25,7 @@ use Rattle.action.specs.Counts.{maxWords}
 use Rattle.basis.specs.Tests.{notFinite}
 use Rattle.csr.specs.Products.{badOffset, badColumn, lengthTests, tableTests}
 
-abbrev accepts : Answer → Bool
+abbrev pub accepts : Answer → Bool
 accepts Accepted = true
 accepts (Refused r) = false
 

@@ -12,3 +12,4 @@ pub mod WalkLaws
 pub mod ColumnLaws
 pub mod PassLaws
 pub mod AnswerLaws
+pub mod CsrLaws
