@@ -4,6 +4,7 @@
 // A lent matrix by rows: offsets, columns and values. Its rows read, and its product with a vector.
 pub mod check;
 pub mod product;
+pub mod reader;
 pub mod rows;
 pub mod sums;
 pub mod work;
