@@ -3,10 +3,10 @@
 
 -- A reached word stands in the basis, is protected outside it, or is neither; the first have generator rows, the last are the words
 -- that leakage lists, where it lists all that it reaches. Assumes nothing.
-use Prim.Native.Nat.{ℕ, _<_}
+use Prim.Native.Nat.{ℕ}
 use mathlib.Core.Path.{_≡_, refl, sym, ap, _∙_}
 use mathlib.Core.Bool.{Bool, true, false, not, _&&_, false≢true}
-use mathlib.Core.List.{List, [], _∷_, map}
+use mathlib.Core.List.{List, _∷_, map}
 use mathlib.Core.Logic.{_⊎_, inl, inr}
 use lib.Ieee.{Float}
 use lib.ListN.{length, getD}
@@ -25,7 +25,7 @@ use Rattle.leakage.specs.Leakages.{Basis}
 use Rattle.leakage_laws.specs.Members.{Has}
 use Rattle.leakage_laws.specs.Calls as Leak
 use Rattle.generator_laws.specs.Matrices.{HasRow, Reached}
-use Rattle.accounting.specs.Homes.{ExactlyOne, ProtectedOutside, OnlyReached, Accounted}
+use Rattle.accounting.specs.Homes.{ProtectedOutside, OnlyReached, Accounted}
 
 -- ---- a term of a list, and its word
 record TermOf (w : Word) (L : List Term) : Type 0 where

@@ -20,7 +20,7 @@ use Rattle.number.proofs.Tests.{yes, no, passes, leb-is, ltb-scale, eqb
 
 -- ---- what it takes to fit
 
-fits-down : (f : Format) (s : Bool) (m : ℕ) (e : ℤ) → T (fits f (fin s m e)) → down e ≤ 2 ^ low f
+pub fits-down : (f : Format) (s : Bool) (m : ℕ) (e : ℤ) → T (fits f (fin s m e)) → down e ≤ 2 ^ low f
 unfolding fits
 fits-down f s zero e t = le-trans (le-trans (le-of-eq (sym (one-mul (down e)))) (le-trans (mul-le-mul-right (down e) (up-pos e)) (le-of-eq (eqb→eq (up e * down e) 1 t)))) (pow-pos (low f))
 fits-down f s (suc m) e t =
@@ -54,17 +54,17 @@ key-finite f s m e t =
 
 -- two finite values, brought to one denominator: c * the sizes is 2 ^ low * the keys
 module _ (f : Format) (s : Bool) (m : ℕ) (e : ℤ) (t : Bool) (n : ℕ) (d : ℤ) (F : T (fits f (fin s m e))) (G : T (fits f (fin t n d))) where
-  left : m * up e * down d * 2 ^ low f ≡ key f (fin s m e) * (down e * down d)
-  left = mul-right-comm (m * up e) (down d) (2 ^ low f) ∙ ap (λ (x : ℕ). x * down d) (sym (key-exact f s m e F)) ∙ mul-assoc (key f (fin s m e)) (down e) (down d)
+  pub left-units : m * up e * down d * 2 ^ low f ≡ key f (fin s m e) * (down e * down d)
+  left-units = mul-right-comm (m * up e) (down d) (2 ^ low f) ∙ ap (λ (x : ℕ). x * down d) (sym (key-exact f s m e F)) ∙ mul-assoc (key f (fin s m e)) (down e) (down d)
 
-  right : n * up d * down e * 2 ^ low f ≡ key f (fin t n d) * (down e * down d)
-  right = mul-right-comm (n * up d) (down e) (2 ^ low f) ∙ ap (λ (x : ℕ). x * down e) (sym (key-exact f t n d G)) ∙ mul-assoc (key f (fin t n d)) (down d) (down e) ∙ ap (λ (x : ℕ). key f (fin t n d) * x) (mul-comm (down d) (down e))
+  pub right-units : n * up d * down e * 2 ^ low f ≡ key f (fin t n d) * (down e * down d)
+  right-units = mul-right-comm (n * up d) (down e) (2 ^ low f) ∙ ap (λ (x : ℕ). x * down e) (sym (key-exact f t n d G)) ∙ mul-assoc (key f (fin t n d)) (down d) (down e) ∙ ap (λ (x : ℕ). key f (fin t n d) * x) (mul-comm (down d) (down e))
 
   ltb-key : ltb (m * up e * down d) (n * up d * down e) ≡ ltb (key f (fin s m e)) (key f (fin t n d))
-  ltb-key = sym (ltb-scale (m * up e * down d) (n * up d * down e) (2 ^ low f) (pow-pos (low f))) ∙ ap₂ ltb left right ∙ ltb-scale (key f (fin s m e)) (key f (fin t n d)) (down e * down d) (mul-pos (down-pos e) (down-pos d))
+  ltb-key = sym (ltb-scale (m * up e * down d) (n * up d * down e) (2 ^ low f) (pow-pos (low f))) ∙ ap₂ ltb left-units right-units ∙ ltb-scale (key f (fin s m e)) (key f (fin t n d)) (down e * down d) (mul-pos (down-pos e) (down-pos d))
 
   eqb-key : eqb (m * up e * down d) (n * up d * down e) ≡ eqb (key f (fin s m e)) (key f (fin t n d))
-  eqb-key = sym (eqb-scale (m * up e * down d) (n * up d * down e) (2 ^ low f) (pow-pos (low f))) ∙ ap₂ eqb left right ∙ eqb-scale (key f (fin s m e)) (key f (fin t n d)) (down e * down d) (mul-pos (down-pos e) (down-pos d))
+  eqb-key = sym (eqb-scale (m * up e * down d) (n * up d * down e) (2 ^ low f) (pow-pos (low f))) ∙ ap₂ eqb left-units right-units ∙ eqb-scale (key f (fin s m e)) (key f (fin t n d)) (down e * down d) (mul-pos (down-pos e) (down-pos d))
 
 -- ---- small things
 

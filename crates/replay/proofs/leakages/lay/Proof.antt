@@ -3,7 +3,7 @@
 
 -- `leakages::lay` meets its contract: each turn lays one entry. Assumes nothing.
 use mathlib.Core.Path.{_≡_}
-use Prim.Native.Nat.{_-_, _≤_}
+use Prim.Native.Nat.{_-_}
 use lib.ListN.{length}
 use borrow.Author.Needs.{needs}
 use Rattle.replay.proofs.leakages.lay.Statement.{statement}
