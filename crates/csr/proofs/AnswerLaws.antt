@@ -20,23 +20,23 @@ use Rattle.model.specs.Tested.{firstTo}
 use Rattle.model.proofs.Firsts.{NoneBefore, first-before, first-none, first-inside}
 use Rattle.basis.specs.Tests.{notFinite}
 use Rattle.csr.specs.Products.{Multiplying, product, lengthTests, tableTests, tested, finished, multiply}
-use Rattle.csr.specs.Walks.{Ready, rowStops, Walked, Quick}
-use Rattle.csr.proofs.CheckLaws.{lengths-then, lengths-agree, sound-accepted, accepted-sound}
-use Rattle.csr.proofs.WalkLaws.{product-length}
-use Rattle.csr.proofs.PassLaws.{passed-sound, passed-finite, zero-again, stops-first}
+use Rattle.csr.specs.Walks.{Ready, fullProduct, rowStops, Walked, Quick}
+use Rattle.csr.proofs.CheckLaws.{lengths-then, lengths-agree, Sound, sound-accepted, accepted-sound}
+use Rattle.csr.proofs.WalkLaws.{full-length}
+use Rattle.csr.proofs.PassLaws.{passed-sound, passed-finite, zero-again, stops-first, full-product, product-length}
 
 -- ---- a walk that did not stop
-module _ (offsets columns : List ℕ) (values input : List Float) (overwrite : Bool) (output work : List Float) (d : ℕ) (work′ : List Float) (w : Walked offsets columns values input overwrite output work d work′) (all : length input ≤ d) where
+module _ (offsets columns : List ℕ) (values input : List Float) (overwrite : Bool) (output work : List Float) (d : ℕ) (work′ : List Float) (sized : length offsets ≡ length input + 1) (same : length values ≡ length columns) (w : Walked offsets columns values input overwrite output work d work′) (all : length input ≤ d) where
   never-stopped : NoneBefore (rowStops offsets columns values input overwrite output) (length input)
   never-stopped k m = let e = w .stopped in first-before (length input) (rowStops offsets columns values input overwrite output) k (omega arith)
 
-  laid-all : work′ ≡ product (length input) offsets columns values input overwrite output ++ drop (length input) work
-  laid-all =
+  laid-all : Sound (length input) offsets columns values input overwrite output → work′ ≡ product (length input) offsets columns values input overwrite output ++ drop (length input) work
+  laid-all s =
       let i = first-inside (length input) (rowStops offsets columns values input overwrite output) in
-      let l = product-length offsets columns values input overwrite output in
-      let p : List Float = product (length input) offsets columns values input overwrite output in
+      let l = full-length offsets columns values input overwrite output in
+      let p : List Float = fullProduct offsets columns values input overwrite output in
       let e : d ≡ length input = omega (arith, w .stopped) in
-      w .laid ∙ ap (λ (n : ℕ). take n p ++ drop n work) e ∙ ap (λ (t : List Float). t ++ drop (length input) work) (take-all (length input) p (omega arith))
+      w .laid ∙ ap (λ (n : ℕ). take n p ++ drop n work) e ∙ ap (λ (t : List Float). t ++ drop (length input) work) (take-all (length input) p (omega arith) ∙ full-product offsets columns values input overwrite output sized same s)
 
 module _ (offsets columns : List ℕ) (values input : List Float) (overwrite : Bool) (output : List Float) where
   abbrev rows : ℕ
@@ -44,6 +44,9 @@ module _ (offsets columns : List ℕ) (values input : List Float) (overwrite : B
 
   abbrev products : List Float
   products = product rows offsets columns values input overwrite output
+
+  abbrev full : List Float
+  full = fullProduct offsets columns values input overwrite output
 
   abbrev tests : Answer
   tests = tableTests rows offsets columns values input overwrite output Accepted
@@ -58,8 +61,8 @@ module _ (offsets columns : List ℕ) (values input : List Float) (overwrite : B
     abbrev QuickTo : Bool → List Float → Type 0
     QuickTo = Quick offsets columns values input overwrite output work
 
-    front-length : (d : ℕ) → d ≤ rows → length (take d products) ≡ d
-    front-length d h = let l = product-length offsets columns values input overwrite output in length-take-le d products (omega arith)
+    front-length : (d : ℕ) → d ≤ rows → length (take d full) ≡ d
+    front-length d h = let l = full-length offsets columns values input overwrite output in length-take-le d full (omega arith)
 
     -- ---- the one walk
     pub quick-nothing : QuickTo false work
@@ -68,13 +71,14 @@ module _ (offsets columns : List ℕ) (values input : List Float) (overwrite : B
     module _ (sized : length offsets ≡ rows + 1) (same : length values ≡ length columns) (enough : rows ≤ length work) (ready : Ready input overwrite output work) (d : ℕ) (work′ : List Float) (w : WalkedTo d work′) where
       pub quick-all : getD offsets 0 0 ≤ 0 → getD offsets rows 0 ≡ length columns → rows ≤ d → QuickTo true work′
       quick-all first last all =
-          let none = never-stopped offsets columns values input overwrite output work d work′ w all in
+          let none = never-stopped offsets columns values input overwrite output work d work′ sized same w all in
           let z : getD offsets 0 0 ≡ 0 = omega arith in
+          let s = passed-sound offsets columns values input overwrite output sized same work ready none z last in
           record {
             passed = λ _. (
-              sound-accepted rows offsets columns values input overwrite output (passed-sound offsets columns values input overwrite output sized same work ready none z last),
+              sound-accepted rows offsets columns values input overwrite output s,
               first-none rows (notFinite products) (passed-finite offsets columns values input overwrite output sized same work ready none z last),
-              laid-all offsets columns values input overwrite output work d work′ w all,
+              laid-all offsets columns values input overwrite output work d work′ sized same w all s,
             );
             kept = λ e. absurd (false≢true (sym e));
           }
@@ -84,8 +88,8 @@ module _ (offsets columns : List ℕ) (values input : List Float) (overwrite : B
         where
           again : replicate (length (take d work′)) float0 ++ drop d work′ ≡ work
           again =
-              let e = ap (drop d) (w .laid) ∙ drop-at (take d products) (drop d work) d (front-length d (omega arith)) in
-              let f = ap (take d) (w .laid) ∙ take-at (take d products) (drop d work) d (front-length d (omega arith)) in
+              let e = ap (drop d) (w .laid) ∙ drop-at (take d full) (drop d work) d (front-length d (omega arith)) in
+              let f = ap (take d) (w .laid) ∙ take-at (take d full) (drop d work) d (front-length d (omega arith)) in
               rw (f, front-length d (omega arith), e) (zero-again offsets columns values input overwrite output sized same work ready enough d (omega arith))
 
     -- ---- the answers
@@ -103,7 +107,7 @@ module _ (offsets columns : List ℕ) (values input : List Float) (overwrite : B
           → output″ ≡ take (length output) work′ → work″ ≡ replicate (length work′) float0 → left-with Accepted output″ work″ ≡ answered
       unfolding finished
       stored-answer work′ output″ work″ ok f e x y =
-          let l = product-length offsets columns values input overwrite output in
+          let l = product-length rows offsets columns values input overwrite output in
           let t : take (length output) work′ ≡ products = ap (take (length output)) e ∙ take-at products (drop rows work) (length output) (l ∙ sym outs) in
           let n : length work′ ≡ length work = ap length e ∙ rw (length-append, l, length-drop) (omega arith) in
           rw (ok, f, le-ltb rows rows (omega arith), x, y, t, n)
@@ -130,7 +134,7 @@ module _ (offsets columns : List ℕ) (values input : List Float) (overwrite : B
         slow-answer output″ work″ x y h =
             let i = first-inside rows (notFinite products) in
             let f = first-is in
-            stored-answer work′ output″ work″ ok (omega arith) (laid-all offsets columns values input overwrite output work d work′ w h) x y
+            stored-answer work′ output″ work″ ok (omega arith) (laid-all offsets columns values input overwrite output work d work′ sized same w h (accepted-sound rows offsets columns values input overwrite output ok)) x y
 
 -- ---- 8 and 9, then the rest
 module _ (rows : ℕ) (offsets columns : List ℕ) (values input : List Float) (overwrite : Bool) (output work : List Float) where

@@ -18,8 +18,8 @@ use Rattle.model.proofs.Firsts.{NoneBefore, none-start, none-more, first-here, 
 use Rattle.truncate.proofs.WriteLaws.{written-more}
 use Rattle.kernel.proofs.IndexLaws.{items-length, items-at}
 use Rattle.csr.specs.Rows.{rowAt, partOf, rowOf}
-use Rattle.csr.specs.Products.{rowEntries, rowSum, storedAt, product}
-use Rattle.csr.specs.Walks.{stopsAt, RowWalked, rowPasses, rowStops, Walked}
+use Rattle.csr.specs.Products.{rowEntries}
+use Rattle.csr.specs.Walks.{badPlace, fullSum, RowWalked, rowPasses, fullAt, fullProduct, rowStops, Walked}
 use Rattle.csr.specs.declared.rows.Row.{Row}
 use Rattle.csr.specs.declared.sums.RowSum.{RowSum}
 use Rattle.csr.proofs.RowLaws.{row-is, part-length}
@@ -76,13 +76,13 @@ module _ (offsets columns : List ℕ) (values input : List Float) where
       long : length (partOf here columns) ≡ end - start
       long = part-length here columns ordered within
 
-      pub passes-is : passes r ≡ leb (end - start) (firstTo (end - start) (stopsAt input (partOf here columns) (partOf here values)))
+      pub passes-is : passes r ≡ leb (end - start) (firstTo (end - start) (badPlace rows (partOf here columns)))
       unfolding rowPasses
-      passes-is = rw (le-leb start end ordered, le-leb end (length columns) within, columns-here, values-here, long)
+      passes-is = rw (le-leb start end ordered, le-leb end (length columns) within, columns-here, long)
 
       module _ (found : RowSum) (walked : RowWalked input (partOf here columns) (partOf here values) found) where
-        found-is : found .passed ≡ firstTo (end - start) (stopsAt input (partOf here columns) (partOf here values))
-        found-is = walked .stopped ∙ ap (λ (n : ℕ). firstTo n (stopsAt input (partOf here columns) (partOf here values))) long
+        found-is : found .passed ≡ firstTo (end - start) (badPlace rows (partOf here columns))
+        found-is = walked .stopped ∙ ap (λ (n : ℕ). firstTo n (badPlace rows (partOf here columns))) long
 
         pub stopped-row : found .passed < end - start → passes r ≡ false
         stopped-row h = passes-is ∙ lt-leb (end - start) _ (rw found-is at h)
@@ -91,15 +91,15 @@ module _ (offsets columns : List ℕ) (values input : List Float) where
           pub passed-row : passes r ≡ true
           passed-row = passes-is ∙ le-leb (end - start) _ (rw found-is at all)
 
-          sum-here : found .sum ≡ rowSum input (rowEntries offsets columns values r)
+          sum-here : found .sum ≡ fullSum input (rowEntries offsets columns values r)
           unfolding rowEntries
           sum-here =
-              let i = first-inside (end - start) (stopsAt input (partOf here columns) (partOf here values)) in
+              let i = first-inside (end - start) (badPlace rows (partOf here columns)) in
               let e : found .passed ≡ length (partOf here columns) = omega (arith, found-is, long) in
               walked .summed e ∙ rw (columns-here, values-here)
 
-          pub stored-here : (overwrite : Bool) (output : List Float) (v : Float) → v ≡ cond overwrite (found .sum) (add binary64 (getD output r nan) (found .sum)) → v ≡ storedAt rows offsets columns values input overwrite output r
-          unfolding storedAt
+          pub stored-here : (overwrite : Bool) (output : List Float) (v : Float) → v ≡ cond overwrite (found .sum) (add binary64 (getD output r nan) (found .sum)) → v ≡ fullAt offsets columns values input overwrite output r
+          unfolding fullAt
           stored-here overwrite output v e = e ∙ ap (λ (s : Float). cond overwrite s (add binary64 (getD output r nan) s)) sum-here
 
   module _ (overwrite : Bool) (output : List Float) where
@@ -107,17 +107,17 @@ module _ (offsets columns : List ℕ) (values input : List Float) where
     stops = rowStops offsets columns values input overwrite output
 
     abbrev storedHere : ℕ → Float
-    storedHere = storedAt rows offsets columns values input overwrite output
+    storedHere = fullAt offsets columns values input overwrite output
 
     abbrev products : List Float
-    products = product rows offsets columns values input overwrite output
+    products = fullProduct offsets columns values input overwrite output
 
-    pub product-length : length products ≡ rows
-    unfolding product
-    product-length = items-length storedHere rows
+    pub full-length : length products ≡ rows
+    unfolding fullProduct
+    full-length = items-length storedHere rows
 
-    pub product-at : (r : ℕ) (d : Float) → r < rows → getD products r d ≡ storedHere r
-    unfolding product
+    product-at : (r : ℕ) (d : Float) → r < rows → getD products r d ≡ storedHere r
+    unfolding fullProduct
     product-at r d h = items-at storedHere rows r d h
 
     -- ---- where the walk stops, and where it goes on
@@ -155,12 +155,12 @@ module _ (offsets columns : List ℕ) (values input : List Float) where
         module _ (enough : rows ≤ length work₀) where
           pub work-long : length work ≡ length work₀
           work-long =
-              let l = product-length in
+              let l = full-length in
               ap length (w .laid) ∙ rw (length-append, length-take-le r products (omega (arith, w .room)), length-drop) (omega (arith, w .room))
 
           pub walking-next : r < rows → (v : Float) → v ≡ storedHere r → stops r ≡ false → Walking (r + 1) (set work r v)
           walking-next h v e f =
-              let l = product-length in
+              let l = full-length in
               record {
                 room = omega arith;
                 none = none-more stops r (w .none) f;

@@ -1,21 +1,23 @@
 -- SPDX-FileCopyrightText: 2026 The PPVM Authors
 -- SPDX-License-Identifier: Apache-2.0
 
--- The one walk of the product: it passes a row where all is well, and stops at the first where anything is amiss.
+-- The one walk of the product: it passes a row where all is well, and stops at the first where anything is amiss. It skips no zero: a
+-- value that is not finite shows in the sum then, and where all are finite the sum is the same.
 use Prim.Native.Nat.{ℕ, zero, suc, _+_}
 use mathlib.Core.Path.{_≡_}
-use mathlib.Core.Bool.{Bool, true, false, not, _&&_, _||_}
-use mathlib.Core.List.{List, _++_}
+use mathlib.Core.Bool.{Bool, true, false, not, _&&_, _||_, cond}
+use mathlib.Core.List.{List, [], _∷_, _++_, map}
 use lib.Dec.{eqb, ltb, leb}
-use lib.Ieee.{Float, nan, inf, fin, eq}
+use lib.Ieee.{Float, nan, inf, fin, binary64, add, mul}
 use lib.IntN.{pos, negsuc}
 use lib.ListN.{getD, length, take, drop}
 use Rattle.number.specs.Floats.{float0, isFinite}
 use Rattle.model.specs.Tested.{firstTo}
 use Rattle.basis.specs.Tests.{notFinite}
-use Rattle.csr.specs.Rows.{rowAt, partOf, rowOf}
+use Rattle.rules.specs.Adds.{upTo}
+use Rattle.csr.specs.Rows.{rowOf}
 use Rattle.refusal.specs.declared.Answer.the-variants.{Accepted}
-use Rattle.csr.specs.Products.{beside, rowSum, tableTests, storedAt, product}
+use Rattle.csr.specs.Products.{RowEntry, beside, rowEntries, tableTests, product}
 use Rattle.csr.specs.declared.sums.RowSum.{RowSum}
 
 -- ---- a row
@@ -31,21 +33,22 @@ misplaced least rows column = ltb column least || leb rows column
 unfoldable pub badPlace : ℕ → List ℕ → ℕ → Bool
 badPlace rows cs k = misplaced (leastAt cs k) rows (getD cs k 0)
 
--- a column out of place, or a value that is skipped and not finite; any other value that is not finite shows in the sum
-unfoldable pub stopsAt : List Float → List ℕ → List Float → ℕ → Bool
-stopsAt input cs vs k = badPlace (length input) cs k || (eq (getD input (getD cs k 0) nan) float0 && notFinite vs k)
+-- every product added, those with a zero too
+module _ (input : List Float) where
+  unfoldable pub addProduct : Float → RowEntry → Float
+  addProduct s e = add binary64 s (mul binary64 (e .value) (getD input (e .column) nan))
 
--- no input is zero, so that none is skipped
-abbrev pub zeroAt : List Float → ℕ → Bool
-zeroAt input k = eq (getD input k nan) float0
+  unfoldable pub addProducts : Float → List RowEntry → Float
+  addProducts s [] = s
+  addProducts s (e ∷ es) = addProducts (addProduct s e) es
 
-abbrev pub NoneZero : List Float → Type 0
-NoneZero input = firstTo (length input) (zeroAt input) ≡ length input
+  abbrev pub fullSum : List RowEntry → Float
+  fullSum es = addProducts float0 es
 
--- how many entries were passed, and their sum where it was all of them
+-- how many columns stand in their places, and the sum where it is all of them
 pub record RowWalked (input : List Float) (cs : List ℕ) (vs : List Float) (r : RowSum) : Type 0 where
-  pub stopped : r .passed ≡ firstTo (length cs) (stopsAt input cs vs)
-  pub summed : r .passed ≡ length cs → r .sum ≡ rowSum input (beside cs vs)
+  pub stopped : r .passed ≡ firstTo (length cs) (badPlace (length input) cs)
+  pub summed : r .passed ≡ length cs → r .sum ≡ fullSum input (beside cs vs)
 
 -- ---- all rows
 -- +0.0, which −0.0 is not
@@ -67,20 +70,29 @@ pub record Ready (input : List Float) (overwrite : Bool) (output work : List Flo
   pub added : overwrite ≡ false → firstTo (length input) (notFinite output) ≡ length input
 
 module _ (offsets columns : List ℕ) (values input : List Float) where
-  -- whether row r stands inside, and all its entries are passed
+  -- whether row r stands inside, with its columns in their places
   unfoldable pub rowPasses : ℕ → Bool
   rowPasses r =
       (leb (getD offsets r 0) (getD offsets (r + 1) 0) && leb (getD offsets (r + 1) 0) (length columns))
-      && leb (length (rowOf offsets columns r)) (firstTo (length (rowOf offsets columns r)) (stopsAt input (rowOf offsets columns r) (partOf (rowAt offsets (length columns) r) values)))
+      && leb (length (rowOf offsets columns r)) (firstTo (length (rowOf offsets columns r)) (badPlace (length input) (rowOf offsets columns r)))
 
   module _ (overwrite : Bool) (output : List Float) where
+    -- what the walk stores at row r
+    unfoldable pub fullAt : ℕ → Float
+    fullAt r =
+        cond overwrite (fullSum input (rowEntries offsets columns values r))
+        (add binary64 (getD output r nan) (fullSum input (rowEntries offsets columns values r)))
+
+    unfoldable pub fullProduct : List Float
+    fullProduct = map fullAt (upTo 0 (length input))
+
     unfoldable pub rowStops : ℕ → Bool
-    rowStops r = not (rowPasses r) || not (isFinite (storedAt (length input) offsets columns values input overwrite output r))
+    rowStops r = not (rowPasses r) || not (isFinite (fullAt r))
 
     -- how many rows were passed; what is to be stored there stands in work
     pub record Walked (work : List Float) (done : ℕ) (work′ : List Float) : Type 0 where
       pub stopped : done ≡ firstTo (length input) rowStops
-      pub laid : work′ ≡ take done (product (length input) offsets columns values input overwrite output) ++ drop done work
+      pub laid : work′ ≡ take done fullProduct ++ drop done work
 
     -- all tests pass, all that is to be stored is finite, and it stands in work; or nothing is changed
     pub record Quick (work : List Float) (summed : Bool) (work′ : List Float) : Type 0 where

@@ -7,9 +7,8 @@ ghost use mathlib.Core.Bool.{true};
 ghost use Prim.Native.Nat.{_+_, _≤_};
 ghost use lib.ListN.{length};
 ghost use Rattle.refusal.specs.declared.Answer.the-variants.{Accepted};
-ghost use Rattle.model.specs.Tested.{firstTo};
 ghost use Rattle.csr.specs.Products.{tableTests, tested, finished, multiply};
-ghost use Rattle.csr.specs.Walks.{zeroAt, Ready, Quick};
+ghost use Rattle.csr.specs.Walks.{Ready, Quick};
 use crate::check::check_lengths;
 use crate::check::check_tables;
 use crate::sums::sum_rows;
@@ -19,21 +18,6 @@ use basis::tests::first_not_finite;
 use refusal::Answer;
 use refusal::Refusal;
 use table::clear::clear_numbers;
-
-// The first input that is zero; their number where none is.
-fn first_zero(input: &[f64]) -> usize
-    ensures { λ r. ⌜ r ≡ firstTo (length (now (input .entry))) (zeroAt (now (input .entry))) ⌝ }
-{
-    let mut k = 0;
-    while k < input.len() {
-        let x = input[k];
-        if x == 0.0 {
-            return k;
-        }
-        k += 1;
-    }
-    k
-}
 
 // Whether the numbers of the short tables are as the one walk asks.
 fn are_ready(input: &[f64], overwrite: bool, output: &[f64], work: &[f64]) -> bool
@@ -83,17 +67,7 @@ fn try_rows(
     if !ready {
         return false;
     }
-    let full = rows <= first_zero(input);
-    let done = sum_rows(
-        full,
-        offsets,
-        columns,
-        values,
-        input,
-        overwrite,
-        output,
-        work,
-    );
+    let done = sum_rows(offsets, columns, values, input, overwrite, output, work);
     if done < rows {
         clear_numbers(&mut work[..done]);
         return false;
@@ -125,16 +99,7 @@ fn multiply_rows(
     let Answer::Accepted = answer else {
         return answer;
     };
-    let done = sum_rows(
-        false,
-        offsets,
-        columns,
-        values,
-        input,
-        overwrite,
-        output,
-        work,
-    );
+    let done = sum_rows(offsets, columns, values, input, overwrite, output, work);
     if done < rows {
         clear_numbers(work);
         return Answer::Refused(Refusal::SumNotFinite { position: done });

@@ -1,16 +1,17 @@
 // SPDX-FileCopyrightText: 2026 The PPVM Authors
 // SPDX-License-Identifier: Apache-2.0
 
-// The sums of a product, in one walk through the entries. The columns are tested on the way. A value that
-// is not finite makes its sum not finite, so only the values that are skipped are tested themselves: a
-// test for each entry would cost more than its product. Whatever is amiss, the walk stops at the row, and
+// The sums of a product, in one walk through the entries. The columns are tested on the way. A test of
+// each value would cost more than its product, and is not needed: one that is not finite makes its sum
+// not finite. Nor is a zero input skipped, which would cost as much: its product with a finite value is
+// a zero, and leaves a sum that began at +0.0 as it is. Whatever is amiss, the walk stops at the row, and
 // what it is, is found by other functions.
 ghost use mathlib.Core.Path.{_≡_};
-ghost use mathlib.Core.Bool.{true, cond};
+ghost use mathlib.Core.Bool.{cond};
 ghost use Prim.Native.Nat.{_+_, _≤_};
 ghost use lib.Ieee.{binary64, add};
 ghost use lib.ListN.{length};
-ghost use Rattle.csr.specs.Walks.{misplaced, NoneZero, RowWalked, Walked};
+ghost use Rattle.csr.specs.Walks.{misplaced, RowWalked, Walked};
 use crate::rows::wide;
 use number::scalar::is_finite;
 use std::num::wrapping_sub_u64;
@@ -44,53 +45,11 @@ fn sum_row(columns: &[u32], values: &[f64], input: &[f64]) -> RowSum
         if bad {
             return RowSum { passed: k, sum };
         }
-        let value = values[k];
-        let x = input[column];
-        if x == 0.0 {
-            let finite = is_finite(value);
-            if !finite {
-                return RowSum { passed: k, sum };
-            }
-            least = column + 1;
-            k += 1;
-        } else {
-            sum = sum + value * x;
-            least = column + 1;
-            k += 1;
-        }
-    }
-    RowSum { passed: k, sum }
-}
-
-// The same where no input is zero: with nothing to skip, the walk is shorter.
-fn sum_full_row(columns: &[u32], values: &[f64], input: &[f64]) -> RowSum
-    requires { ⌜ (length (now values) ≡ length (now columns)) × NoneZero (now input) ⌝ }
-    ensures { λ r. ⌜ RowWalked (now (input .entry)) (now (columns .entry)) (now (values .entry)) r ⌝ }
-{
-    let mut sum = 0.0;
-    let mut least = 0;
-    let mut k = 0;
-    while k < columns.len() {
-        let column = wide(columns[k]);
-        let bad = is_misplaced(column, least, input.len());
-        if bad {
-            return RowSum { passed: k, sum };
-        }
         sum = sum + values[k] * input[column];
         least = column + 1;
         k += 1;
     }
     RowSum { passed: k, sum }
-}
-
-fn row_sum(full: bool, columns: &[u32], values: &[f64], input: &[f64]) -> RowSum
-    requires { ⌜ (length (now values) ≡ length (now columns)) × (full ≡ true → NoneZero (now input)) ⌝ }
-    ensures { λ r. ⌜ RowWalked (now (input .entry)) (now (columns .entry)) (now (values .entry)) r ⌝ }
-{
-    if full {
-        return sum_full_row(columns, values, input);
-    }
-    sum_row(columns, values, input)
 }
 
 // What is to be stored where y stands.
@@ -103,10 +62,8 @@ fn stored(overwrite: bool, y: f64, sum: f64) -> f64
     y + sum
 }
 
-// What is to be stored at each row, laid in work as far as all is well: how many rows that is. `full` says
-// that no input is zero.
+// What is to be stored at each row, laid in work as far as all is well: how many rows that is.
 pub fn sum_rows(
-    full: bool,
     offsets: &[u64],
     columns: &[u32],
     values: &[f64],
@@ -115,7 +72,7 @@ pub fn sum_rows(
     output: &[f64],
     work: &mut [f64],
 ) -> usize
-    requires { ⌜ (length (now offsets) ≡ length (now input) + 1) × (length (now values) ≡ length (now columns)) × (length (now output) ≡ length (now input)) × (length (now input) ≤ length (now work)) × (full ≡ true → NoneZero (now input)) ⌝ }
+    requires { ⌜ (length (now offsets) ≡ length (now input) + 1) × (length (now values) ≡ length (now columns)) × (length (now output) ≡ length (now input)) × (length (now input) ≤ length (now work)) ⌝ }
     ensures { λ r. ⌜ Walked (now (offsets .entry)) (now (columns .entry)) (now (values .entry)) (now (input .entry)) overwrite (now (output .entry)) (now (work .entry)) r (now (work .exit)) ⌝ }
 {
     let rows = input.len();
@@ -129,7 +86,7 @@ pub fn sum_rows(
         if columns.len() < end {
             return r;
         }
-        let found = row_sum(full, &columns[start..end], &values[start..end], input);
+        let found = sum_row(&columns[start..end], &values[start..end], input);
         if found.passed < end - start {
             return r;
         }

@@ -3,7 +3,6 @@
 
 -- `product::multiply_rows` meets its contract, answer by answer. Assumes nothing.
 use mathlib.Core.Path.{sym, subst, _∙_}
-use mathlib.Core.Bool.{false≢true}
 use mathlib.Core.List.{List}
 use native.Mathlib.Omega.{arith}
 use lib.Ieee.{Float}
@@ -32,7 +31,7 @@ sum-rows-requires : tie.Need-sum-rows-requires
 sum-rows-requires c κs =
     let s = c .before .before .before .before .before .before .before .before .before .before .before .before .before .before .before .before .before .before in
     let k = c .before .before .before .before .before .before .before .before .before .try-rows .kept .1 .1 .1 .1 .1 .1 .0 in
-    (s .pre .0, s .pre .1, s .pre .2, omega (arith, s .pre .3), λ e. absurd (false≢true e))
+    (s .pre .0, s .pre .1, s .pre .2, omega (arith, s .pre .3))
 
 returns-3 : tie.Need-returns-3
 returns-3 c =
@@ -40,8 +39,8 @@ returns-3 c =
     let a = s .args in
     let t = c .before .before .before .before .before .before .before .before .before .before .before .before .before .before .before .before .before .try-rows in
     let q = c .before .before .before .before .before .before .before .sum-rows in
-    let w = subst (λ (l : List Float). Walked (a .offsets .now) (a .columns .now) (a .values .now) (a .input .now) (a .overwrite) (a .output .now) l (q .result) (q .last .1 .1 .1 .1 .1 .1 .1 .0)) (t .ensures .kept (c .before .before .before .before .before .before .before .before .before .before .before .before .before .before .if1 .left)) (q .ensures) in
-    late-answer (a .offsets .now) (a .columns .now) (a .values .now) (a .input .now) (a .overwrite) (a .output .now) (a .work .now) (s .pre .2) (s .pre .3) (s .pre .0) (s .pre .1) (sym (c .before .before .before .before .before .before .before .before .before .before .before .before .check-tables .ensures) ∙ c .before .before .before .before .before .before .before .before .before .before .enum-told .given .1) (q .result) (q .last .1 .1 .1 .1 .1 .1 .1 .0) w (c .before .before .clear-numbers .last .0) (c .before .before .clear-numbers .ensures) (c .before .before .before .before .if2 .taken)
+    let w = subst (λ (l : List Float). Walked (a .offsets .now) (a .columns .now) (a .values .now) (a .input .now) (a .overwrite) (a .output .now) l (q .result) (q .last .1 .1 .1 .1 .1 .1 .0)) (t .ensures .kept (c .before .before .before .before .before .before .before .before .before .before .before .before .before .before .if1 .left)) (q .ensures) in
+    late-answer (a .offsets .now) (a .columns .now) (a .values .now) (a .input .now) (a .overwrite) (a .output .now) (a .work .now) (s .pre .2) (s .pre .3) (s .pre .0) (s .pre .1) (sym (c .before .before .before .before .before .before .before .before .before .before .before .before .check-tables .ensures) ∙ c .before .before .before .before .before .before .before .before .before .before .enum-told .given .1) (q .result) (q .last .1 .1 .1 .1 .1 .1 .0) w (c .before .before .clear-numbers .last .0) (c .before .before .clear-numbers .ensures) (c .before .before .before .before .if2 .taken)
 
 store-requires-2 : tie.Need-store-requires-2
 store-requires-2 c κs =
@@ -49,8 +48,8 @@ store-requires-2 c κs =
     let a = s .args in
     let t = c .before .before .before .before .before .before .before .before .before .before .before .before .before .before .before .try-rows in
     let q = c .before .before .before .before .before .sum-rows in
-    let w = subst (λ (l : List Float). Walked (a .offsets .now) (a .columns .now) (a .values .now) (a .input .now) (a .overwrite) (a .output .now) l (q .result) (q .last .1 .1 .1 .1 .1 .1 .1 .0)) (t .ensures .kept (c .before .before .before .before .before .before .before .before .before .before .before .before .if1 .left)) (q .ensures) in
-    let l = late-length (a .offsets .now) (a .columns .now) (a .values .now) (a .input .now) (a .overwrite) (a .output .now) (a .work .now) (s .pre .2) (s .pre .3) (s .pre .0) (s .pre .1) (sym (c .before .before .before .before .before .before .before .before .before .before .check-tables .ensures) ∙ c .before .before .before .before .before .before .before .before .enum-told .given .1) (q .result) (q .last .1 .1 .1 .1 .1 .1 .1 .0) w in
+    let w = subst (λ (l : List Float). Walked (a .offsets .now) (a .columns .now) (a .values .now) (a .input .now) (a .overwrite) (a .output .now) l (q .result) (q .last .1 .1 .1 .1 .1 .1 .0)) (t .ensures .kept (c .before .before .before .before .before .before .before .before .before .before .before .before .if1 .left)) (q .ensures) in
+    let l = late-length (a .offsets .now) (a .columns .now) (a .values .now) (a .input .now) (a .overwrite) (a .output .now) (a .work .now) (s .pre .2) (s .pre .3) (s .pre .0) (s .pre .1) (sym (c .before .before .before .before .before .before .before .before .before .before .check-tables .ensures) ∙ c .before .before .before .before .before .before .before .before .enum-told .given .1) (q .result) (q .last .1 .1 .1 .1 .1 .1 .0) w in
     omega (arith, l, s .pre .2, s .pre .3)
 
 returns-4 : tie.Need-returns-4
@@ -59,9 +58,9 @@ returns-4 c =
     let a = s .args in
     let t = c .before .before .before .before .before .before .before .before .before .before .before .before .before .before .before .before .before .before .before .before .try-rows in
     let q = c .before .before .before .before .before .before .before .before .before .before .sum-rows in
-    let w = subst (λ (l : List Float). Walked (a .offsets .now) (a .columns .now) (a .values .now) (a .input .now) (a .overwrite) (a .output .now) l (q .result) (q .last .1 .1 .1 .1 .1 .1 .1 .0)) (t .ensures .kept (c .before .before .before .before .before .before .before .before .before .before .before .before .before .before .before .before .before .if1 .left)) (q .ensures) in
+    let w = subst (λ (l : List Float). Walked (a .offsets .now) (a .columns .now) (a .values .now) (a .input .now) (a .overwrite) (a .output .now) l (q .result) (q .last .1 .1 .1 .1 .1 .1 .0)) (t .ensures .kept (c .before .before .before .before .before .before .before .before .before .before .before .before .before .before .before .before .before .if1 .left)) (q .ensures) in
     let r = c .before .before .before .before .store2 in
-    slow-answer (a .offsets .now) (a .columns .now) (a .values .now) (a .input .now) (a .overwrite) (a .output .now) (a .work .now) (s .pre .2) (s .pre .3) (s .pre .0) (s .pre .1) (sym (c .before .before .before .before .before .before .before .before .before .before .before .before .before .before .before .check-tables .ensures) ∙ c .before .before .before .before .before .before .before .before .before .before .before .before .before .enum-told .given .1) (q .result) (q .last .1 .1 .1 .1 .1 .1 .1 .0) w (r .last .0) (r .last .1 .0) (r .ensures .0) (r .ensures .1) (c .before .before .before .before .before .before .before .if2 .left)
+    slow-answer (a .offsets .now) (a .columns .now) (a .values .now) (a .input .now) (a .overwrite) (a .output .now) (a .work .now) (s .pre .2) (s .pre .3) (s .pre .0) (s .pre .1) (sym (c .before .before .before .before .before .before .before .before .before .before .before .before .before .before .before .check-tables .ensures) ∙ c .before .before .before .before .before .before .before .before .before .before .before .before .before .enum-told .given .1) (q .result) (q .last .1 .1 .1 .1 .1 .1 .0) w (r .last .0) (r .last .1 .0) (r .ensures .0) (r .ensures .1) (c .before .before .before .before .before .before .before .if2 .left)
 
 pub multiply-rows-spec : {M : Type 1} → statement M
 multiply-rows-spec =

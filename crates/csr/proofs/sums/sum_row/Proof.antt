@@ -5,10 +5,9 @@
 use mathlib.Core.Path.{sym, _∙_}
 use Prim.Native.Nat.{_-_, _<_}
 use native.Mathlib.Omega.{arith}
-use borrow.Author.Tests.{not-true, not-false}
 use lib.ListN.{length}
 use Rattle.csr.proofs.PlaceLaws.{in-place}
-use Rattle.csr.proofs.SumLaws.{Passing, passing-start, all-passed, stops-misplaced, passing-added, passing-skipped, stops-skipped}
+use Rattle.csr.proofs.SumLaws.{Passing, passing-start, all-passed, stops-misplaced, passing-more}
 use borrow.Author.Needs.{needs}
 use Rattle.csr.proofs.sums.sum_row.Statement.{statement}
 use Rattle.csr.proofs.sums.sum_row.Tie as tie
@@ -35,44 +34,29 @@ returns c =
 below : (c : tie.Else1 Inv-loop μ-loop) → c .before .before .wide .result < length (c .before .before .before .before .before .before .before .before .before .args .input .now)
 below c = in-place (c .before .before .before .before .before .loop .least) (length (c .before .before .before .before .before .before .before .before .before .args .input .now)) _ (sym (c .before .is-misplaced .ensures) ∙ c .if1 .left) .1
 
-mul-value : tie.Need-mul-value Inv-loop μ-loop
-mul-value c = let h = c .before .before .before .before .before .before .before .before .before .pre in search needs
+mul-sum : tie.Need-mul-sum Inv-loop μ-loop
+mul-sum c = let h = c .before .before .before .before .before .before .before .before .before .pre in search needs
 
-shared-slice-read-value : tie.Need-shared-slice-read-value Inv-loop μ-loop
-shared-slice-read-value c = omega (arith, c .before .before .before .before .before .before .before .before .before .before .pre, c .before .before .before .before .before .loop-test .taken)
+shared-slice-read-sum : tie.Need-shared-slice-read-sum Inv-loop μ-loop
+shared-slice-read-sum c = omega (arith, c .before .before .before .before .before .before .before .before .before .before .pre, c .before .before .before .before .before .loop-test .taken)
 
-mul-x : tie.Need-mul-x Inv-loop μ-loop
-mul-x c = let h = below (c .before) in search needs
+mul-sum-2 : tie.Need-mul-sum-2 Inv-loop μ-loop
+mul-sum-2 c = let h = below (c .before) in search needs
 
-shared-slice-read-x : tie.Need-shared-slice-read-x Inv-loop μ-loop
-shared-slice-read-x c = below (c .before .before)
-
-returns-2 : tie.Need-returns-2 Inv-loop μ-loop
-returns-2 c =
-    let s = c .before .before .before .before .before .before .before .before .before .before .before .before .before .before in
-    let l = c .before .before .before .before .before .before .before .before .before .before .loop in
-    stops-skipped (s .args .input .now) (s .args .columns .now) (s .args .values .now) (s .pre) (l .sum) (l .least) (l .k) _ (l .inv) (c .before .before .before .before .before .before .before .before .before .loop-test .taken) (c .before .before .before .before .before .before .before .wide .ensures) (c .before .before .before .before .before .before .is-misplaced .ensures) (c .before .before .before .before .before .if1 .left) (c .before .before .if2 .taken) (c .before .is-finite .ensures) (not-true _ (c .if3 .taken))
+shared-slice-read-sum-2 : tie.Need-shared-slice-read-sum-2 Inv-loop μ-loop
+shared-slice-read-sum-2 c = below (c .before .before)
 
 add-least : tie.Need-add-least Inv-loop μ-loop
-add-least c = let h = below (c .before .before .before .before .before) in search needs
+add-least c = let h = below (c .before .before) in search needs
 
 loop-again : tie.Need-loop-again Inv-loop μ-loop
 loop-again c =
-    let s = c .before .before .before .before .before .before .before .before .before .before .before .before .before .before in
-    let l = c .before .before .before .before .before .before .before .before .before .before .loop in
-    passing-skipped (s .args .input .now) (s .args .columns .now) (s .args .values .now) (s .pre) (l .sum) (l .least) (l .k) _ (l .inv) (c .before .before .before .before .before .before .before .before .before .loop-test .taken) (c .before .before .before .before .before .before .before .wide .ensures) (c .before .before .before .before .before .before .is-misplaced .ensures) (c .before .before .before .before .before .if1 .left) (c .before .before .if2 .taken) (c .before .is-finite .ensures) (not-false _ (c .if3 .left))
+    let s = c .before .before .before .before .before .before .before .before .before .before .before in
+    let l = c .before .before .before .before .before .before .before .loop in
+    passing-more (s .args .input .now) (s .args .columns .now) (s .args .values .now) (s .pre) (l .sum) (l .least) (l .k) _ (l .inv) (c .before .before .before .before .before .before .loop-test .taken) (c .before .before .before .before .wide .ensures) (c .before .before .before .is-misplaced .ensures) (c .before .before .if1 .left)
 
-add-least-2 : tie.Need-add-least-2 Inv-loop μ-loop
-add-least-2 c = let h = below (c .before .before .before) in search needs
-
-loop-again-2 : tie.Need-loop-again-2 Inv-loop μ-loop
-loop-again-2 c =
-    let s = c .before .before .before .before .before .before .before .before .before .before .before .before in
-    let l = c .before .before .before .before .before .before .before .before .loop in
-    passing-added (s .args .input .now) (s .args .columns .now) (s .args .values .now) (s .pre) (l .sum) (l .least) (l .k) _ (l .inv) (c .before .before .before .before .before .before .before .loop-test .taken) (c .before .before .before .before .before .wide .ensures) (c .before .before .before .before .is-misplaced .ensures) (c .before .before .before .if1 .left) (c .if2 .left)
-
-returns-3 : tie.Need-returns-3 Inv-loop μ-loop
-returns-3 c =
+returns-2 : tie.Need-returns-2 Inv-loop μ-loop
+returns-2 c =
     let s = c .before .before .before .before .before in
     let l = c .before .loop in
     all-passed (s .args .input .now) (s .args .columns .now) (s .args .values .now) (s .pre) (l .sum) (l .least) (l .k) (l .inv) (c .loop-test .left)
@@ -89,18 +73,12 @@ sum-row-spec =
     (λ c κs. search needs)
     is-misplaced-requires
     returns
-    mul-value
-    shared-slice-read-value
-    mul-x
-    shared-slice-read-x
-    (λ c κs. search needs)
-    returns-2
+    mul-sum
+    shared-slice-read-sum
+    mul-sum-2
+    shared-slice-read-sum-2
     add-least
     (λ c. search needs)
     (λ c. search needs)
     loop-again
-    add-least-2
-    (λ c. search needs)
-    (λ c. search needs)
-    loop-again-2
-    returns-3)
+    returns-2)

@@ -10,7 +10,7 @@ use lib.Ieee.{Float}
 use lib.ListN.{getD, length}
 use Rattle.number.specs.Floats.{isFinite}
 use Rattle.csr.specs.Rows.{partOf}
-use Rattle.csr.specs.Products.{storedAt}
+use Rattle.csr.specs.Walks.{fullAt}
 use Rattle.csr.proofs.RowLaws.{part-length}
 use Rattle.csr.proofs.WalkLaws.{Walking, walking-start, walking-next, work-long, stopped-here, stopped-never, stops-row, stops-value, goes-on, falling-row, outside-row, stopped-row, passed-row, stored-here}
 use borrow.Author.Needs.{needs}
@@ -18,10 +18,10 @@ use Rattle.csr.proofs.sums.sum_rows.Statement.{statement}
 use Rattle.csr.proofs.sums.sum_rows.Tie as tie
 
 abbrev Inv-loop : tie.InvT-loop
-Inv-loop full offsets columns values input overwrite output work₀ rows r₀ work r = Walking offsets columns values input overwrite output work₀ r work
+Inv-loop offsets columns values input overwrite output work₀ rows r₀ work r = Walking offsets columns values input overwrite output work₀ r work
 
 abbrev μ-loop : tie.MeasureT-loop
-μ-loop full offsets columns values input overwrite output work₀ rows r₀ work r = length input - r
+μ-loop offsets columns values input overwrite output work₀ rows r₀ work r = length input - r
 
 loop-holds : tie.Need-loop-holds Inv-loop μ-loop
 loop-holds c = let a = c .before .before .before .before .before .before .args in walking-start (a .offsets .now) (a .columns .now) (a .values .now) (a .input .now) (a .overwrite) (a .output .now) (a .work .now)
@@ -62,36 +62,34 @@ returns-2 c =
     let l = c .before .before .before .before .before .loop in
     stopped-here (a .offsets .now) (a .columns .now) (a .values .now) (a .input .now) (a .overwrite) (a .output .now) (a .work .now) (l .r) (l .work) (l .inv) (c .before .before .before .before .loop-test .taken) (stops-row (a .offsets .now) (a .columns .now) (a .values .now) (a .input .now) (a .overwrite) (a .output .now) (l .r) (outside-row (a .offsets .now) (a .columns .now) (a .values .now) (a .input .now) (l .r) (c .if2 .taken)))
 
-mul-row-sum : tie.Need-mul-row-sum Inv-loop μ-loop
-mul-row-sum c = let h1 = c .before .if1 .left in let h2 = c .if2 .left in search needs
+mul-sum-row : tie.Need-mul-sum-row Inv-loop μ-loop
+mul-sum-row c = let h1 = c .before .if1 .left in let h2 = c .if2 .left in search needs
 
-part-row-sum-start : tie.Need-part-row-sum-start Inv-loop μ-loop
-part-row-sum-start c = c .before .if1 .left
+part-sum-row-start : tie.Need-part-sum-row-start Inv-loop μ-loop
+part-sum-row-start c = c .before .if1 .left
 
-part-row-sum-end : tie.Need-part-row-sum-end Inv-loop μ-loop
-part-row-sum-end c = c .if2 .left
+part-sum-row-end : tie.Need-part-sum-row-end Inv-loop μ-loop
+part-sum-row-end c = c .if2 .left
 
-mul-row-sum-2 : tie.Need-mul-row-sum-2 Inv-loop μ-loop
-mul-row-sum-2 c = let h1 = c .before .before .if1 .left in let h2 = c .before .if2 .left in let h3 = c .before .before .before .before .before .before .before .before .before .before .before .before .before .pre .1 in search needs
+mul-sum-row-2 : tie.Need-mul-sum-row-2 Inv-loop μ-loop
+mul-sum-row-2 c = let h1 = c .before .before .if1 .left in let h2 = c .before .if2 .left in let h3 = c .before .before .before .before .before .before .before .before .before .before .before .before .before .pre .1 in search needs
 
-part-row-sum-start-2 : tie.Need-part-row-sum-start-2 Inv-loop μ-loop
-part-row-sum-start-2 c = c .before .before .if1 .left
+part-sum-row-start-2 : tie.Need-part-sum-row-start-2 Inv-loop μ-loop
+part-sum-row-start-2 c = c .before .before .if1 .left
 
-part-row-sum-end-2 : tie.Need-part-row-sum-end-2 Inv-loop μ-loop
-part-row-sum-end-2 c = omega (arith, c .before .if2 .left, c .before .before .before .before .before .before .before .before .before .before .before .before .before .pre .1)
+part-sum-row-end-2 : tie.Need-part-sum-row-end-2 Inv-loop μ-loop
+part-sum-row-end-2 c = omega (arith, c .before .if2 .left, c .before .before .before .before .before .before .before .before .before .before .before .before .before .pre .1)
 
-row-sum-requires : tie.Need-row-sum-requires Inv-loop μ-loop
+sum-row-requires : tie.Need-sum-row-requires Inv-loop μ-loop
 unfolding partOf
-row-sum-requires c κs =
+sum-row-requires c κs =
     let s = c .before .before .before .before .before .before .before .before .before .before .before .before .before .before in
     let a = s .args in
     let l = c .before .before .before .before .before .before .before .loop in
     let h1 = c .before .before .before .if1 .left in
-    let h2 = c .before .before .if2 .left in (
-      part-length (record { start = getD (a .offsets .now) (l .r) 0; end = getD (a .offsets .now) (l .r + 1) 0 }) (a .values .now) h1 (omega (arith, s .pre .1))
-          ∙ sym (part-length (record { start = getD (a .offsets .now) (l .r) 0; end = getD (a .offsets .now) (l .r + 1) 0 }) (a .columns .now) h1 h2),
-      λ e. s .pre .4 e,
-    )
+    let h2 = c .before .before .if2 .left in
+    part-length (record { start = getD (a .offsets .now) (l .r) 0; end = getD (a .offsets .now) (l .r + 1) 0 }) (a .values .now) h1 (omega (arith, s .pre .1))
+    ∙ sym (part-length (record { start = getD (a .offsets .now) (l .r) 0; end = getD (a .offsets .now) (l .r + 1) 0 }) (a .columns .now) h1 h2)
 
 same-length-3 : tie.Need-same-length-3 Inv-loop μ-loop
 same-length-3 c = long (c .before .before .before .before .before .before .before .before .before .before)
@@ -103,18 +101,18 @@ returns-3 c =
     let a = s .args in
     let l = c .before .before .before .before .before .before .before .before .before .before .loop in
     stopped-here (a .offsets .now) (a .columns .now) (a .values .now) (a .input .now) (a .overwrite) (a .output .now) (a .work .now) (l .r) (l .work) (l .inv) (c .before .before .before .before .before .before .before .before .before .loop-test .taken)
-    (stops-row (a .offsets .now) (a .columns .now) (a .values .now) (a .input .now) (a .overwrite) (a .output .now) (l .r) (stopped-row (a .offsets .now) (a .columns .now) (a .values .now) (a .input .now) (l .r) (omega (arith, s .pre .0, c .before .before .before .before .before .before .before .before .before .loop-test .taken)) (c .before .before .before .before .before .before .if1 .left) (c .before .before .before .before .before .if2 .left) (c .before .before .row-sum .result) (c .before .before .row-sum .ensures) (c .if3 .taken)))
+    (stops-row (a .offsets .now) (a .columns .now) (a .values .now) (a .input .now) (a .overwrite) (a .output .now) (l .r) (stopped-row (a .offsets .now) (a .columns .now) (a .values .now) (a .input .now) (l .r) (omega (arith, s .pre .0, c .before .before .before .before .before .before .before .before .before .loop-test .taken)) (c .before .before .before .before .before .before .if1 .left) (c .before .before .before .before .before .if2 .left) (c .before .before .sum-row .result) (c .before .before .sum-row .ensures) (c .if3 .taken)))
 
 -- the value is what is to be stored at r
-value-is : (c : tie.After-stored Inv-loop μ-loop) → c .stored .result ≡ storedAt (length (c .before .before .before .before .before .before .before .before .before .before .before .before .before .before .before .before .before .before .before .args .input .now)) (c .before .before .before .before .before .before .before .before .before .before .before .before .before .before .before .before .before .before .before .args .offsets .now) (c .before .before .before .before .before .before .before .before .before .before .before .before .before .before .before .before .before .before .before .args .columns .now) (c .before .before .before .before .before .before .before .before .before .before .before .before .before .before .before .before .before .before .before .args .values .now) (c .before .before .before .before .before .before .before .before .before .before .before .before .before .before .before .before .before .before .before .args .input .now) (c .before .before .before .before .before .before .before .before .before .before .before .before .before .before .before .before .before .before .before .args .overwrite) (c .before .before .before .before .before .before .before .before .before .before .before .before .before .before .before .before .before .before .before .args .output .now) (c .before .before .before .before .before .before .before .before .before .before .before .before .loop .r)
+value-is : (c : tie.After-stored Inv-loop μ-loop) → c .stored .result ≡ fullAt (c .before .before .before .before .before .before .before .before .before .before .before .before .before .before .before .before .before .before .before .args .offsets .now) (c .before .before .before .before .before .before .before .before .before .before .before .before .before .before .before .before .before .before .before .args .columns .now) (c .before .before .before .before .before .before .before .before .before .before .before .before .before .before .before .before .before .before .before .args .values .now) (c .before .before .before .before .before .before .before .before .before .before .before .before .before .before .before .before .before .before .before .args .input .now) (c .before .before .before .before .before .before .before .before .before .before .before .before .before .before .before .before .before .before .before .args .overwrite) (c .before .before .before .before .before .before .before .before .before .before .before .before .before .before .before .before .before .before .before .args .output .now) (c .before .before .before .before .before .before .before .before .before .before .before .before .loop .r)
 unfolding partOf
 value-is c =
     let s = c .before .before .before .before .before .before .before .before .before .before .before .before .before .before .before .before .before .before .before in
     let a = s .args in
     let l = c .before .before .before .before .before .before .before .before .before .before .before .before .loop in
-    stored-here (a .offsets .now) (a .columns .now) (a .values .now) (a .input .now) (l .r) (omega (arith, s .pre .0, c .before .before .before .before .before .before .before .before .before .before .before .loop-test .taken)) (c .before .before .before .before .before .before .before .before .if1 .left) (c .before .before .before .before .before .before .before .if2 .left) (c .before .before .before .before .row-sum .result) (c .before .before .before .before .row-sum .ensures) (c .before .before .if3 .left) (a .overwrite) (a .output .now) (c .stored .result) (c .stored .ensures)
+    stored-here (a .offsets .now) (a .columns .now) (a .values .now) (a .input .now) (l .r) (omega (arith, s .pre .0, c .before .before .before .before .before .before .before .before .before .before .before .loop-test .taken)) (c .before .before .before .before .before .before .before .before .if1 .left) (c .before .before .before .before .before .before .before .if2 .left) (c .before .before .before .before .sum-row .result) (c .before .before .before .before .sum-row .ensures) (c .before .before .if3 .left) (a .overwrite) (a .output .now) (c .stored .result) (c .stored .ensures)
 
-finite-is : (c : tie.After-is-finite Inv-loop μ-loop) → c .is-finite .result ≡ isFinite (storedAt (length (c .before .before .before .before .before .before .before .before .before .before .before .before .before .before .before .before .before .before .before .before .args .input .now)) (c .before .before .before .before .before .before .before .before .before .before .before .before .before .before .before .before .before .before .before .before .args .offsets .now) (c .before .before .before .before .before .before .before .before .before .before .before .before .before .before .before .before .before .before .before .before .args .columns .now) (c .before .before .before .before .before .before .before .before .before .before .before .before .before .before .before .before .before .before .before .before .args .values .now) (c .before .before .before .before .before .before .before .before .before .before .before .before .before .before .before .before .before .before .before .before .args .input .now) (c .before .before .before .before .before .before .before .before .before .before .before .before .before .before .before .before .before .before .before .before .args .overwrite) (c .before .before .before .before .before .before .before .before .before .before .before .before .before .before .before .before .before .before .before .before .args .output .now) (c .before .before .before .before .before .before .before .before .before .before .before .before .before .loop .r))
+finite-is : (c : tie.After-is-finite Inv-loop μ-loop) → c .is-finite .result ≡ isFinite (fullAt (c .before .before .before .before .before .before .before .before .before .before .before .before .before .before .before .before .before .before .before .before .args .offsets .now) (c .before .before .before .before .before .before .before .before .before .before .before .before .before .before .before .before .before .before .before .before .args .columns .now) (c .before .before .before .before .before .before .before .before .before .before .before .before .before .before .before .before .before .before .before .before .args .values .now) (c .before .before .before .before .before .before .before .before .before .before .before .before .before .before .before .before .before .before .before .before .args .input .now) (c .before .before .before .before .before .before .before .before .before .before .before .before .before .before .before .before .before .before .before .before .args .overwrite) (c .before .before .before .before .before .before .before .before .before .before .before .before .before .before .before .before .before .before .before .before .args .output .now) (c .before .before .before .before .before .before .before .before .before .before .before .before .before .loop .r))
 finite-is c = c .is-finite .ensures ∙ ap (λ (x : Float). isFinite x) (value-is (c .before))
 
 same-length-4 : tie.Need-same-length-4 Inv-loop μ-loop
@@ -139,7 +137,7 @@ loop-again c =
     let s = c .before .before .before .before .before .before .before .before .before .before .before .before .before .before .before .before .before .before .before .before .before in
     let a = s .args in
     let l = c .before .before .before .before .before .before .before .before .before .before .before .before .before .before .loop in
-    let passed = passed-row (a .offsets .now) (a .columns .now) (a .values .now) (a .input .now) (l .r) (omega (arith, s .pre .0, c .before .before .before .before .before .before .before .before .before .before .before .before .before .loop-test .taken)) (c .before .before .before .before .before .before .before .before .before .before .if1 .left) (c .before .before .before .before .before .before .before .before .before .if2 .left) (c .before .before .before .before .before .before .row-sum .result) (c .before .before .before .before .before .before .row-sum .ensures) (c .before .before .before .before .if3 .left) in
+    let passed = passed-row (a .offsets .now) (a .columns .now) (a .values .now) (a .input .now) (l .r) (omega (arith, s .pre .0, c .before .before .before .before .before .before .before .before .before .before .before .before .before .loop-test .taken)) (c .before .before .before .before .before .before .before .before .before .before .if1 .left) (c .before .before .before .before .before .before .before .before .before .if2 .left) (c .before .before .before .before .before .before .sum-row .result) (c .before .before .before .before .before .before .sum-row .ensures) (c .before .before .before .before .if3 .left) in
     walking-next (a .offsets .now) (a .columns .now) (a .values .now) (a .input .now) (a .overwrite) (a .output .now) (a .work .now) (l .r) (l .work) (l .inv) (s .pre .3) (c .before .before .before .before .before .before .before .before .before .before .before .before .before .loop-test .taken) (c .before .before .stored .result) (value-is (c .before .before))
     (goes-on (a .offsets .now) (a .columns .now) (a .values .now) (a .input .now) (a .overwrite) (a .output .now) (l .r) passed (sym (finite-is (c .before)) ∙ not-false _ (c .if4 .left)))
 
@@ -169,13 +167,13 @@ sum-rows-spec =
     returns
     same-length-2
     returns-2
-    mul-row-sum
-    part-row-sum-start
-    part-row-sum-end
-    mul-row-sum-2
-    part-row-sum-start-2
-    part-row-sum-end-2
-    row-sum-requires
+    mul-sum-row
+    part-sum-row-start
+    part-sum-row-end
+    mul-sum-row-2
+    part-sum-row-start-2
+    part-sum-row-end-2
+    sum-row-requires
     same-length-3
     returns-3
     (λ c. search needs)
