@@ -1,7 +1,7 @@
 -- SPDX-FileCopyrightText: 2026 The PPVM Authors
 -- SPDX-License-Identifier: Apache-2.0
 
--- Degree, for every f64: the pair is the first of least product m × s over the rows of the table; and the document's examples.
+-- Degree, for every f64: the pair is the first of least product m × s over the rows of the table.
 -- Assumes nothing.
 use mathlib.Core.Path.{_≡_, refl, sym, ap, ap₂, _∙_, subst}
 use mathlib.Core.Bool.{Bool, true, false, _&&_, cond}
@@ -164,24 +164,3 @@ degree-none dropTol t h = go (le (decimal 1 4) dropTol)
     go : (b : Bool) → degreeBy (cond b thetaLoose theta) t ≡ pair 1 1
     go true = rw h
     go false = rw h
-
--- ---- the examples of the document
-pub at-0-3 : degreeBy theta (decimal 3 1) ≡ pair 12 1
-unfolding theta round lt ofBits div stepsOf firstOf better degreeBy
-at-0-3 = refl
-
-pub at-1 : degreeBy theta (decimal 1 0) ≡ pair 18 1
-unfolding theta round lt ofBits div stepsOf firstOf better degreeBy
-at-1 = refl
-
-pub at-4 : degreeBy theta (decimal 4 0) ≡ pair 23 2
-unfolding theta round lt ofBits div stepsOf firstOf better degreeBy
-at-4 = refl
-
-pub at-infinity : degreeBy theta (inf false) ≡ pair 1 4294967295
-unfolding theta round lt ofBits div stepsOf firstOf better degreeBy
-at-infinity = refl
-
-pub loose-at-1 : degreeBy thetaLoose (decimal 1 0) ≡ pair 9 1
-unfolding thetaLoose round lt ofBits div stepsOf firstOf better degreeBy
-loose-at-1 = refl

@@ -1,0 +1,215 @@
+-- SPDX-FileCopyrightText: 2026 The PPVM Authors
+-- SPDX-License-Identifier: Apache-2.0
+
+-- In work tables of the lengths that `leakageSizes` and `generatorSizes` name, no work table decides what leakage, the generator,
+-- the matrix by rows and the norm test: of any two such lendings the tests end alike. And there is room for the words touched, the
+-- candidates and the entries that the lengths were named for. Assumes nothing.
+use Prim.Native.Nat.{ℕ, _*_, _/_, _≤_, min, max}
+use mathlib.Core.Path.{_≡_, refl}
+use mathlib.Core.Bool.{Bool, true, false, cond}
+use mathlib.Core.List.{List}
+use native.Mathlib.Nat.{le-trans, le-min, le-max-left, le-max-right}
+use native.Mathlib.Omega.{arith}
+use borrow.Author.Tests.{le-ltb, ltb-false}
+use lib.Dec.{ltb}
+use lib.ListN.{length}
+use Rattle.refusal.specs.declared.Refusal.the-variants.{CountAboveLimit}
+use Rattle.refusal.specs.declared.Answer.{Answer}
+use Rattle.refusal.specs.declared.Answer.the-variants.{Accepted, Refused}
+use Rattle.word.specs.Word.{maxQubits}
+use Rattle.model.specs.Stored.{Tables}
+use Rattle.model.specs.Tested.{counted, testModel}
+use Rattle.model.specs.Built.{andThen}
+use Rattle.model.specs.declared.tables.Model.{Model}
+use Rattle.model_laws.proofs.StandsLaws.{tested-stands}
+use Rattle.action.specs.Acts.{sumPlaces}
+use Rattle.action.specs.Counts.{maxWords, rowLanes}
+use Rattle.leakage.specs.Leakages as Leak
+use Rattle.leakage.specs.declared.limits.Limits.{Limits}
+use Rattle.generator.specs.Lent as Gen
+use Rattle.norm.specs.Norms as Norm
+use Rattle.pebblelinen.specs.Leakages.{leakageSizes, maxPlaces}
+use Rattle.pebblelinen.specs.Generators.{generatorSizes, maxEntries}
+use Rattle.pebblelinen.specs.declared.leakages.LeakageSizes.{LeakageSizes}
+use Rattle.pebblelinen.specs.declared.generators.GeneratorSizes.{GeneratorSizes}
+
+-- ---- what comes after a test need agree only where the test is passed
+then-alike : (a : Answer) {b c : Answer} → (a ≡ Accepted → b ≡ c) → andThen a b ≡ andThen a c
+then-alike Accepted h = h refl
+then-alike (Refused r) h = refl
+
+counted-alike : (limit count : ℕ) {b c : Answer} → (count ≤ limit → b ≡ c) → counted limit count b ≡ counted limit count c
+counted-alike limit count {b} {c} h = go (ltb limit count) refl
+  where
+    go : (x : Bool) → ltb limit count ≡ x → cond x (Refused (CountAboveLimit count)) b ≡ cond x (Refused (CountAboveLimit count)) c
+    go true e = refl
+    go false e = h (ltb-false limit count e)
+
+-- ---- places by lengths
+quarter : (k t : ℕ) {n : ℕ} → k ≤ t → 4 * t ≤ n → k ≤ n / 4
+quarter k t h m = omega arith
+
+half : (k t : ℕ) {n : ℕ} → k ≤ t → 2 * t ≤ n → k ≤ n / 2
+half k t h m = omega arith
+
+-- ---- leakage
+pub record LeakageLent (s : LeakageSizes) (w : Leak.Work) : Type 0 where
+  pub h-index : s .«h_index» ≤ length (w .hIndex)
+  pub j-index : s .«j_index» ≤ length (w .jIndex)
+  pub mask : s .mask ≤ length (w .mask)
+  pub work-words : s .«work_words» ≤ length (w .workWords)
+  pub work-sums : s .«work_sums» ≤ length (w .workSums)
+  pub order : s .order ≤ length (w .order)
+  pub heads : s .heads ≤ length (w .heads)
+  pub nexts : s .nexts ≤ length (w .nexts)
+  pub fixed-heads : s .«fixed_heads» ≤ length (w .fixedHeads)
+  pub fixed-nexts : s .«fixed_nexts» ≤ length (w .fixedNexts)
+  pub log-words : s .«log_words» ≤ length (w .logWords)
+  pub log-values : s .«log_values» ≤ length (w .logValues)
+  pub cand-words : s .«cand_words» ≤ length (w .candWords)
+  pub cand-sums : s .«cand_sums» ≤ length (w .candSums)
+  pub next-words : s .«next_words» ≤ length (w .nextWords)
+  pub next-sums : s .«next_sums» ≤ length (w .nextSums)
+  pub place-order : s .«place_order» ≤ length (w .placeOrder)
+  pub place-work : s .«place_work» ≤ length (w .placeWork)
+  pub place-kept : s .«place_kept» ≤ length (w .placeKept)
+
+module _ (qubits entries protected touched candidates : ℕ) (w : Leak.Work) (a : LeakageLent (leakageSizes qubits entries protected touched candidates) w) where
+  work-accepted : qubits ≤ maxQubits → entries ≤ maxWords → protected ≤ maxWords → Leak.workTests qubits entries protected w ≡ Accepted
+  unfolding leakageSizes Leak.workTests
+  work-accepted q e p =
+      rw (
+        le-ltb (length (w .hIndex)) (rowLanes * qubits) (omega (arith, a .h-index)),
+        le-ltb (length (w .jIndex)) (rowLanes * qubits) (omega (arith, a .j-index)),
+        le-ltb (length (w .mask)) rowLanes (a .mask),
+        le-ltb (length (w .order)) entries (omega (arith, a .order)),
+        le-ltb (length (w .heads)) entries (omega (arith, a .heads)),
+        le-ltb (length (w .nexts)) entries (omega (arith, a .nexts)),
+        le-ltb (length (w .fixedHeads)) protected (omega (arith, a .fixed-heads)),
+        le-ltb (length (w .fixedNexts)) protected (omega (arith, a .fixed-nexts)),
+      )
+
+  -- there is room for as many words touched, and as many candidates
+  abbrev t : ℕ
+  t = min touched maxPlaces
+
+  abbrev c : ℕ
+  c = min candidates maxPlaces
+
+  pub touched-room : touched ≤ maxPlaces → touched ≤ Leak.sumPlaces w
+  unfolding leakageSizes Leak.actionPlaces
+  touched-room h =
+      let e : touched ≤ t = omega arith in
+      let l : touched ≤ max t c = le-trans e (le-max-left t c) in
+      le-min (le-min (quarter touched t e (a .work-words)) (half touched t e (a .work-sums))) (le-min (le-min (quarter touched (max t c) l (a .log-words)) (le-trans l (a .log-values))) (le-min (le-trans l (a .place-order)) (le-trans l (a .place-work))))
+
+  pub candidates-room : candidates ≤ maxPlaces → candidates ≤ Leak.candidatePlaces w
+  unfolding leakageSizes Leak.rowPlaces
+  candidates-room h =
+      let e : candidates ≤ c = omega arith in
+      let l : candidates ≤ max t c = le-trans e (le-max-right t c) in
+      le-min (le-min (le-min (quarter candidates c e (a .cand-words)) (le-trans e (a .cand-sums))) (le-min (quarter candidates c e (a .next-words)) (le-trans e (a .next-sums)))) (le-min (le-min (le-trans l (a .place-order)) (le-trans l (a .place-work))) (le-trans e (a .place-kept)))
+
+pub leakage-enough : (m : Model) (t : Tables) (b : Leak.Basis) (l : Limits) (touched candidates : ℕ) (w w′ : Leak.Work)
+    → LeakageLent (leakageSizes (m .qubits) (b .len) (length (b .protected) / 4) touched candidates) w
+    → LeakageLent (leakageSizes (m .qubits) (b .len) (length (b .protected) / 4) touched candidates) w′
+    → Leak.leakTests m t b l w ≡ Leak.leakTests m t b l w′
+unfolding Leak.leakTests
+leakage-enough m t b l touched candidates w w′ x y =
+    then-alike (testModel m t) (λ e. counted-alike maxWords (b .len) (λ f. counted-alike maxWords (length (b .protected) / 4) (λ g.
+    let p = tested-stands m t e .qubits in
+    rw (work-accepted (m .qubits) (b .len) (length (b .protected) / 4) touched candidates w x p f g, work-accepted (m .qubits) (b .len) (length (b .protected) / 4) touched candidates w′ y p f g))))
+
+-- ---- the generator and the matrix by rows
+pub record GeneratorLent (s : GeneratorSizes) (w : Gen.Work) : Type 0 where
+  pub h-index : s .«h_index» ≤ length (w .hIndex)
+  pub j-index : s .«j_index» ≤ length (w .jIndex)
+  pub mask : s .mask ≤ length (w .mask)
+  pub heads : s .heads ≤ length (w .heads)
+  pub nexts : s .nexts ≤ length (w .nexts)
+  pub work-words : s .«work_words» ≤ length (w .workWords)
+  pub work-sums : s .«work_sums» ≤ length (w .workSums)
+  pub stage-rows : s .«stage_rows» ≤ length (w .stageRows)
+  pub stage-columns : s .«stage_columns» ≤ length (w .stageColumns)
+  pub stage-values : s .«stage_values» ≤ length (w .stageValues)
+
+module _ (qubits len touched entries : ℕ) (w : Gen.Work) (a : GeneratorLent (generatorSizes qubits len touched entries) w) where
+  record Passes : Type 0 where
+    h-index : ltb (length (w .hIndex)) (rowLanes * qubits) ≡ false
+    j-index : ltb (length (w .jIndex)) (rowLanes * qubits) ≡ false
+    mask : ltb (length (w .mask)) rowLanes ≡ false
+    heads : ltb (length (w .heads)) len ≡ false
+    nexts : ltb (length (w .nexts)) len ≡ false
+
+  passes : qubits ≤ maxQubits → len ≤ maxWords → Passes
+  unfolding generatorSizes
+  passes q e = record {
+    h-index = le-ltb (length (w .hIndex)) (rowLanes * qubits) (omega (arith, a .h-index));
+    j-index = le-ltb (length (w .jIndex)) (rowLanes * qubits) (omega (arith, a .j-index));
+    mask = le-ltb (length (w .mask)) rowLanes (a .mask);
+    heads = le-ltb (length (w .heads)) len (omega (arith, a .heads));
+    nexts = le-ltb (length (w .nexts)) len (omega (arith, a .nexts));
+  }
+
+  -- there is room for as many words touched, and as many entries
+  pub sums-room : touched ≤ maxPlaces → touched ≤ sumPlaces (w .workWords) (w .workSums)
+  unfolding generatorSizes
+  sums-room h = omega (arith, a .work-words, a .work-sums)
+
+  pub entries-room : entries ≤ maxEntries → entries ≤ Gen.stagePlaces w
+  unfolding generatorSizes
+  entries-room h = omega (arith, a .stage-rows, a .stage-columns, a .stage-values)
+
+module _ (m : Model) (t : Tables) (lanes : List ℕ) (len touched entries : ℕ) (w w′ : Gen.Work) (x : GeneratorLent (generatorSizes (m .qubits) len touched entries) w) (y : GeneratorLent (generatorSizes (m .qubits) len touched entries) w′) where
+  lent-alike : Gen.lentTests m t lanes len w ≡ Gen.lentTests m t lanes len w′
+  unfolding Gen.tableTests
+  lent-alike =
+      then-alike (testModel m t) (λ e. counted-alike maxWords len (λ f.
+      let p = passes (m .qubits) len touched entries w x (tested-stands m t e .qubits) f in
+      let q = passes (m .qubits) len touched entries w′ y (tested-stands m t e .qubits) f in
+      rw (p .h-index, p .j-index, p .mask, p .heads, p .nexts, q .h-index, q .j-index, q .mask, q .heads, q .nexts)))
+
+  pub generator-enough : Gen.generatorTests m t lanes len w ≡ Gen.generatorTests m t lanes len w′
+  unfolding Gen.generatorTests
+  generator-enough = rw lent-alike
+
+  pub csr-enough : (offsets : List ℕ) → Gen.csrTests m t lanes len w offsets ≡ Gen.csrTests m t lanes len w′ offsets
+  unfolding Gen.csrTests
+  csr-enough offsets = rw lent-alike
+
+-- ---- the norm: the same tables, and a number for each word in the last two
+pub record NormLent (s : GeneratorSizes) (len : ℕ) (w : Norm.Work) : Type 0 where
+  pub h-index : s .«h_index» ≤ length (w .hIndex)
+  pub j-index : s .«j_index» ≤ length (w .jIndex)
+  pub mask : s .mask ≤ length (w .mask)
+  pub raws : len ≤ length (w .raws)
+  pub diags : len ≤ length (w .diags)
+
+module _ (qubits len touched entries : ℕ) (w : Norm.Work) (a : NormLent (generatorSizes qubits len touched entries) len w) where
+  record NormPasses : Type 0 where
+    h-index : ltb (length (w .hIndex)) (rowLanes * qubits) ≡ false
+    j-index : ltb (length (w .jIndex)) (rowLanes * qubits) ≡ false
+    mask : ltb (length (w .mask)) rowLanes ≡ false
+    raws : ltb (length (w .raws)) len ≡ false
+    diags : ltb (length (w .diags)) len ≡ false
+
+  norm-passes : qubits ≤ maxQubits → NormPasses
+  unfolding generatorSizes
+  norm-passes q = record {
+    h-index = le-ltb (length (w .hIndex)) (rowLanes * qubits) (omega (arith, a .h-index));
+    j-index = le-ltb (length (w .jIndex)) (rowLanes * qubits) (omega (arith, a .j-index));
+    mask = le-ltb (length (w .mask)) rowLanes (a .mask);
+    raws = le-ltb (length (w .raws)) len (a .raws);
+    diags = le-ltb (length (w .diags)) len (a .diags);
+  }
+
+pub norm-enough : (m : Model) (t : Tables) (lanes : List ℕ) (len touched entries : ℕ) (w w′ : Norm.Work)
+    → NormLent (generatorSizes (m .qubits) len touched entries) len w
+    → NormLent (generatorSizes (m .qubits) len touched entries) len w′
+    → Norm.normTested m t lanes len w ≡ Norm.normTested m t lanes len w′
+unfolding Norm.normTests
+norm-enough m t lanes len touched entries w w′ x y =
+    then-alike (testModel m t) (λ e.
+    let p = norm-passes (m .qubits) len touched entries w x (tested-stands m t e .qubits) in
+    let q = norm-passes (m .qubits) len touched entries w′ y (tested-stands m t e .qubits) in
+    rw (p .h-index, p .j-index, p .mask, p .raws, p .diags, q .h-index, q .j-index, q .mask, q .raws, q .diags))
