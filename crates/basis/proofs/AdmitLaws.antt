@@ -23,16 +23,16 @@ use Rattle.truncate.specs.Admitted.{appendedZeros, AdmitRoom, Admits}
 use Rattle.truncate.proofs.ChosenLaws.{chosen-unfixed}
 use Rattle.basis.specs.Admissions.{admitFlags, admitTests, admit}
 use Rattle.basis.specs.declared.kept.Kept.the-variants.{Entries, Refused}
-pub use Rattle.truncate.proofs.OrderOnce.{magnitude-once, choose-asks}
+pub use Rattle.truncate.proofs.OrderOnce.{magnitude-once}
 
 -- ---- choosing and appending
 module _ (len : ℕ) (lanes : List ℕ) (coeffs : List Float) (list : List ℕ) (values : List Float) (room : ℕ) where
   abbrev flags : List ℕ
   flags = chosen (byMagnitude values) (replicate (length values) 0) room
 
-  module _ (order fixed kept : List ℕ) (m : ℕ) (eo : order ≡ byMagnitude values) (ef : fixed ≡ replicate m 0) (em : m ≡ length values) (ek : kept ≡ chosen order fixed room) (long : length kept ≡ length values) where
+  module _ (fixed kept : List ℕ) (m : ℕ) (ef : fixed ≡ replicate m 0) (em : m ≡ length values) (ek : kept ≡ chosen (byMagnitude values) fixed room) (long : length kept ≡ length values) where
     kept-are : kept ≡ flags
-    kept-are = ek ∙ rw (eo, ef, em)
+    kept-are = ek ∙ rw (ef, em)
 
     kept-count : flagged (take (length values) kept) ≡ min room (length values)
     kept-count =

@@ -126,6 +126,11 @@ module _ (len : ℕ) (lanes : List ℕ) (coeffs : List Float) (order work fixed 
       }
 
 -- ---- words and coefficients
+pub front-finite : (len : ℕ) (coeffs : List Float) → len ≤ length coeffs → ((i : ℕ) → i < len → isFinite (getD coeffs i nan) ≡ true) → AreFinite (take len coeffs)
+front-finite len coeffs room f i h =
+    let l : i < len = omega (arith, h, length-take-le len coeffs room) in
+    rw (getD-take len coeffs i nan l) (passes (isFinite (getD coeffs i nan)) (f i l))
+
 module _ (len : ℕ) (lanes : List ℕ) (coeffs : List Float) (n : ℕ) (protected : List ℕ) where
   abbrev places : ℕ
   places = length protected / 4
@@ -153,11 +158,6 @@ module _ (len : ℕ) (lanes : List ℕ) (coeffs : List Float) (n : ℕ) (protect
       let e3 = passed (ltb bad len) (NumberOutOfRange (0 + bad)) _ (e2 .1) in
       let l = ltb-false bad len (e3 .0) in
       not-false (isFinite (getD coeffs i nan)) (first-before len (notFinite coeffs) i (omega (arith, l, h)))
-
-  pub front-finite : len ≤ length coeffs → ((i : ℕ) → i < len → isFinite (getD coeffs i nan) ≡ true) → AreFinite (take len coeffs)
-  front-finite room f i h =
-      let l : i < len = omega (arith, h, length-take-le len coeffs room) in
-      rw (getD-take len coeffs i nan l) (passes (isFinite (getD coeffs i nan)) (f i l))
 
   module _ (a : ℕ) (a-is : a ≡ firstTo len (outsideAt lanes n)) where
     pub word-outside : a < len → Refused (WordOutsideRegister a) ≡ entries Accepted

@@ -6,7 +6,7 @@ ghost use mathlib.Core.Path.{_≡_};
 ghost use Prim.Native.Nat.{_+_, _-_, _*_, _≤_, min};
 ghost use lib.ListN.{length, replicate};
 ghost use Rattle.refusal.specs.declared.Answer.the-variants.{Accepted};
-ghost use Rattle.order.specs.Magnitudes.{byMagnitude};
+ghost use Rattle.order.specs.Magnitudes.{byMagnitude, AreFinite};
 ghost use Rattle.truncate.specs.Chosen.{chosen};
 ghost use Rattle.truncate.specs.Admitted.{Admits};
 ghost use Rattle.basis.specs.Admissions.{admitTests, admit};
@@ -18,12 +18,11 @@ use action::words::MAX_WORDS;
 use action::words::first_outside;
 use model::lengths::mismatch;
 use model::test::smaller;
-use order::magnitudes::order_by_desc_mag;
 use refusal::Answer;
 use refusal::Refusal;
 use table::clear::clear_lanes;
 use truncate::admit::append_chosen;
-use truncate::choose::choose_largest;
+use truncate::largest::choose_largest_of;
 use word::flat::WORD_LANES;
 use word::word::MAX_QUBITS;
 
@@ -103,8 +102,8 @@ fn check_admission(
     Answer::Accepted
 }
 
-// Appends the largest of the listed words, as many as there is room for: the new length. Once the order
-// is laid its work table is cleared and says that no word is fixed.
+// Appends the largest of the listed words, as many as there is room for: the new length. The work table is
+// cleared and says that no word is fixed.
 fn append_largest(
     words: &mut [u64],
     coeffs: &mut [f64],
@@ -116,12 +115,11 @@ fn append_largest(
     work: &mut [u64],
     kept: &mut [u64],
 ) -> usize
-    requires { ⌜ (length (now order) ≡ length (now values)) × (length (now work) ≡ length (now values)) × (length (now kept) ≡ length (now values)) × (4 * length (now values) ≤ length (now list)) × (4 * (len + min room (length (now values))) ≤ length (now words)) × (len + min room (length (now values)) ≤ length (now coeffs)) ⌝ }
+    requires { ⌜ (length (now order) ≡ length (now values)) × (length (now work) ≡ length (now values)) × (length (now kept) ≡ length (now values)) × (4 * length (now values) ≤ length (now list)) × (4 * (len + min room (length (now values))) ≤ length (now words)) × (len + min room (length (now values)) ≤ length (now coeffs)) × AreFinite (now values) ⌝ }
     ensures { λ r. ⌜ Admits len (length (now (values .entry))) (now (list .entry)) (chosen (byMagnitude (now (values .entry))) (replicate (length (now (values .entry))) 0) room) (now (words .entry)) (now (coeffs .entry)) r (now (words .exit)) (now (coeffs .exit)) × (length (chosen (byMagnitude (now (values .entry))) (replicate (length (now (values .entry))) 0) room) ≡ length (now (values .entry))) ⌝ }
 {
-    order_by_desc_mag(values, order, work);
     clear_lanes(work);
-    choose_largest(order, work, room, kept);
+    choose_largest_of(values, work, room, order, kept);
     append_chosen(words, coeffs, len, list, values.len(), kept)
 }
 

@@ -70,7 +70,7 @@ module _ (len : ℕ) (lanes : List ℕ) (coeffs : List Float) (order work fixed 
       finite : AllFinite (take len coeffs)
       finite = record {
         fitting = λ i h. rw (getD-take len coeffs i nan (omega (arith, h, front-long))) (fit i (omega (arith, h, front-long, room .coeffs-room)));
-        numbers = front-finite len lanes coeffs n protected (room .coeffs-room) (cap-finite len lanes coeffs order work fixed kept n protected limit accepted);
+        numbers = front-finite len coeffs (room .coeffs-room) (cap-finite len lanes coeffs order work fixed kept n protected limit accepted);
       }
 
       go : (b : Bool) (p q : ℕ) → p < len → q < len → getD guarded p 0 ≡ 0 → getD guarded q 0 ≡ 0 → Flagged (cond b (replicate len 1) (capFlags len lanes coeffs protected limit)) p

@@ -7,38 +7,31 @@ use mathlib.Core.Bool.{Bool, true, false, not, cond}
 use mathlib.Core.List.{List, [], _∷_, _++_, map}
 use Prim.Native.Nat.{ℕ, suc, _*_, _≤_, _<_, min}
 use native.Mathlib.Omega.{arith}
-use borrow.Author.Tests.{lt-ltb, le-ltb}
+use borrow.Author.Tests.{lt-ltb, le-ltb, not-false}
 use lib.Dec.{eqb, ltb}
 use lib.Ieee.{Float, nan}
-use lib.ListN.{length, take, drop, replicate, length-map, length-replicate}
+use lib.ListN.{length, getD, take, drop, replicate, length-map, length-replicate}
 use lib.Seq.{take-all, take-length, length-take-le, getD-take}
 use Rattle.refusal.specs.declared.Refusal.the-variants.{SumNotFinite}
 use Rattle.number.specs.Floats.{isFinite}
-use Rattle.order.specs.Magnitudes.{byMagnitude}
+use Rattle.order.specs.Magnitudes.{byMagnitude, AreFinite}
 use Rattle.truncate.specs.Retained.{pick, flagged, Retains}
 use Rattle.truncate.specs.Chosen.{flagOf, chosen, EachOnce}
 use Rattle.truncate.proofs.ChosenLaws.{walked-length, chosen-unfixed}
+use Rattle.truncate.proofs.FlagLaws.{flagged-few}
 use Rattle.truncate.proofs.PickLaws.{pick-length}
 use Rattle.candidates.specs.Log.{Rows, table}
 use Rattle.candidates.proofs.RowLaws.{table-long}
 use Rattle.model.specs.Given.{got, refused, refuseIf}
 use Rattle.model.specs.Tested.{firstTo}
-use Rattle.model.proofs.Firsts.{first-cong}
+use Rattle.model.proofs.Firsts.{first-cong, first-before}
 use Rattle.basis.specs.Tests.{notFinite}
+use Rattle.basis.proofs.ChecksLaws.{front-finite}
 use Rattle.basis.proofs.OrderOnce.{magnitude-once}
 use Rattle.passes.specs.Leaks.{sumsOf, largest, ended, Holding}
 use Rattle.passes.proofs.TableLaws.{table-sums, table-first, table-left, table-kept}
 
 -- ---- flags for all, and for none
-flagged-few : (ks : List ℕ) → flagged ks ≤ length ks
-unfolding flagged
-flagged-few [] = omega arith
-flagged-few (k ∷ ks) = go (eqb k 0) (flagged-few ks)
-  where
-    go : (b : Bool) → flagged ks ≤ length ks → cond b (flagged ks) (suc (flagged ks)) ≤ suc (length ks)
-    go true h = omega arith
-    go false h = omega arith
-
 pick-all : (ks : List ℕ) (T : Rows) → flagged ks ≡ length ks → length ks ≡ length T → pick ks T ≡ T
 unfolding pick flagged
 pick-all [] [] e l = refl
@@ -114,9 +107,9 @@ module _ (room : ℕ) (lanes : List ℕ) (sums : List Float) (each : length lane
   all-long : length all ≡ length sums
   all-long = table-long (length sums) lanes sums (omega (arith, each)) (omega arith)
 
-  module _ (order fixed kept : List ℕ) (m : ℕ) (eo : order ≡ byMagnitude sums) (ef : fixed ≡ replicate m 0) (em : m ≡ length sums) (ek : kept ≡ chosen order fixed room) (long : length kept ≡ length sums) where
+  module _ (fixed kept : List ℕ) (m : ℕ) (ef : fixed ≡ replicate m 0) (em : m ≡ length sums) (ek : kept ≡ chosen (byMagnitude sums) fixed room) (long : length kept ≡ length sums) where
     kept-are : kept ≡ flags room all
-    kept-are = ek ∙ rw (eo, ef, em, all-sums, all-long)
+    kept-are = ek ∙ rw (ef, em, all-sums, all-long)
 
     pub retained-largest : (r : ℕ) (lanes′ : List ℕ) (sums′ : List Float) → Retains (length sums) kept lanes sums r lanes′ sums′
         → (r ≤ length sums) × (table r lanes′ sums′ ≡ largest room all)
@@ -165,6 +158,10 @@ module _ (n room : ℕ) (lanes : List ℕ) (sums : List Float) (hl : 4 * n ≤ l
   pub ended-bad : bad < n → ended room held ≡ refused (SumNotFinite bad)
   unfolding ended
   ended-bad h = rw (first-bad, long, lt-ltb bad n h)
+
+  pub sums-finite : n ≤ bad → AreFinite (take n sums)
+  unfolding notFinite
+  sums-finite h = front-finite n sums hs (λ i m. not-false (isFinite (getD sums i nan)) (first-before n (notFinite sums) i (omega arith)))
 
   pub ended-fine : n ≤ bad → ended room held ≡ got (largest room held)
   unfolding ended

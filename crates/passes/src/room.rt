@@ -4,20 +4,20 @@
 // A pass's end: every sum is finite, and the largest candidates stay, as many as there is room for.
 ghost use mathlib.Core.Path.{_≡_};
 ghost use Prim.Native.Nat.{_*_, _≤_};
-ghost use lib.ListN.{length};
+ghost use lib.ListN.{length, take};
+ghost use Rattle.order.specs.Magnitudes.{AreFinite};
 ghost use Rattle.candidates.specs.Log.{table};
 ghost use Rattle.passes.specs.Leaks.{largest, ended, Holding, Took};
 use crate::taken::Taken;
 use basis::tests::first_not_finite;
-use order::magnitudes::order_by_desc_mag;
 use refusal::Refusal;
 use table::clear::clear_lanes;
-use truncate::choose::choose_largest;
+use truncate::largest::choose_largest_of;
 use truncate::retain::retain_in_place;
 use word::flat::WORD_LANES;
 
-// Keeps the largest, ties to the lower word: how many stay. The tables are of exact lengths. Once the
-// order is laid its work table is cleared and says that no candidate is fixed.
+// Keeps the largest, ties to the lower word: how many stay. The tables are of exact lengths. The work table
+// is cleared and says that no candidate is fixed.
 fn retain_largest(
     words: &mut [u64],
     sums: &mut [f64],
@@ -26,18 +26,17 @@ fn retain_largest(
     work: &mut [u64],
     kept: &mut [u64],
 ) -> usize
-    requires { ⌜ (length (now words) ≡ 4 * length (now sums)) × (length (now order) ≡ length (now sums)) × (length (now work) ≡ length (now sums)) × (length (now kept) ≡ length (now sums)) ⌝ }
+    requires { ⌜ (length (now words) ≡ 4 * length (now sums)) × (length (now order) ≡ length (now sums)) × (length (now work) ≡ length (now sums)) × (length (now kept) ≡ length (now sums)) × AreFinite (now sums) ⌝ }
     ensures { λ r. ⌜ (r ≤ length (now (sums .entry))) × (table r (now (words .exit)) (now (sums .exit)) ≡ largest room (table (length (now (sums .entry))) (now (words .entry)) (now (sums .entry)))) ⌝ }
 {
     let n = sums.len();
-    order_by_desc_mag(sums, order, work);
     clear_lanes(work);
-    choose_largest(order, work, room, kept);
+    choose_largest_of(sums, work, room, order, kept);
     retain_in_place(words, sums, n, kept)
 }
 
 // The room rule on the first n candidates: how many stay. With room for all, or for none, nothing is
-// ordered.
+// looked for.
 fn keep_largest(
     words: &mut [u64],
     sums: &mut [f64],
@@ -47,7 +46,7 @@ fn keep_largest(
     work: &mut [u64],
     kept: &mut [u64],
 ) -> usize
-    requires { ⌜ Holding n n (now words) (now sums) × (n ≤ length (now order)) × (n ≤ length (now work)) × (n ≤ length (now kept)) ⌝ }
+    requires { ⌜ Holding n n (now words) (now sums) × (n ≤ length (now order)) × (n ≤ length (now work)) × (n ≤ length (now kept)) × AreFinite (take n (now sums)) ⌝ }
     ensures { λ r. ⌜ (r ≤ n) × (table r (now (words .exit)) (now (sums .exit)) ≡ largest room (table n (now (words .entry)) (now (sums .entry)))) ⌝ }
 {
     if n <= room {

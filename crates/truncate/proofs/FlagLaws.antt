@@ -34,6 +34,15 @@ flagged-set (x ∷ l) (suc q) h e = go (eqb x 0) (flagged (set l q 1)) (flagged 
     go true m n e = e
     go false m n e = ap suc e
 
+pub flagged-few : (l : List ℕ) → flagged l ≤ length l
+unfolding flagged
+flagged-few [] = omega arith
+flagged-few (x ∷ l) = go (eqb x 0) (flagged-few l)
+  where
+    go : (b : Bool) → flagged l ≤ length l → cond b (flagged l) (suc (flagged l)) ≤ suc (length l)
+    go true h = omega arith
+    go false h = omega arith
+
 pub flagged-all : (l : List ℕ) → ((p : ℕ) → p < length l → Kept l p) → flagged l ≡ length l
 unfolding flagged
 flagged-all [] h = refl

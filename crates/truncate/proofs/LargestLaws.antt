@@ -1,10 +1,11 @@
 -- SPDX-FileCopyrightText: 2026 The PPVM Authors
 -- SPDX-License-Identifier: Apache-2.0
 
--- Positions held against the last one to stay: one turn at a time; and where the count is right, they are the chosen ones. Assumes nothing.
+-- Positions held against the last one to stay: one turn at a time; and where the count is right, they are the chosen ones. With a slot for
+-- each all are chosen. Assumes nothing.
 use mathlib.Core.Path.{_≡_, refl, ap, sym, subst, _∙_}
 use mathlib.Core.Bool.{Bool, true, false, cond}
-use mathlib.Core.List.{List, [], _∷_, map}
+use mathlib.Core.List.{List, map}
 use mathlib.Core.Logic.{_⊎_, inl, inr}
 use Prim.Native.Nat.{ℕ, zero, suc, _+_, _≤_, _<_}
 use native.Mathlib.Omega.{arith}
@@ -12,7 +13,7 @@ use native.Mathlib.Decide.{decLt}
 use borrow.Author.Tests.{ltb-true, ltb-false, eqb-true, eqb-false, eq-eqb, ne-eqb}
 use lib.Dec.{eqb, ltb}
 use lib.Ieee.{Float, nan, lt}
-use lib.ListN.{length, getD, set, take, length-set, length-map, List·getD-eq-default}
+use lib.ListN.{length, getD, set, take, replicate, length-set, length-map, length-replicate, getD-replicate, List·getD-eq-default}
 use lib.Seq.{take-all, take-set-le, getD-set-same, getD-set-other}
 use Rattle.number.specs.Floats.{magnitude}
 use Rattle.order.specs.Magnitudes.{byMagnitude, AllFinite, keyAt, rank}
@@ -20,7 +21,7 @@ use Rattle.order.proofs.MagnitudeLaws.{by-magnitude, size-lt}
 use Rattle.truncate.specs.Retained.{flagged}
 use Rattle.truncate.specs.Chosen.{flagOf, chosen}
 use Rattle.truncate.specs.Largest.{staysFlag, KeepsTo}
-use Rattle.truncate.proofs.FlagLaws.{Kept}
+use Rattle.truncate.proofs.FlagLaws.{Kept, flagged-few, flagged-all}
 use Rattle.truncate.proofs.PickLaws.{flagged-next}
 use Rattle.truncate.proofs.ChosenLaws.{chosen-fixed, chosen-count, chosen-earlier, walked-length}
 use Rattle.truncate.proofs.SameFlags.{Bits, same-flags, chosen-bits}
@@ -119,6 +120,30 @@ module _ (values : List Float) (finite : AllFinite values) (fixed : List ℕ) (l
       let b : keyAt values (getD order i 0) ≡ keyAt values p = ap (keyAt values) (pi .1) in
       (omega (arith, f .falls i j l (qj .0), a, b), λ (e : keyAt values q ≡ keyAt values p). omega (arith, f .ties i j l (qj .0) (a ∙ e ∙ sym b), pi .1, qj .1))
 
+  flags-long : length flags ≡ length fixed
+  flags-long = walked-length fixed order slots (map flagOf fixed) ∙ length-map fixed flagOf
+
+  -- ---- with a slot for each, all are chosen
+  abbrev ones : List ℕ
+  ones = replicate (length values) 1
+
+  one-at : (p : ℕ) → p < length values → getD ones p 0 ≡ 1
+  one-at p m = getD-replicate (length values) p 1 0 m
+
+  one-bits : Bits ones
+  one-bits i = go (decLt i (length values))
+    where
+      go : Dec (i < length values) → getD ones i 0 ≤ 1
+      go (yes m) = omega (arith, one-at i m)
+      go (no m) = let l : length ones ≡ length values = length-replicate (length values) 1 in rw (List·getD-eq-default ones 0 {n = i} (omega arith)) (omega arith)
+
+  pub chosen-all : length values ≤ slots → ones ≡ chosen (byMagnitude values) fixed slots
+  chosen-all h =
+      let l : length ones ≡ length values = length-replicate (length values) 1 in
+      same-flags ones flags (l ∙ sym (flags-long ∙ long)) one-bits (chosen-bits order fixed slots)
+      (omega (arith, h, flagged-few fixed, flagged-all ones (λ p m e. omega (arith, one-at p (omega arith))), chosen-count (length values) order fixed (magnitude-once values) long slots))
+      (λ p q hp hq kp zp kq zq. omega (arith, one-at q (omega (arith, flags-long))))
+
   -- ---- the flags beside a last one, in keys
   module _ (last : ℕ) (inside : last < length values) (kept : List ℕ) (k : KeepsTo values fixed last slots kept) where
     abbrev key : ℕ → ℕ
@@ -189,18 +214,6 @@ module _ (values : List Float) (finite : AllFinite values) (fixed : List ℕ) (l
         go : Dec (i < length fixed) → getD kept i 0 ≤ 1
         go (yes h) = rw (k .flags i h) (stays-small (magnitude (getD values last nan)) last i (getD values i nan) (getD fixed i 0))
         go (no h) = rw (List·getD-eq-default kept 0 {n = i} (omega (arith, k .long))) (omega arith)
-
-    flags-long : length flags ≡ length fixed
-    flags-long = walked-length fixed order slots (map flagOf fixed) ∙ length-map fixed flagOf
-
-    flagged-few : (l : List ℕ) → flagged l ≤ length l
-    unfolding flagged
-    flagged-few [] = omega arith
-    flagged-few (x ∷ l) = go (eqb x 0) (flagged-few l)
-      where
-        go : (b : Bool) → flagged l ≤ length l → cond b (flagged l) (suc (flagged l)) ≤ suc (length l)
-        go true h = omega arith
-        go false h = omega arith
 
     pub chosen-by-last : kept ≡ chosen (byMagnitude values) fixed slots
     chosen-by-last =

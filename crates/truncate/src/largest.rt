@@ -8,7 +8,7 @@ ghost use mathlib.Core.Path.{_≡_};
 ghost use mathlib.Core.Bool.{cond};
 ghost use Prim.Native.Nat.{_<_};
 ghost use lib.Ieee.{lt};
-ghost use lib.ListN.{length};
+ghost use lib.ListN.{length, replicate};
 ghost use Rattle.order.specs.Magnitudes.{byMagnitude, AreFinite};
 ghost use Rattle.truncate.specs.Chosen.{chosen};
 ghost use Rattle.truncate.specs.Largest.{staysFlag, KeepsTo};
@@ -74,6 +74,16 @@ fn choose_by_order(coeffs: &[f64], fixed: &[u64], slots: usize, order: &mut [u64
     choose_largest(order, fixed, slots, kept);
 }
 
+fn flag_all(kept: &mut [u64])
+    ensures { λ _. ⌜ now (kept .exit) ≡ replicate (length (now (kept .entry))) 1 ⌝ }
+{
+    let mut i = 0;
+    while i < kept.len() {
+        kept[i] = 1;
+        i += 1;
+    }
+}
+
 // Flags the fixed positions, and of the others the largest, as many as there are slots; ties to the
 // earlier.
 pub fn choose_largest_of(
@@ -88,6 +98,10 @@ pub fn choose_largest_of(
 {
     if slots == 0 {
         copy_flags(fixed, kept);
+        return;
+    }
+    if coeffs.len() <= slots {
+        flag_all(kept);
         return;
     }
     let last = find_last(coeffs, fixed, slots, order);

@@ -4,8 +4,11 @@
 -- `admit::admit_tested` meets its contract, answer by answer. Assumes nothing.
 use mathlib.Core.Path.{sym}
 use native.Mathlib.Omega.{arith}
-use lib.ListN.{length}
+use denote.Floats.{passes}
+use lib.Ieee.{nan}
+use lib.ListN.{length, getD}
 use lib.Seq.{length-take-le}
+use Rattle.number.specs.Floats.{isFinite}
 use Rattle.basis.proofs.AdmitTests.{admit-passed}
 use Rattle.basis.proofs.AdmitLaws.{cleared, admit-full, admit-done}
 use borrow.Author.Needs.{needs}
@@ -66,6 +69,7 @@ append-largest-requires c κs =
       omega (arith, p .values-each),
       omega (arith, e, m, l),
       omega (arith, e, m, l),
+      λ i h. passes (isFinite (getD (s .args .values .now) i nan)) (p .values-finite i h),
     )
 
 returns-2 : tie.Need-returns-2

@@ -17,7 +17,7 @@ keep-largest-requires c κs =
     let ok = sym (c .before .before .before .before .before .before .before .before .check-cap .ensures) ∙ c .before .before .before .before .before .before .enum-told .given .1 in
     let h = cap-room (a .len) (a .words .now) (a .coeffs .now) (a .order .now) (a .work .now) (a .fixed .now) (a .kept .now) (a .n) (a .protected .now) (a .limit) ok in
     let f = cap-finite (a .len) (a .words .now) (a .coeffs .now) (a .order .now) (a .work .now) (a .fixed .now) (a .kept .now) (a .n) (a .protected .now) (a .limit) ok in
-    (h .lanes-room, h .coeffs-room, h .protected-whole, h .order-protected, h .work-protected, h .order-entries, h .fixed-room, h .kept-room, front-finite (a .len) (a .words .now) (a .coeffs .now) (a .n) (a .protected .now) (h .coeffs-room) f)
+    (h .lanes-room, h .coeffs-room, h .protected-whole, h .order-protected, h .work-protected, h .order-entries, h .fixed-room, h .kept-room, front-finite (a .len) (a .coeffs .now) (h .coeffs-room) f)
 
 returns : tie.Need-returns
 returns c =

@@ -5,7 +5,7 @@
 use mathlib.Core.Path.{sym, ap, _∙_}
 use Rattle.model.specs.Given.{got}
 use Rattle.passes.proofs.TookLaws.{took-held, took-refused}
-use Rattle.passes.proofs.RoomLaws.{ended-bad, ended-fine}
+use Rattle.passes.proofs.RoomLaws.{ended-bad, ended-fine, sums-finite}
 use borrow.Author.Needs.{needs}
 use Rattle.passes.proofs.room.end_pass.Statement.{statement}
 use Rattle.passes.proofs.room.end_pass.Tie as tie
@@ -15,6 +15,12 @@ returns c =
     let s = c .before .before .before .before .before .before .before .before in
     let h = s .pre .0 in
     took-refused _ _ _ _ _ (ended-bad (s .args .n) (s .args .room) (s .args .words .now) (s .args .sums .now) (h .lanes-long) (h .sums-long) _ (c .before .first-not-finite .ensures) (c .if1 .taken))
+
+keep-largest-requires : tie.Need-keep-largest-requires
+keep-largest-requires c κs =
+    let s = c .before .before .before .before .before .before .before .before .before .before .before .before .before in
+    let h = s .pre .0 in
+    (h, s .pre .1, s .pre .2, s .pre .3, sums-finite (s .args .n) (s .args .room) (s .args .words .now) (s .args .sums .now) (h .lanes-long) (h .sums-long) _ (c .before .before .before .before .before .before .first-not-finite .ensures) (c .before .before .before .before .before .if1 .left))
 
 returns-2 : tie.Need-returns-2
 returns-2 c =
@@ -30,7 +36,7 @@ end-pass-spec =
     (λ c κs. search needs)
     (λ c. search needs)
     returns
-    (λ c κs. search needs)
+    keep-largest-requires
     (λ c. search needs)
     (λ c. search needs)
     (λ c. search needs)

@@ -53,6 +53,7 @@ retain-largest-requires c κs =
       length-take-le _ (s .args .order .now) (s .pre .1) ∙ sym l,
       length-take-le _ (s .args .work .now) (s .pre .2) ∙ sym l,
       length-take-le _ (s .args .kept .now) (s .pre .3) ∙ sym l,
+      s .pre .4,
     )
 
 returns-3 : tie.Need-returns-3

@@ -3,34 +3,30 @@
 
 -- `room::retain_largest` meets its contract. Assumes nothing.
 use mathlib.Core.Path.{_∙_}
-use Rattle.basis.proofs.AdmitLaws.{choose-asks}
 use Rattle.passes.proofs.RoomLaws.{retained-largest}
 use borrow.Author.Needs.{needs}
 use Rattle.passes.proofs.room.retain_largest.Statement.{statement}
 use Rattle.passes.proofs.room.retain_largest.Tie as tie
 
-choose-largest-requires : tie.Need-choose-largest-requires
-choose-largest-requires c κs =
-    let s = c .before .before .before .before .before .before .before .before .before .before .before .before .before .before .before .before .before .before .before .before in
-    let o = c .before .before .before .before .before .before .before .before .before .before .before .order-by-desc-mag in
-    let z = c .before .before .before .before .before .clear-lanes in
-    choose-asks (s .args .sums .now) _ (z .last .0) (s .args .kept .now) (o .ensures) (z .kept .0 ∙ o .kept .1 .1 .0 ∙ s .pre .2) (s .pre .3)
+choose-largest-of-requires : tie.Need-choose-largest-of-requires
+choose-largest-of-requires c κs =
+    let s = c .before .before .before .before .before .before .before .before .before .before .before .before .before in
+    let z = c .before .before .before .before .before .before .clear-lanes in
+    (z .kept .0 ∙ s .pre .2, s .pre .1, s .pre .3, s .pre .4)
 
 returns : tie.Need-returns
 returns c =
-    let s = c .before .before .before .before .before .before .before .before .before .before .before .before .before .before .before .before .before .before .before .before .before .before .before .before .before .before .before .before .before .before .before in
-    let o = c .before .before .before .before .before .before .before .before .before .before .before .before .before .before .before .before .before .before .before .before .before .before .order-by-desc-mag in
-    let z = c .before .before .before .before .before .before .before .before .before .before .before .before .before .before .before .before .clear-lanes in
-    let k = c .before .before .before .before .before .before .before .before .before .before .choose-largest in
-    retained-largest (s .args .room) (s .args .words .now) (s .args .sums .now) (s .pre .0) _ _ _ _ (o .ensures) (z .ensures) (o .kept .1 .1 .0 ∙ s .pre .2) (k .ensures) (k .kept .1 .1 .1 .0 ∙ s .pre .3) _ _ _ (c .before .before .before .before .retain-in-place .ensures)
+    let s = c .before .before .before .before .before .before .before .before .before .before .before .before .before .before .before .before .before .before .before .before .before .before .before .before .before .before in
+    let z = c .before .before .before .before .before .before .before .before .before .before .before .before .before .before .before .before .before .before .before .clear-lanes in
+    let k = c .before .before .before .before .before .before .before .before .before .before .before .before .choose-largest-of in
+    retained-largest (s .args .room) (s .args .words .now) (s .args .sums .now) (s .pre .0) _ _ _ (z .ensures) (s .pre .2) (k .ensures) (k .kept .1 .1 .1 .1 .0 ∙ s .pre .3) _ _ _ (c .before .before .before .before .retain-in-place .ensures)
 
 pub retain-largest-spec : {M : Type 1} → statement M
 retain-largest-spec =
     tie.close
     (tie.spec
     (λ c κs. search needs)
-    (λ c κs. search needs)
-    choose-largest-requires
+    choose-largest-of-requires
     (λ c κs. search needs)
     (λ c. search needs)
     (λ c. search needs)
