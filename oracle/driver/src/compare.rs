@@ -15,7 +15,7 @@ mod models;
 mod norms;
 mod over_basis;
 mod products;
-mod standing;
+pub mod standing;
 mod words;
 
 use std::fmt::Debug;

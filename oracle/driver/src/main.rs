@@ -7,11 +7,14 @@
 //!                                                           operation
 //!     driver record  [--seed S] [--cases N]                 prints answers of the Rust, for replay
 //!     driver bench   [--seed S] [--only PART]               times both
+//!     driver differences                                    both answer the inputs that are listed
+//!                                                           as differences
 //!
 //! Each part of the port has a module in `compare`, one in `record` and one in `bench`.
 
 mod bench;
 mod compare;
+mod differences;
 mod inputs;
 mod port;
 mod published;
@@ -20,7 +23,8 @@ mod rules;
 
 use std::process::ExitCode;
 
-const USAGE: &str = "usage: driver compare|record|bench [--seed S] [--cases N] [--only PART]";
+const USAGE: &str =
+    "usage: driver compare|record|bench|differences [--seed S] [--cases N] [--only PART]";
 
 struct Options {
     seed: u64,
@@ -53,6 +57,7 @@ fn main() -> ExitCode {
         ("compare", Some(o)) => compare::run(o.seed, o.cases.unwrap_or(100_000), o.only.as_deref()),
         ("record", Some(o)) => record::run(o.seed, o.cases.unwrap_or(400)),
         ("bench", Some(o)) => bench::run(o.seed, o.only.as_deref()),
+        ("differences", Some(_)) => differences::run(),
         _ => {
             eprintln!("{USAGE}");
             ExitCode::from(2)

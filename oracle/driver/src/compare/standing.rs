@@ -14,7 +14,7 @@ use crate::rules;
 use crate::rules::models::Magnitudes;
 
 /// A model in lent tables, with what it was made of where that is known.
-pub(super) struct Standing {
+pub struct Standing {
     pub made_of: Option<(Items, Vec<Matrix>)>,
     pub model: Model,
     pub lent: Lent,
