@@ -13,6 +13,7 @@ pub mod ReadLaws
 pub mod OperatorLaws
 pub mod TakenLaws
 pub mod LengthLaws
+pub mod NeedLaws
 pub mod Firsts
 pub mod Choices
 pub mod Ranges

@@ -36,6 +36,11 @@ counted limit count after = cond (ltb limit count) (Refused (CountAboveLimit cou
 abbrev pub lent : ℕ → ℕ → Answer → Answer
 lent needed places after = cond (ltb places needed) (Refused (LengthMismatch needed places)) after
 
+-- the places that a table needs for so many jumps, operators or words: none where there is none that could use one
+unfoldable pub whereAny : ℕ → ℕ → ℕ
+whereAny zero places = 0
+whereAny (suc count) places = places
+
 -- the first number below n that passes a test; n where there is none
 unfoldable pub firstTo : ℕ → (ℕ → Bool) → ℕ
 firstTo zero f = 0

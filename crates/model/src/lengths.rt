@@ -9,6 +9,7 @@ ghost use Prim.Native.Nat.{ℕ};
 ghost use lib.Ieee.{Float};
 ghost use Rattle.refusal.specs.declared.Refusal.the-variants.{LengthMismatch};
 ghost use Rattle.refusal.specs.declared.Answer.the-variants.{Refused};
+ghost use Rattle.model.specs.Tested.{whereAny};
 ghost use Rattle.model.specs.Built.{lengthsAnswer};
 use crate::items::parts_fit;
 use crate::tables::JUMP_NUMBERS;
@@ -24,6 +25,16 @@ pub fn mismatch(needed: usize, given: usize) -> Answer
     ensures { λ r. ⌜ r ≡ Refused (LengthMismatch needed given) ⌝ }
 {
     Answer::Refused(Refusal::LengthMismatch { needed, given })
+}
+
+// The places that a table needs for so many jumps, operators or words: none where there is none.
+pub fn where_any(count: usize, places: usize) -> usize
+    ensures { λ r. ⌜ r ≡ whereAny count places ⌝ }
+{
+    if count == 0 {
+        return 0;
+    }
+    places
 }
 
 // Whether there is a text for each item, a count for each jump and two numbers for each term, and a
