@@ -24,16 +24,17 @@ use Rattle.gksl.specs.Model.{RealTerm, JumpOver}
 use Rattle.gksl.specs.Words.{pauli}
 use Rattle.table.specs.Numbers.{complexes}
 use Rattle.model.specs.Stored.{Tables}
-use Rattle.model.specs.Tested.{maxHamiltonian, maxJumps, counted, lent}
+use Rattle.model.specs.Tested.{maxHamiltonian, maxJumps, counted, lent, whereAny}
 use Rattle.model.specs.Given.{Read, got, refused, GivenTerm, GivenJump}
 use Rattle.model.specs.Items.{answerOf, total}
 use Rattle.model.specs.Taken.{realTaken, jumpTaken, RealsRoom}
 use Rattle.model.specs.Compiled.{compileJump}
 use Rattle.model.specs.Built.{Input, parts, realItems, termItems, jumpItems, hamiltonian, jumpsGiven, andThen, equal, partsFit, workPlaces, lengthsAnswer, readHamiltonian, readJumps, Building, refusal, tested, whenRead, compiledModel, build}
 use Rattle.model.specs.Checked.{givenAnswer, realLengths, termLengths, termTexts}
-use Rattle.model.specs.Work.{WorkRoom, JumpsFit, jumpsCompiled}
+use Rattle.model.specs.Work.{JumpsFit, JumpsWork, jumpsCompiled}
 use Rattle.model.specs.declared.spec.Built.the-variants as Answers
 use Rattle.model.proofs.Parts.{fit-total, total-split, drop-parts}
+use Rattle.model.proofs.NeedLaws.{need-some}
 use Rattle.model.proofs.ItemAnswers.{terms-count}
 use Rattle.model.proofs.TakenLaws.{reals-taken, jumps-taken, jumps-few}
 
@@ -82,8 +83,8 @@ pub record LengthsFit (i : Input) (t : Tables) (workWords : List ℕ) (workNumbe
   pub h-coeffs-room : length (i .hNumbers) ≤ length (t .hCoeffs)
   pub jumps-room : length (i .rates) ≤ length (t .jumps) / 8
   pub rates-room : length (i .rates) ≤ length (t .rates)
-  pub work-words-room : 272 ≤ length workWords / 4
-  pub work-numbers-room : 272 ≤ length workNumbers / 2
+  pub work-words-room : whereAny (length (i .rates)) workPlaces ≤ length workWords / 4
+  pub work-numbers-room : whereAny (length (i .rates)) workPlaces ≤ length workNumbers / 2
 
 module _ (i : Input) (t : Tables) (workWords : List ℕ) (workNumbers : List Float) where
   pub lengths-fit : lengthsAnswer i t workWords workNumbers ≡ Accepted → LengthsFit i t workWords workNumbers
@@ -100,8 +101,8 @@ module _ (i : Input) (t : Tables) (workWords : List ℕ) (workNumbers : List Flo
       let e7 = lent-passed h (length (t .hCoeffs)) _ (e6 .1) in
       let e8 = lent-passed (length (i .rates)) (length (t .jumps) / 8) _ (e7 .1) in
       let e9 = lent-passed (length (i .rates)) (length (t .rates)) _ (e8 .1) in
-      let e10 = lent-passed workPlaces (length workWords / 4) _ (e9 .1) in
-      let e11 = lent-passed workPlaces (length workNumbers / 2) _ (e10 .1) in
+      let e10 = lent-passed (whereAny (length (i .rates)) workPlaces) (length workWords / 4) _ (e9 .1) in
+      let e11 = lent-passed (whereAny (length (i .rates)) workPlaces) (length workNumbers / 2) _ (e10 .1) in
       record {
         texts-each = e1 .0;
         counts-each = e2 .0;
@@ -207,7 +208,7 @@ pub record Accepts (n : ℕ) (i : Input) (t : Tables) (workWords : List ℕ) (wo
       (jumpsCompiled n (i .rates) (i .counts) (termLengths i) (termTexts i) (i .numbers))
   pub reals : RealsRoom (i .texts) (realLengths i) (i .hNumbers) (t .hWords) (t .hCoeffs)
   pub jumps : JumpsFit (i .counts) (termLengths i) (termTexts i) (i .numbers)
-  pub work : WorkRoom 0 workWords workNumbers
+  pub work : JumpsWork (i .counts) workWords workNumbers
   pub entries-room : 8 * length (i .rates) ≤ length (t .jumps)
   pub rates-room : length (i .rates) ≤ length (t .rates)
 
@@ -265,11 +266,13 @@ module _ (n : ℕ) (i : Input) (t : Tables) (workWords : List ℕ) (workNumbers 
           terms = terms-counted i t workWords workNumbers f;
           texts = record { two = terms-two i t workWords workNumbers f; whole = terms-texts i t workWords workNumbers f };
         };
-        work = record {
-          lanes-long = omega (arith, f .work-words-room);
-          numbers-long = omega (arith, f .work-numbers-room);
-          few = omega arith;
-        };
+        work = λ some.
+            let any : 0 < length (i .rates) = omega (arith, some, f .counts-each) in
+            record {
+              lanes-long = omega (arith, need-some _ _ _ any (f .work-words-room));
+              numbers-long = omega (arith, need-some _ _ _ any (f .work-numbers-room));
+              few = omega arith;
+            };
         entries-room = omega (arith, f .jumps-room);
         rates-room = f .rates-room;
       }

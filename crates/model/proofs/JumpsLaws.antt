@@ -20,7 +20,7 @@ use Rattle.model.specs.Items.{total}
 use Rattle.model.specs.Taken.{termTaken, jumpTaken}
 use Rattle.model.specs.Compiled.{Compiled, pauliJump, generalJump, compileJump, termCount}
 use Rattle.model.specs.Laid.{laid, layEntry}
-use Rattle.model.specs.Work.{operatorIn, WorkRoom, ReadRoom, TextsFit, operatorTaken, JumpRoom, StoresJump, JumpsFit, jumpsCompiled, CountsJumps, JumpsRoom, StoresJumps}
+use Rattle.model.specs.Work.{operatorIn, WorkRoom, JumpsWork, ReadRoom, TextsFit, operatorTaken, JumpRoom, StoresJump, JumpsFit, jumpsCompiled, CountsJumps, JumpsRoom, StoresJumps}
 use Rattle.model.proofs.Parts.{total-turn, total-part, part-is, jump-turn, jump-end}
 use Rattle.model.proofs.FirstRefusal.{tested-is}
 use Rattle.model.proofs.StoreLaws.{laid-append}
@@ -53,8 +53,8 @@ pub record Stands (cs ns l : List ℕ) (j t p : ℕ) : Type 0 where
   pub texts-left : p + total (drop t ns) ≤ length l
 
 -- the work table keeps its room
-work-same : (lanes lanes′ : List ℕ) (numbers numbers′ : List Float) → WorkRoom 0 lanes numbers → length lanes′ ≡ length lanes → length numbers′ ≡ length numbers → WorkRoom 0 lanes′ numbers′
-work-same lanes lanes′ numbers numbers′ w a b = record { lanes-long = omega (arith, w .lanes-long); numbers-long = omega (arith, w .numbers-long); few = omega arith }
+pub work-same : (cs lanes lanes′ : List ℕ) (numbers numbers′ : List Float) → JumpsWork cs lanes numbers → length lanes′ ≡ length lanes → length numbers′ ≡ length numbers → JumpsWork cs lanes′ numbers′
+work-same cs lanes lanes′ numbers numbers′ w a b some = record { lanes-long = omega (arith, w some .lanes-long); numbers-long = omega (arith, w some .numbers-long); few = omega arith }
 
 module _ (cs ns l : List ℕ) (xs : List Float) (fit : JumpsFit cs ns l xs) where
   pub stands-start : Stands cs ns l 0 0 0
@@ -85,15 +85,15 @@ module _ (cs ns l : List ℕ) (xs : List Float) (fit : JumpsFit cs ns l xs) wher
         }
 
     -- the work table has room for it, before it is read and afterwards
-    pub own-work : (lanes : List ℕ) (numbers : List Float) → WorkRoom 0 lanes numbers → WorkRoom (getD cs j 0) lanes numbers
-    own-work lanes numbers w = record { lanes-long = w .lanes-long; numbers-long = w .numbers-long; few = fit .few j }
+    pub own-work : (lanes : List ℕ) (numbers : List Float) → JumpsWork cs lanes numbers → WorkRoom (getD cs j 0) lanes numbers
+    own-work lanes numbers w = let r = w (omega arith) in record { lanes-long = r .lanes-long; numbers-long = r .numbers-long; few = fit .few j }
 
-    pub own-reads : (lanes : List ℕ) (numbers : List Float) → WorkRoom 0 lanes numbers → ReadRoom (length (take (t + getD cs j 0 - t) (drop t ns))) lanes numbers
-    own-reads lanes numbers w = record { lanes-long = omega (arith, own-length, fit .few j, w .lanes-long); numbers-long = omega (arith, own-length, fit .few j, w .numbers-long) }
+    pub own-reads : (lanes : List ℕ) (numbers : List Float) → JumpsWork cs lanes numbers → ReadRoom (length (take (t + getD cs j 0 - t) (drop t ns))) lanes numbers
+    own-reads lanes numbers w = let r = w (omega arith) in record { lanes-long = omega (arith, own-length, fit .few j, r .lanes-long); numbers-long = omega (arith, own-length, fit .few j, r .numbers-long) }
 
-    pub own-counts : (lanes lanes′ : List ℕ) (numbers numbers′ : List Float) → WorkRoom 0 lanes numbers → length lanes′ ≡ length lanes → length numbers′ ≡ length numbers
+    pub own-counts : (lanes lanes′ : List ℕ) (numbers numbers′ : List Float) → JumpsWork cs lanes numbers → length lanes′ ≡ length lanes → length numbers′ ≡ length numbers
         → WorkRoom (getD cs j 0) lanes′ numbers′
-    own-counts lanes lanes′ numbers numbers′ w a b = own-work lanes′ numbers′ (work-same lanes lanes′ numbers numbers′ w a b)
+    own-counts lanes lanes′ numbers numbers′ w a b = own-work lanes′ numbers′ (work-same cs lanes lanes′ numbers numbers′ w a b)
 
     pub stands-next : (sum : ℕ) → sum ≡ total (take (t + getD cs j 0 - t) (drop t ns)) → Stands cs ns l (j + 1) (t + getD cs j 0) (p + sum)
     stands-next sum e = record {
@@ -134,14 +134,14 @@ terms-end = refl
 
 pub record CountState (n : ℕ) (cs ns l : List ℕ) (xs : List Float) (lanes₀ : List ℕ) (numbers₀ : List Float) (lanes : List ℕ) (numbers : List Float) (kept p t j : ℕ) : Type 0 where
   pub stands : Stands cs ns l j t p
-  pub work : WorkRoom 0 lanes numbers
+  pub work : JumpsWork cs lanes numbers
   pub lanes-same : length lanes ≡ length lanes₀
   pub numbers-same : length numbers ≡ length numbers₀
   pub few : kept ≤ 272 * j
   pub counted : (gs : List Float) → length gs ≡ length cs
       → kept + length (termsOf (compiledLeft n cs ns l xs gs j t p)) ≡ length (termsOf (jumpsCompiled n gs cs ns l xs))
 
-module _ (n : ℕ) (cs ns l : List ℕ) (xs : List Float) (lanes₀ : List ℕ) (numbers₀ : List Float) (fit : JumpsFit cs ns l xs) (work₀ : WorkRoom 0 lanes₀ numbers₀) where
+module _ (n : ℕ) (cs ns l : List ℕ) (xs : List Float) (lanes₀ : List ℕ) (numbers₀ : List Float) (fit : JumpsFit cs ns l xs) (work₀ : JumpsWork cs lanes₀ numbers₀) where
   pub count-start : CountState n cs ns l xs lanes₀ numbers₀ lanes₀ numbers₀ 0 0 0 0
   count-start = record {
     stands = stands-start cs ns l xs fit;
@@ -167,7 +167,7 @@ module _ (n : ℕ) (cs ns l : List ℕ) (xs : List Float) (lanes₀ : List ℕ) 
         let is : r ≡ termCount op = e ∙ ap termCount (ap (λ (m : ℕ). operatorIn m lanes₁ numbers₁) (sym (own-length cs ns l xs fit j t p (s .stands) h)) ∙ reads) in
         record {
           stands = stands-next cs ns l xs fit j t p (s .stands) h sum es;
-          work = work-same lanes lanes₂ numbers numbers₂ (s .work) (bl ∙ al) (bn ∙ an);
+          work = work-same cs lanes lanes₂ numbers numbers₂ (s .work) (bl ∙ al) (bn ∙ an);
           lanes-same = bl ∙ al ∙ s .lanes-same;
           numbers-same = bn ∙ an ∙ s .numbers-same;
           few = omega (arith, few, s .few);
@@ -287,13 +287,13 @@ module _ (all : List Compiled) (jumps₀ : List ℕ) (rates₀ : List Float) (tL
 pub record StoreJumpsState (n : ℕ) (cs ns l : List ℕ) (xs gs : List Float) (lanes₀ : List ℕ) (numbers₀ : List Float) (jumps₀ : List ℕ) (rates₀ : List Float) (tLanes₀ : List ℕ) (tNumbers₀ : List Float)
     (lanes : List ℕ) (numbers : List Float) (jumps : List ℕ) (rates : List Float) (tLanes : List ℕ) (tNumbers : List Float) (place p t j : ℕ) : Type 0 where
   pub stands : Stands cs ns l j t p
-  pub work : WorkRoom 0 lanes numbers
+  pub work : JumpsWork cs lanes numbers
   pub lanes-same : length lanes ≡ length lanes₀
   pub numbers-same : length numbers ≡ length numbers₀
   pub storing : Storing (jumpsCompiled n gs cs ns l xs) (compiledLeft n cs ns l xs gs j t p) jumps₀ rates₀ tLanes₀ tNumbers₀ 0 0 jumps rates tLanes tNumbers place j
 
 module _ (n : ℕ) (cs ns l : List ℕ) (xs gs : List Float) (lanes₀ : List ℕ) (numbers₀ : List Float) (jumps₀ : List ℕ) (rates₀ : List Float) (tLanes₀ : List ℕ) (tNumbers₀ : List Float)
-    (fit : JumpsFit cs ns l xs) (same : length gs ≡ length cs) (work₀ : WorkRoom 0 lanes₀ numbers₀) (room : JumpsRoom (jumpsCompiled n gs cs ns l xs) 0 0 jumps₀ rates₀ tLanes₀ tNumbers₀) where
+    (fit : JumpsFit cs ns l xs) (same : length gs ≡ length cs) (work₀ : JumpsWork cs lanes₀ numbers₀) (room : JumpsRoom (jumpsCompiled n gs cs ns l xs) 0 0 jumps₀ rates₀ tLanes₀ tNumbers₀) where
   pub store-jumps-start : StoreJumpsState n cs ns l xs gs lanes₀ numbers₀ jumps₀ rates₀ tLanes₀ tNumbers₀ lanes₀ numbers₀ jumps₀ rates₀ tLanes₀ tNumbers₀ 0 0 0 0
   store-jumps-start = record {
     stands = stands-start cs ns l xs fit;
@@ -322,7 +322,7 @@ module _ (n : ℕ) (cs ns l : List ℕ) (xs gs : List Float) (lanes₀ : List �
 
       -- jump j is read: there is room for it
       pub store-jumps-work : WorkRoom (getD cs j 0) lanes₁ numbers₁
-      store-jumps-work = own-work cs ns l xs fit j t p (s .stands) h lanes₁ numbers₁ (work-same lanes lanes₁ numbers numbers₁ (s .work) al an)
+      store-jumps-work = own-work cs ns l xs fit j t p (s .stands) h lanes₁ numbers₁ (work-same cs lanes lanes₁ numbers numbers₁ (s .work) al an)
 
       pub store-jumps-room : JumpRoom (compileJump (record { rate = getD gs j nan; op = operatorIn (getD cs j 0) lanes₁ numbers₁ })) j place jumps rates tLanes tNumbers
       store-jumps-room =
@@ -340,7 +340,7 @@ module _ (n : ℕ) (cs ns l : List ℕ) (xs gs : List Float) (lanes₀ : List �
           → StoreJumpsState n cs ns l xs gs lanes₀ numbers₀ jumps₀ rates₀ tLanes₀ tNumbers₀ lanes₂ numbers₂ jumps′ rates′ tLanes′ tNumbers′ r (p + sum) (t + getD cs j 0) (j + 1)
       store-jumps-next lanes₂ numbers₂ bl bn r jumps′ rates′ tLanes′ tNumbers′ g hj hr hl hn sum es = record {
         stands = stands-next cs ns l xs fit j t p (s .stands) h sum es;
-        work = work-same lanes lanes₂ numbers numbers₂ (s .work) (bl ∙ al) (bn ∙ an);
+        work = work-same cs lanes lanes₂ numbers numbers₂ (s .work) (bl ∙ al) (bn ∙ an);
         lanes-same = bl ∙ al ∙ s .lanes-same;
         numbers-same = bn ∙ an ∙ s .numbers-same;
         storing = storing-next (jumpsCompiled n gs cs ns l xs) jumps₀ rates₀ tLanes₀ tNumbers₀ 0 0 (compiledLeft n cs ns l xs gs j t p) jumps rates tLanes tNumbers place j (s .storing)

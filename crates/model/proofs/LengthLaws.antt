@@ -11,24 +11,26 @@ use lib.ListN.{length}
 use Rattle.refusal.specs.declared.Answer.{Answer}
 use Rattle.refusal.specs.declared.Answer.the-variants.{Accepted}
 use Rattle.model.specs.Stored.{Tables}
-use Rattle.model.specs.Tested.{lent}
+use Rattle.model.specs.Tested.{lent, whereAny}
 use Rattle.model.specs.Built.{Input, partsFit, workPlaces, lengthsAnswer}
 
 module _ (i : Input) (t : Tables) (workWords : List ℕ) (workNumbers : List Float) where
   abbrev terms : ℕ
   terms = length (i .numbers) / 2
 
-  abbrev pub tablesAnswer : Answer
-  tablesAnswer =
+  -- what the lent tables answer, where so many work places are needed
+  abbrev pub tablesAnswer : ℕ → Answer
+  tablesAnswer work =
       lent (length (i .hNumbers)) (length (t .hWords) / 4)
       (lent (length (i .hNumbers)) (length (t .hCoeffs))
       (lent (length (i .rates)) (length (t .jumps) / 8)
       (lent (length (i .rates)) (length (t .rates))
-      (lent workPlaces (length workWords / 4)
-      (lent workPlaces (length workNumbers / 2)
+      (lent work (length workWords / 4)
+      (lent work (length workNumbers / 2)
       Accepted)))))
 
   pub own-agree : length (i .lengths) ≡ length (i .hNumbers) + terms → length (i .counts) ≡ length (i .rates) → length (i .numbers) ≡ terms * 2
-      → partsFit (i .counts) terms ≡ Accepted → partsFit (i .lengths) (length (i .texts)) ≡ Accepted → lengthsAnswer i t workWords workNumbers ≡ tablesAnswer
+      → partsFit (i .counts) terms ≡ Accepted → partsFit (i .lengths) (length (i .texts)) ≡ Accepted
+      → (work : ℕ) → work ≡ whereAny (length (i .rates)) workPlaces → lengthsAnswer i t workWords workNumbers ≡ tablesAnswer work
   unfolding lengthsAnswer
-  own-agree l c x byCounts byLengths = rw (eq-eqb _ _ l, eq-eqb _ _ c, eq-eqb _ _ x, byCounts, byLengths)
+  own-agree l c x byCounts byLengths work e = rw (e, eq-eqb _ _ l, eq-eqb _ _ c, eq-eqb _ _ x, byCounts, byLengths)

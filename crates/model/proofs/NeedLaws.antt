@@ -23,3 +23,10 @@ pub need-most : (count places : ℕ) → whereAny count places ≤ places
 unfolding whereAny
 need-most zero places = omega arith
 need-most (suc count) places = omega arith
+
+-- for more, no fewer
+pub need-mono : (count more places few : ℕ) → count ≤ more → few ≤ places → whereAny count few ≤ whereAny more places
+unfolding whereAny
+need-mono zero more places few h e = omega arith
+need-mono (suc count) zero places few h e = absurd (omega arith)
+need-mono (suc count) (suc more) places few h e = e

@@ -17,7 +17,7 @@ use Rattle.number.specs.Floats.{floats, float0}
 use Rattle.gksl.specs.Model.{RealTerm, JumpOver}
 use Rattle.gksl.specs.Words.{pauli}
 use Rattle.model.specs.Stored.{Tables}
-use Rattle.model.specs.Tested.{maxHamiltonian, maxJumps, counted, lent}
+use Rattle.model.specs.Tested.{maxHamiltonian, maxJumps, counted, lent, whereAny}
 use Rattle.model.specs.Given.{Read, got, refused, each, GivenReal, GivenTerm, GivenJump, Term, readReal, readJump}
 use Rattle.model.specs.Compiled.{Compiled, compileJump}
 use Rattle.word.specs.Flat.{layWord}
@@ -86,11 +86,12 @@ termPlaces t = min (length (t .tWords) / 4) (length (t .tNumbers) / 2)
 abbrev pub workPlaces : ℕ
 workPlaces = 272
 
--- the input's own, then the lent tables in their order; the terms table gives 13
+-- the input's own, then the lent tables in their order; the terms table gives 13. Work places are asked where there is a jump
 unfoldable pub lengthsAnswer : Input → Tables → List ℕ → List Float → Answer
 lengthsAnswer i t workWords workNumbers =
     let h : ℕ = length (i .hNumbers) in
     let terms : ℕ = length (i .numbers) / 2 in
+    let work : ℕ = whereAny (length (i .rates)) workPlaces in
     equal (h + terms) (length (i .lengths))
     (equal (length (i .rates)) (length (i .counts))
     (equal (terms * 2) (length (i .numbers))
@@ -100,8 +101,8 @@ lengthsAnswer i t workWords workNumbers =
     (lent h (length (t .hCoeffs))
     (lent (length (i .rates)) (length (t .jumps) / 8)
     (lent (length (i .rates)) (length (t .rates))
-    (lent workPlaces (length workWords / 4)
-    (lent workPlaces (length workNumbers / 2)
+    (lent work (length workWords / 4)
+    (lent work (length workNumbers / 2)
     Accepted))))))))))
 
 -- ---- the items, read

@@ -36,6 +36,10 @@ pub record WorkRoom (k : ℕ) (lanes : List ℕ) (numbers : List Float) : Type 0
   pub numbers-long : 544 ≤ length numbers
   pub few : k ≤ 16
 
+-- that room where there is a jump
+abbrev pub JumpsWork : List ℕ → List ℕ → List Float → Type 0
+JumpsWork cs lanes numbers = 0 < length cs → WorkRoom 0 lanes numbers
+
 -- room for k terms past the places of the sums
 pub record ReadRoom (k : ℕ) (lanes : List ℕ) (numbers : List Float) : Type 0 where
   pub lanes-long : 4 * (256 + k) ≤ length lanes

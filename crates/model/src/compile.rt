@@ -7,7 +7,7 @@ ghost use mathlib.Core.Path.{_≡_};
 ghost use Prim.Native.Nat.{ℕ, _≤_};
 ghost use lib.ListN.{length, getD};
 ghost use Rattle.model.specs.Built.{termsOf};
-ghost use Rattle.model.specs.Work.{WorkRoom, JumpsFit, jumpsCompiled, CountsJumps, placesFor, FitsJumps, JumpsRoom, StoresJumps};
+ghost use Rattle.model.specs.Work.{JumpsFit, JumpsWork, jumpsCompiled, CountsJumps, placesFor, FitsJumps, JumpsRoom, StoresJumps};
 use crate::items::sum_of;
 use crate::jumps::count_operator;
 use crate::jumps::read_operator;
@@ -38,7 +38,7 @@ fn count_jumps(
     words: &mut [u64],
     sums: &mut [f64],
 ) -> usize
-    requires { ⌜ JumpsFit (now counts) (now lengths) (now texts) (now numbers) × WorkRoom 0 (now words) (now sums) ⌝ }
+    requires { ⌜ JumpsFit (now counts) (now lengths) (now texts) (now numbers) × JumpsWork (now counts) (now words) (now sums) ⌝ }
     ensures { λ r. ⌜ CountsJumps «n_qubits» (now (counts .entry)) (now (lengths .entry)) (now (texts .entry)) (now (numbers .entry)) r ⌝ }
 {
     let mut kept = 0;
@@ -76,7 +76,7 @@ pub fn jumps_fit(
     words: &mut [u64],
     sums: &mut [f64],
 ) -> bool
-    requires { ⌜ JumpsFit (now counts) (now lengths) (now texts) (now numbers) × WorkRoom 0 (now words) (now sums) ⌝ }
+    requires { ⌜ JumpsFit (now counts) (now lengths) (now texts) (now numbers) × JumpsWork (now counts) (now words) (now sums) ⌝ }
     ensures { λ r. ⌜ FitsJumps «n_qubits» (now (counts .entry)) (now (lengths .entry)) (now (texts .entry)) (now (numbers .entry)) places r ⌝ }
 {
     if most_places(counts) <= places {
@@ -100,7 +100,7 @@ pub fn store_jumps(
     t_words: &mut [u64],
     t_numbers: &mut [f64],
 ) -> usize
-    requires { ⌜ JumpsFit (now counts) (now lengths) (now texts) (now numbers) × (length (now given) ≡ length (now counts)) × WorkRoom 0 (now words) (now sums) × JumpsRoom (jumpsCompiled «n_qubits» (now given) (now counts) (now lengths) (now texts) (now numbers)) 0 0 (now jumps) (now rates) (now «t_words») (now «t_numbers») ⌝ }
+    requires { ⌜ JumpsFit (now counts) (now lengths) (now texts) (now numbers) × (length (now given) ≡ length (now counts)) × JumpsWork (now counts) (now words) (now sums) × JumpsRoom (jumpsCompiled «n_qubits» (now given) (now counts) (now lengths) (now texts) (now numbers)) 0 0 (now jumps) (now rates) (now «t_words») (now «t_numbers») ⌝ }
     ensures { λ r. ⌜ StoresJumps (jumpsCompiled «n_qubits» (now (given .entry)) (now (counts .entry)) (now (lengths .entry)) (now (texts .entry)) (now (numbers .entry))) 0 0 (now (jumps .entry)) (now (rates .entry)) (now («t_words» .entry)) (now («t_numbers» .entry)) (now (jumps .exit)) (now (rates .exit)) (now («t_words» .exit)) (now («t_numbers» .exit)) × (r ≡ length (termsOf (jumpsCompiled «n_qubits» (now (given .entry)) (now (counts .entry)) (now (lengths .entry)) (now (texts .entry)) (now (numbers .entry))))) ⌝ }
 {
     let mut place = 0;

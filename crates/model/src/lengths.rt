@@ -38,7 +38,8 @@ pub fn where_any(count: usize, places: usize) -> usize
 }
 
 // Whether there is a text for each item, a count for each jump and two numbers for each term, and a
-// lent place for each item and jump. The terms table has no say: it is full or not, which 13 tells.
+// lent place for each item and jump; and the work places where there is a jump. The terms table has
+// no say: it is full or not, which 13 tells.
 pub fn lengths_agree(
     texts: &[u8],
     lengths: &[u64],
@@ -75,6 +76,7 @@ pub fn lengths_agree(
     let Answer::Accepted = by_lengths else {
         return by_lengths;
     };
+    let work = where_any(n_jumps, WORK_PLACES);
     if h_words.len() / WORD_LANES < h {
         return mismatch(h, h_words.len() / WORD_LANES);
     }
@@ -87,11 +89,11 @@ pub fn lengths_agree(
     if rate_places.len() < n_jumps {
         return mismatch(n_jumps, rate_places.len());
     }
-    if work_words.len() / WORD_LANES < WORK_PLACES {
-        return mismatch(WORK_PLACES, work_words.len() / WORD_LANES);
+    if work_words.len() / WORD_LANES < work {
+        return mismatch(work, work_words.len() / WORD_LANES);
     }
-    if work_numbers.len() / 2 < WORK_PLACES {
-        return mismatch(WORK_PLACES, work_numbers.len() / 2);
+    if work_numbers.len() / 2 < work {
+        return mismatch(work, work_numbers.len() / 2);
     }
     Answer::Accepted
 }

@@ -40,8 +40,8 @@ returns-5 c tWords tNumbers =
     rw (eq-eqb _ _ (b .before .before .if1 .left), eq-eqb _ _ (b .before .if2 .left), eq-eqb _ _ (b .if3 .left), sym (d .before .before .parts-fit .ensures) ∙ d .enum-told .given .1, sym (c .before .before .parts-fit2 .ensures) ∙ c .enum-told4 .given .1) (c .enum-told4 .given .1)
 
 -- ---- past the tests of the input
-abbrev start : tie.After-enum-told3 → tie.Start
-start c = c .before .before .before .before .before .before .before .before .before .before .before .before .before .before .before .before .before .before .before .before .before
+abbrev start : tie.After-where-any → tie.Start
+start c = c .before .before .before .before .before .before .before .before .before .before .before .before .before .before .before .before .before .before .before .before .before .before
 
 abbrev input : tie.Start → Input
 input s =
@@ -53,14 +53,15 @@ tables s tWords tNumbers =
     let a = s .args in
     record { hWords = a .h-words .now; hCoeffs = a .h-coeffs .now; jumps = a .jumps .now; rates = a .rate-places .now; tWords = tWords; tNumbers = tNumbers }
 
-own : (c : tie.After-enum-told3) (tWords : List ℕ) (tNumbers : List Float)
+own : (c : tie.After-where-any) (tWords : List ℕ) (tNumbers : List Float)
     → lengthsAnswer (input (start c)) (tables (start c) tWords tNumbers) (start c .args .work-words .now) (start c .args .work-numbers .now)
-    ≡ tablesAnswer (input (start c)) (tables (start c) tWords tNumbers) (start c .args .work-words .now) (start c .args .work-numbers .now)
+    ≡ tablesAnswer (input (start c)) (tables (start c) tWords tNumbers) (start c .args .work-words .now) (start c .args .work-numbers .now) (c .where-any .result)
 own c tWords tNumbers =
-    let d = c .before .before .before in
+    let e = c .before in
+    let d = e .before .before .before in
     let b = d .before .before .before in
     own-agree _ _ _ _ (b .before .before .if1 .left) (b .before .if2 .left) (b .if3 .left)
-    (sym (d .before .before .parts-fit .ensures) ∙ d .enum-told .given .1) (sym (c .before .before .parts-fit2 .ensures) ∙ c .enum-told3 .given .1)
+    (sym (d .before .before .parts-fit .ensures) ∙ d .enum-told .given .1) (sym (e .before .before .parts-fit2 .ensures) ∙ e .enum-told3 .given .1) _ (c .where-any .ensures)
 
 returns-6 : tie.Need-returns-6
 returns-6 c tWords tNumbers = rw (own (c .before .before) tWords tNumbers, lt-ltb _ _ (c .before .if4 .taken)) (c .mismatch4 .ensures)
@@ -105,6 +106,7 @@ lengths-agree-spec =
     (λ c. search needs)
     (λ c. search needs)
     returns-5
+    (λ c κs. search needs)
     (λ c κs. search needs)
     returns-6
     (λ c κs. search needs)

@@ -12,6 +12,7 @@ use Rattle.model.specs.Built.{Input}
 use Prim.Native.Nat.{ℕ}
 use Rattle.model.proofs.BuildLaws.{Accepts, build-accepted}
 use Rattle.model.proofs.CheckLaws.{own-hold}
+use Rattle.model.proofs.JumpsLaws.{work-same}
 use Rattle.model.proofs.FinishLaws.{own-reals, own-jumps, jumps-room, built-full, built-model}
 use borrow.Author.Needs.{needs}
 use native.Mathlib.Omega.{arith}
@@ -89,11 +90,10 @@ store-jumps-requires c κs =
     let sum = c .before .before .before .before .before .before .before .before .before .before .before .before .before .before .before .before .before .before .before .before .before .before .before .sum-of in
     let places = c .before .before .before .before .before .before .before .before .before .before .before .before .before .before .before .before .before .before .before .before .before .smaller in
     let fit = c .before .before .before .before .before .before .before .before .before .before .before .before .before .before .before .before .before .before .jumps-fit in
-    let k = fit .kept in
-    let w = accepts s .work in (
+    let k = fit .kept in (
       own-jumps (s .args .n-qubits) (input s) (tables s) (s .args .work-words .now) (s .args .work-numbers .now) (accepts s) (sum .result) (sum .ensures),
       sym (accepts s .lengths .counts-each),
-      record { lanes-long = omega (arith, w .lanes-long, k .1 .1 .1 .1 .1 .1 .0); numbers-long = omega (arith, w .numbers-long, k .1 .1 .1 .1 .1 .1 .1 .0); few = w .few },
+      work-same (s .args .counts .now) (s .args .work-words .now) _ (s .args .work-numbers .now) _ (accepts s .work) (k .1 .1 .1 .1 .1 .1 .0) (k .1 .1 .1 .1 .1 .1 .1 .0),
       jumps-room (s .args .n-qubits) (input s) (tables s) (s .args .work-words .now) (s .args .work-numbers .now) (accepts s) (sum .result) (sum .ensures) (places .result) (places .ensures) (fit .result) (fit .ensures) (c .before .before .before .before .before .before .before .before .before .before .before .before .before .if1 .left),
     )
 
