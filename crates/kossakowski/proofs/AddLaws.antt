@@ -9,6 +9,7 @@ use Prim.Native.Nat.{ℕ, zero, suc, _+_, _*_, _/_, _≤_, _<_, min}
 use native.Mathlib.Decide.{decLt}
 use native.Mathlib.Omega.{arith}
 use borrow.Author.Tests.{lt-ltb, le-ltb}
+use lib.Dec.{ltb}
 use lib.Ieee.{Float}
 use lib.ListN.{length, getD, take, drop, replicate, length-map, length-append, length-drop, take-append-drop, List·getD-eq-default}
 use lib.Seq.{length-take-le}
@@ -20,8 +21,9 @@ use Rattle.model.specs.declared.spec.Built.the-variants as Answers
 use Rattle.model.specs.Stored.{Tables}
 use Rattle.model.specs.Given.{got, Term, readOperator}
 use Rattle.model.specs.Compiled.{Compiled}
-use Rattle.model.specs.Built.{parts, termsOf, termPlaces, finished}
+use Rattle.model.specs.Built.{parts, entriesFrom, termsOf, termPlaces, Building, finished}
 use Rattle.model.specs.Items.{total}
+use Rattle.model.specs.Laid.{laid}
 use Rattle.model.specs.Taken.{termTaken}
 use Rattle.model.specs.Product.{termsIn}
 use Rattle.model.specs.Thinned.{LaysTerms}
@@ -30,8 +32,8 @@ use Rattle.model.proofs.Parts.{length-parts, length-complexes, length-terms}
 use Rattle.model.proofs.TakenLaws.{each-taken, each-read, operator-taken, operator-few}
 use Rattle.model.proofs.StoreLaws.{lays-append}
 use Rattle.model.proofs.WorkLaws.{terms-stay}
-use Rattle.kossakowski.specs.Matrix.{pairPlaces}
-use Rattle.kossakowski.specs.Pairs.{pairsOf}
+use Rattle.kossakowski.specs.Matrix.{passing, pairPlaces}
+use Rattle.kossakowski.specs.Pairs.{pairAt, pairsOf}
 use Rattle.kossakowski.specs.Added.{Input, operators, operatorsGiven, matrix, readOperators, allTerms, stored, compiledMatrix, add}
 use Rattle.kossakowski.specs.Work.{operatorsIn, WorkStays}
 
@@ -58,6 +60,11 @@ unfolding parts total
 part-count [] l h j k = absurd (omega arith)
 part-count (n ∷ ns) l h zero k = length-take-le n l (omega arith)
 part-count (n ∷ ns) l h (suc j) k = part-count ns (drop n l) (omega (arith, length-drop n l)) j (omega arith)
+
+parts-none : {A : Type 0} (ns : List ℕ) (l : List A) → length ns ≡ 0 → parts ns l ≡ []
+unfolding parts
+parts-none [] l e = refl
+parts-none (n ∷ ns) l e = absurd (omega (arith, e))
 
 parts-all : (ns : List ℕ) (l : List Term) → total ns ≡ length l → allTerms (parts ns l) ≡ l
 unfolding parts total allTerms
@@ -108,6 +115,34 @@ pub operators-stay : (counts lanes lanes′ : List ℕ) (numbers numbers′ : Li
 operators-stay counts lanes lanes′ numbers numbers′ s = ap (parts counts) (terms-stay 256 (256 + total counts) lanes lanes′ numbers numbers′ (omega arith) (s .lanes-stay) (s .numbers-stay))
 
 -- ---- the tables afterwards
+module _ (m : Model) (i : Input) (t : Tables) (workWords : List ℕ) (workNumbers : List Float) where
+  -- what is left of operators and pairs
+  abbrev left : List (List Term) → List Compiled → Building
+  left As cs =
+      cond (ltb (termPlaces t) (m .terms + length (allTerms As ++ termsOf cs)))
+      (finished t workWords workNumbers (Answers.Refused (TableFull 4 (termPlaces t))) t)
+      (finished t workWords workNumbers (Answers.Model (record { qubits = m .qubits; hamiltonian = m .hamiltonian; jumps = m .jumps + length cs; terms = m .terms + length (allTerms As ++ termsOf cs) })) (stored m i t workWords workNumbers As cs))
+
+  left-none : m .terms ≤ termPlaces t → left [] [] ≡ finished t workWords workNumbers (Answers.Model m) t
+  unfolding allTerms termsOf stored laid entriesFrom
+  left-none h =
+      let jumps : m .jumps + 0 ≡ m .jumps = omega arith in
+      let terms : m .terms + 0 ≡ m .terms = omega arith in
+      ap₂ (λ (j k : ℕ). cond (ltb (termPlaces t) k) (finished t workWords workNumbers (Answers.Refused (TableFull 4 (termPlaces t))) t) (finished t workWords workNumbers (Answers.Model (record { qubits = m .qubits; hamiltonian = m .hamiltonian; jumps = j; terms = k })) t)) jumps terms
+      ∙ rw (le-ltb (termPlaces t) (m .terms) h)
+
+  no-pairs : (As : List (List Term)) → operators i ≡ 0 → pairsOf (m .terms) (i .counts) (matrix i) As ≡ []
+  unfolding passing
+  no-pairs As e = ap (λ (k : ℕ). map (pairAt (m .terms) (i .counts) (matrix i) As) (pairPlaces floats k (matrix i))) e
+
+  -- without operators nothing is added
+  pub added-none : (As : List (List Term)) → add m i t workWords workNumbers ≡ compiledMatrix m i t workWords workNumbers As → operators i ≡ 0
+      → (l : List Term) → As ≡ parts (i .counts) l → m .terms ≤ termPlaces t
+      → (words′ : List ℕ) (numbers′ : List Float) → words′ ≡ replicate (length workWords) 0 → numbers′ ≡ replicate (length workNumbers) float0
+      → record { answer = Answers.Model m; tables = t; workWords = words′; workNumbers = numbers′ } ≡ add m i t workWords workNumbers
+  added-none As add-is none l are h words′ numbers′ cw cn =
+      rw (cw, cn) (sym (add-is ∙ ap₂ left (are ∙ parts-none (i .counts) l none) (no-pairs As none) ∙ left-none h))
+
 module _ (m : Model) (i : Input) (t : Tables) (workWords : List ℕ) (workNumbers : List Float) (As : List (List Term))
     (add-is : add m i t workWords workNumbers ≡ compiledMatrix m i t workWords workNumbers As) (own : length (allTerms As) ≡ length (i .lengths)) where
   abbrev pairs : List Compiled

@@ -27,14 +27,15 @@ use Rattle.model.specs.Work.{operatorIn, operatorTaken, ReadRoom, TextsFit, Jum
 use Rattle.model.specs.declared.tables.Model.{Model}
 use Rattle.model.specs.declared.spec.Built.the-variants as Answers
 use Rattle.model.proofs.BuildLaws.{passed, counted-passed, lent-passed}
+use Rattle.model.proofs.NeedLaws.{need-some}
 use Rattle.model.proofs.WorkLaws.{terms-stay}
 use Rattle.kossakowski.specs.Matrix.{pairPlaces}
 use Rattle.kossakowski.specs.Pairs.{pairsOf}
-use Rattle.kossakowski.specs.Added.{Input, operators, matrix, allTerms, add}
+use Rattle.kossakowski.specs.Added.{Input, operators, matrix, workNeeded, allTerms, add}
 use Rattle.kossakowski.specs.Work.{Square, OperatorsRoom, operatorsIn, WorkStays}
 use Rattle.kossakowski.proofs.MatrixLaws.{pairs-few}
 use Rattle.kossakowski.proofs.MatrixAccepted.{Accepts}
-use Rattle.kossakowski.proofs.AddLaws.{all-are, all-length, counts-few, operators-in, operators-stay, added-full, added-model}
+use Rattle.kossakowski.proofs.AddLaws.{operators-are, all-are, all-length, counts-few, operators-in, operators-stay, added-none, added-full, added-model}
 
 -- a model that passes its test counts no more terms than there are places
 pub terms-inside : (m : Model) (t : Tables) → testModel m t ≡ Accepted → (m .terms ≤ length (t .tWords) / 4) × (m .terms ≤ length (t .tNumbers) / 2)
@@ -67,25 +68,42 @@ module _ (m : Model) (i : Input) (t : Tables) (workWords : List ℕ) (workNumber
   pub own-few : own ≤ 1024
   own-few = omega (arith, total-most 16 (i .counts) few, a .lengths .terms-counted, a .few)
 
+  -- where there is an operator, a work place for each term past those of the sums
+  own-places : 0 < operators i → (places : ℕ) → workNeeded (operators i) own ≤ places → 256 + own ≤ places
+  own-places some places room = omega (arith, need-some (operators i) _ places some room, total-most 16 (i .counts) few, a .lengths .terms-counted)
+
+  words-places : 0 < operators i → 256 + own ≤ length workWords / 4
+  words-places some = own-places some (length workWords / 4) (a .lengths .work-words-room)
+
+  numbers-places : 0 < operators i → 256 + own ≤ length workNumbers / 2
+  numbers-places some = own-places some (length workNumbers / 2) (a .lengths .work-numbers-room)
+
   -- ---- what each step asks
   pub read-fits : TextsFit (i .lengths) (i .texts) (i .numbers)
   read-fits = record { two = a .lengths .numbers-two; whole = a .lengths .texts-whole }
 
-  pub read-room : ReadRoom own workWords workNumbers
-  read-room = record { lanes-long = omega (arith, a .lengths .work-words-room); numbers-long = omega (arith, a .lengths .work-numbers-room) }
+  pub read-room : 0 < operators i → ReadRoom own workWords workNumbers
+  read-room some = record { lanes-long = omega (arith, words-places some); numbers-long = omega (arith, numbers-places some) }
 
   pub square : (largest : Float) → largest ≡ largestOver floats (matrix i) → Square (operators i) (i .k) largest
   square largest e = record { entries-all = a .lengths .entries-all; few = a .few; largest-is = e }
 
-  pub work-room : (lanes : List ℕ) (numbers : List Float) → length lanes ≡ length workWords → length numbers ≡ length workNumbers → OperatorsRoom (i .counts) lanes numbers
-  work-room lanes numbers el en = record {
+  pub work-room : 0 < operators i → (lanes : List ℕ) (numbers : List Float) → length lanes ≡ length workWords → length numbers ≡ length workNumbers → OperatorsRoom (i .counts) lanes numbers
+  work-room some lanes numbers el en = record {
     few = few;
-    lanes-long = omega (arith, el, a .lengths .work-words-room, a .lengths .terms-counted);
-    numbers-long = omega (arith, en, a .lengths .work-numbers-room, a .lengths .terms-counted);
+    lanes-long = omega (arith, el, words-places some, a .lengths .terms-counted);
+    numbers-long = omega (arith, en, numbers-places some, a .lengths .terms-counted);
   }
 
   pairs-number : (As : List (List Term)) → length (pairsOf (m .terms) (i .counts) (matrix i) As) ≡ length (pairPlaces floats (operators i) (matrix i))
   pairs-number As = length-map (pairPlaces floats (operators i) (matrix i)) _
+
+  -- ---- without operators the model and its tables stay
+  pub compiled-none : operators i ≡ 0 → (words′ : List ℕ) (numbers′ : List Float) → words′ ≡ replicate (length workWords) 0 → numbers′ ≡ replicate (length workNumbers) float0
+      → record { answer = Answers.Model m; tables = t; workWords = words′; workNumbers = numbers′ } ≡ add m i t workWords workNumbers
+  compiled-none none words′ numbers′ cw cn =
+      let inside = terms-inside m t (a .modelled) in
+      added-none m i t workWords workNumbers (a .As) (a .add-is) none (operatorTaken (m .qubits) (i .lengths) (i .texts) (i .numbers)) (operators-are (m .qubits) i (a .As) (a .read)) (omega (arith, inside .0, inside .1)) words′ numbers′ cw cn
 
   -- ---- the operators are read, then their pairs counted: the operators stay
   module _ (lanes : List ℕ) (numbers : List Float) (reads : operatorIn own lanes numbers ≡ operatorTaken (m .qubits) (i .lengths) (i .texts) (i .numbers))
@@ -109,12 +127,12 @@ module _ (m : Model) (i : Input) (t : Tables) (workWords : List ℕ) (workNumber
     own-number : length (allTerms (a .As)) ≡ own
     own-number = all-length (m .qubits) i (a .As) (a .read) (a .lengths .terms-counted) (a .lengths .numbers-two)
 
-    pub store-room : m .terms + own + kept ≤ places → length lanes′ ≡ length workWords → length numbers′ ≡ length workNumbers
+    pub store-room : 0 < operators i → m .terms + own + kept ≤ places → length lanes′ ≡ length workWords → length numbers′ ≡ length workNumbers
         → StoreRoom 256 (256 + own) lanes′ numbers′ (m .terms) (t .tWords) (t .tNumbers)
-    store-room h el en = record {
+    store-room some h el en = record {
       order = omega arith;
-      lanes-long = omega (arith, el, a .lengths .work-words-room);
-      numbers-long = omega (arith, en, a .lengths .work-numbers-room);
+      lanes-long = omega (arith, el, words-places some);
+      numbers-long = omega (arith, en, numbers-places some);
       lanes-room = omega (arith, h, p);
       numbers-room = omega (arith, h, p);
     }

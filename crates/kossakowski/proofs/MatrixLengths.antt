@@ -14,7 +14,8 @@ use lib.ListN.{length}
 use Rattle.refusal.specs.declared.Answer.{Answer}
 use Rattle.refusal.specs.declared.Answer.the-variants.{Accepted}
 use Rattle.model.specs.Stored.{Tables}
-use Rattle.model.specs.Tested.{maxJumps, lent}
+use Rattle.model.specs.Tested.{maxJumps, lent, whereAny}
+use Rattle.model.specs.Given.{maxTerms}
 use Rattle.model.specs.Items.{total}
 use Rattle.model.specs.Built.{partsFit}
 use Rattle.model.specs.declared.tables.Model.{Model}
@@ -30,30 +31,32 @@ pub record LengthsFit (m : Model) (i : Input) (t : Tables) (workWords : List ℕ
   pub texts-whole : total (i .lengths) ≤ length (i .texts)
   pub jumps-room : entriesNeeded m (operators i) ≤ length (t .jumps) / 8
   pub rates-room : entriesNeeded m (operators i) ≤ length (t .rates)
-  pub work-words-room : 256 + length (i .lengths) ≤ length workWords / 4
-  pub work-numbers-room : 256 + length (i .lengths) ≤ length workNumbers / 2
+  pub work-words-room : workNeeded (operators i) (length (i .lengths)) ≤ length workWords / 4
+  pub work-numbers-room : workNeeded (operators i) (length (i .lengths)) ≤ length workNumbers / 2
 
 module _ (m : Model) (i : Input) (t : Tables) (workWords : List ℕ) (workNumbers : List Float) where
   abbrev terms : ℕ
   terms = length (i .numbers) / 2
 
-  -- what the lent tables answer, where so many entries are needed
-  abbrev pub tablesAnswer : ℕ → Answer
-  tablesAnswer needed =
+  -- what the lent tables answer, where so many entries and work places are needed
+  abbrev pub tablesAnswer : ℕ → ℕ → Answer
+  tablesAnswer needed work =
       lent needed (length (t .jumps) / 8)
       (lent needed (length (t .rates))
-      (lent (workNeeded terms) (length workWords / 4)
-      (lent (workNeeded terms) (length workNumbers / 2)
+      (lent work (length workWords / 4)
+      (lent work (length workNumbers / 2)
       Accepted)))
 
   pub own-agree : length (i .k) / 2 ≡ operators i * operators i → length (i .k) ≡ operators i * operators i * 2
       → length (i .lengths) ≡ terms → length (i .numbers) ≡ terms * 2
       → partsFit (i .counts) terms ≡ Accepted → partsFit (i .lengths) (length (i .texts)) ≡ Accepted
-      → (needed : ℕ) → needed ≡ min maxJumps (m .jumps + operators i * (operators i + 1) / 2) → lengthsAnswer m i t workWords workNumbers ≡ tablesAnswer needed
+      → (needed : ℕ) → needed ≡ min maxJumps (m .jumps + operators i * (operators i + 1) / 2)
+      → (few : ℕ) → few ≡ min terms (maxTerms * operators i) → (work : ℕ) → work ≡ whereAny (operators i) (256 + few)
+      → lengthsAnswer m i t workWords workNumbers ≡ tablesAnswer needed work
   unfolding lengthsAnswer
-  own-agree h k l x byCounts byLengths needed e =
+  own-agree h k l x byCounts byLengths needed e few f work w =
       let n : needed ≡ entriesNeeded m (operators i) = e ∙ ap (λ (s : ℕ). min maxJumps (m .jumps + operators i * s / 2)) (add-one (operators i)) in
-      rw (n, eq-eqb _ _ h, eq-eqb _ _ k, eq-eqb _ _ l, eq-eqb _ _ x, byCounts, byLengths)
+      rw (n, w, f, eq-eqb _ _ h, eq-eqb _ _ k, eq-eqb _ _ l, eq-eqb _ _ x, byCounts, byLengths)
 
   pub lengths-fit : lengthsAnswer m i t workWords workNumbers ≡ Accepted → LengthsFit m i t workWords workNumbers
   unfolding lengthsAnswer
@@ -66,8 +69,8 @@ module _ (m : Model) (i : Input) (t : Tables) (workWords : List ℕ) (workNumber
       let e6 = both (partsFit (i .lengths) (length (i .texts))) _ (e5 .1) in
       let e7 = lent-passed (entriesNeeded m (operators i)) (length (t .jumps) / 8) _ (e6 .1) in
       let e8 = lent-passed (entriesNeeded m (operators i)) (length (t .rates)) _ (e7 .1) in
-      let e9 = lent-passed (workNeeded terms) (length workWords / 4) _ (e8 .1) in
-      let e10 = lent-passed (workNeeded terms) (length workNumbers / 2) _ (e9 .1) in
+      let e9 = lent-passed (workNeeded (operators i) terms) (length workWords / 4) _ (e8 .1) in
+      let e10 = lent-passed (workNeeded (operators i) terms) (length workNumbers / 2) _ (e9 .1) in
       record {
         entries-all = omega (arith, e2 .0);
         terms-counted = omega (arith, fit-total (i .counts) terms (e5 .0), e3 .0);
@@ -75,6 +78,6 @@ module _ (m : Model) (i : Input) (t : Tables) (workWords : List ℕ) (workNumber
         texts-whole = omega (arith, fit-total (i .lengths) (length (i .texts)) (e6 .0));
         jumps-room = e7 .0;
         rates-room = e8 .0;
-        work-words-room = omega (arith, e9 .0, e3 .0);
-        work-numbers-room = omega (arith, e10 .0, e3 .0);
+        work-words-room = rw (e3 .0) (e9 .0);
+        work-numbers-room = rw (e3 .0) (e10 .0);
       }

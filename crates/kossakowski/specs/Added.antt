@@ -16,9 +16,9 @@ use Rattle.number.specs.Numbers.{Cx}
 use Rattle.number.specs.Floats.{floats}
 use Rattle.table.specs.Numbers.{complexes, layNumber}
 use Rattle.model.specs.Stored.{Tables}
-use Rattle.model.specs.Tested.{maxJumps, counted, lent, entries, testModel}
+use Rattle.model.specs.Tested.{maxJumps, counted, lent, whereAny, entries, testModel}
 use Rattle.model.specs.Fails.{numberFails}
-use Rattle.model.specs.Given.{Read, each, GivenTerm, Term, readOperator}
+use Rattle.model.specs.Given.{Read, each, GivenTerm, Term, maxTerms, readOperator}
 use Rattle.model.specs.Compiled.{Compiled}
 use Rattle.model.specs.Laid.{laid, layEntry}
 use Rattle.model.specs.Built.{parts, termItems, partsFit, andThen, equal, termPlaces, entriesFrom, termsOf, ratesOf, Building, finished, tested, whenRead}
@@ -54,9 +54,9 @@ maxOperators = 64
 abbrev pub entriesNeeded : Model → ℕ → ℕ
 entriesNeeded m ops = min maxJumps (m .jumps + ops * suc ops / 2)
 
--- the work places of the largest product and of all terms of the operators
-abbrev pub workNeeded : ℕ → ℕ
-workNeeded terms = 256 + terms
+-- the work places of the largest product and of all terms of the operators, up to the limit of each; none without operators
+abbrev pub workNeeded : ℕ → ℕ → ℕ
+workNeeded ops terms = whereAny ops (256 + min terms (maxTerms * ops))
 
 unfoldable pub lengthsAnswer : Model → Input → Tables → List ℕ → List Float → Answer
 lengthsAnswer m i t workWords workNumbers =
@@ -70,8 +70,8 @@ lengthsAnswer m i t workWords workNumbers =
     (andThen (partsFit (i .lengths) (length (i .texts)))
     (lent (entriesNeeded m ops) (length (t .jumps) / 8)
     (lent (entriesNeeded m ops) (length (t .rates))
-    (lent (workNeeded terms) (length workWords / 4)
-    (lent (workNeeded terms) (length workNumbers / 2)
+    (lent (workNeeded ops terms) (length workWords / 4)
+    (lent (workNeeded ops terms) (length workNumbers / 2)
     Accepted)))))))))
 
 -- ---- the operators, read

@@ -28,7 +28,7 @@ use table::clear::clear_lanes;
 use table::clear::clear_numbers;
 use word::flat::WORD_LANES;
 
-// Adds a matrix that was tested.
+// Adds a matrix that was tested. Without operators there is nothing to add and no work place to use.
 fn compile_matrix(
     m: Model,
     texts: &[u8],
@@ -48,6 +48,11 @@ fn compile_matrix(
     requires { ⌜ matrixAnswer m (record { texts = now texts; lengths = now lengths; counts = now counts; numbers = now numbers; k = now k }) (record { hWords = now «h_words»; hCoeffs = now «h_coeffs»; jumps = now jumps; rates = now rates; tWords = now «t_words»; tNumbers = now «t_numbers» }) (now «work_words») (now «work_numbers») ≡ Accepted ⌝ }
     ensures { λ r. ⌜ record { answer = r; tables = record { hWords = now («h_words» .entry); hCoeffs = now («h_coeffs» .entry); jumps = now (jumps .exit); rates = now (rates .exit); tWords = now («t_words» .exit); tNumbers = now («t_numbers» .exit) }; workWords = now («work_words» .exit); workNumbers = now («work_numbers» .exit) } ≡ add m (record { texts = now (texts .entry); lengths = now (lengths .entry); counts = now (counts .entry); numbers = now (numbers .entry); k = now (k .entry) }) (record { hWords = now («h_words» .entry); hCoeffs = now («h_coeffs» .entry); jumps = now (jumps .entry); rates = now (rates .entry); tWords = now («t_words» .entry); tNumbers = now («t_numbers» .entry) }) (now («work_words» .entry)) (now («work_numbers» .entry)) ⌝ }
 {
+    if counts.len() == 0 {
+        clear_lanes(work_words);
+        clear_numbers(work_numbers);
+        return Built::Model(m);
+    }
     let own = lengths.len();
     let from = m.terms;
     let first = m.jumps;

@@ -9,8 +9,10 @@ ghost use Prim.Native.Nat.{ℕ, _≤_};
 ghost use lib.Ieee.{Float};
 ghost use lib.ListN.{length};
 ghost use Rattle.kossakowski.specs.Added.{lengthsAnswer};
+use model::items::MAX_TERMS;
 use model::items::parts_fit;
 use model::lengths::mismatch;
+use model::lengths::where_any;
 use model::product::SUM_PLACES;
 use model::tables::JUMP_NUMBERS;
 use model::tables::Model;
@@ -20,8 +22,8 @@ use refusal::Answer;
 use word::flat::WORD_LANES;
 
 // Whether there is an entry of K for each two operators, a text and two numbers for each term, and
-// lent places for the pairs and the work. The terms table has no say: it is full or not, which 13
-// tells.
+// lent places for the pairs and the work, which operators of more terms than an operator may have do
+// not reach. The terms table has no say: it is full or not, which 13 tells.
 pub fn lengths_agree(
     m: Model,
     texts: &[u8],
@@ -61,13 +63,13 @@ pub fn lengths_agree(
         return by_lengths;
     };
     let entries = smaller(MAX_JUMPS, m.jumps + ops * (ops + 1) / 2);
+    let work = where_any(ops, SUM_PLACES + smaller(terms, MAX_TERMS * ops));
     if jumps.len() / JUMP_NUMBERS < entries {
         return mismatch(entries, jumps.len() / JUMP_NUMBERS);
     }
     if rates.len() < entries {
         return mismatch(entries, rates.len());
     }
-    let work = SUM_PLACES + terms;
     if work_words.len() / WORD_LANES < work {
         return mismatch(work, work_words.len() / WORD_LANES);
     }

@@ -49,8 +49,8 @@ returns-6 c hWords hCoeffs tWords tNumbers =
     rw (eq-eqb _ _ (b .before .before .before .if1 .left), eq-eqb _ _ (b .before .before .if2 .left), eq-eqb _ _ (b .before .if3 .left), eq-eqb _ _ (b .if4 .left), sym (d .before .before .parts-fit .ensures) ∙ d .enum-told .given .1, sym (c .before .before .parts-fit2 .ensures) ∙ c .enum-told4 .given .1) (c .enum-told4 .given .1)
 
 -- ---- past the tests of the input
-abbrev start : tie.After-smaller → tie.Start
-start c = c .before .before .before .before .before .before .before .before .before .before .before .before .before .before .before .before .before .before .before .before .before
+abbrev start : tie.After-where-any → tie.Start
+start c = c .before .before .before .before .before .before .before .before .before .before .before .before .before .before .before .before .before .before .before .before .before .before .before
 
 abbrev input : tie.Start → Input
 input s =
@@ -62,15 +62,16 @@ tables s hWords hCoeffs tWords tNumbers =
     let a = s .args in
     record { hWords = hWords; hCoeffs = hCoeffs; jumps = a .jumps .now; rates = a .rates .now; tWords = tWords; tNumbers = tNumbers }
 
-own : (c : tie.After-smaller) (hWords : List ℕ) (hCoeffs : List Float) (tWords : List ℕ) (tNumbers : List Float)
+own : (c : tie.After-where-any) (hWords : List ℕ) (hCoeffs : List Float) (tWords : List ℕ) (tNumbers : List Float)
     → lengthsAnswer (start c .args .m) (input (start c)) (tables (start c) hWords hCoeffs tWords tNumbers) (start c .args .work-words .now) (start c .args .work-numbers .now)
-    ≡ tablesAnswer (start c .args .m) (input (start c)) (tables (start c) hWords hCoeffs tWords tNumbers) (start c .args .work-words .now) (start c .args .work-numbers .now) (c .smaller .result)
+    ≡ tablesAnswer (start c .args .m) (input (start c)) (tables (start c) hWords hCoeffs tWords tNumbers) (start c .args .work-words .now) (start c .args .work-numbers .now) (c .before .before .smaller .result) (c .where-any .result)
 own c hWords hCoeffs tWords tNumbers =
-    let e = c .before .before in
+    let s = c .before .before in
+    let e = s .before .before in
     let d = e .before .before .before in
     let b = d .before .before .before in
     own-agree _ _ _ _ _ (b .before .before .before .if1 .left) (b .before .before .if2 .left) (b .before .if3 .left) (b .if4 .left)
-    (sym (d .before .before .parts-fit .ensures) ∙ d .enum-told .given .1) (sym (e .before .before .parts-fit2 .ensures) ∙ e .enum-told3 .given .1) _ (c .smaller .ensures)
+    (sym (d .before .before .parts-fit .ensures) ∙ d .enum-told .given .1) (sym (e .before .before .parts-fit2 .ensures) ∙ e .enum-told3 .given .1) _ (s .smaller .ensures) _ (c .before .smaller2 .ensures) _ (c .where-any .ensures)
 
 returns-7 : tie.Need-returns-7
 returns-7 c hWords hCoeffs tWords tNumbers = rw (own (c .before .before) hWords hCoeffs tWords tNumbers, lt-ltb _ _ (c .before .if5 .taken)) (c .mismatch5 .ensures)
@@ -116,11 +117,14 @@ lengths-agree-spec =
     (λ c. search needs)
     (λ c. search needs)
     (λ c κs. search needs)
+    (λ c. search needs)
+    (λ c κs. search needs)
+    (λ c. search needs)
+    (λ c κs. search needs)
     (λ c κs. search needs)
     returns-7
     (λ c κs. search needs)
     returns-8
-    (λ c. search needs)
     (λ c κs. search needs)
     returns-9
     (λ c κs. search needs)
