@@ -7,12 +7,13 @@ use mathlib.Core.Path.{_≡_, refl, ap, _∙_, subst⁻¹}
 use mathlib.Core.Bool.{Bool, true, false, cond}
 use mathlib.Core.List.{List, [], _∷_, _++_, map}
 use Prim.Native.Nat.{ℕ, _+_, _*_, _/_, _≤_, min}
-use native.Mathlib.Nat.{le-trans, mul-le-mul-right}
+use native.Mathlib.Decide.{decLe}
+use native.Mathlib.Nat.{le-trans, mul-le-mul, mul-le-mul-right}
 use native.Mathlib.Omega.{arith}
 use borrow.Author.Tests.{eqb-true, ltb-false, le-ltb}
 use lib.Dec.{eqb, ltb}
 use lib.Ieee.{Float}
-use lib.ListN.{length, drop, length-map}
+use lib.ListN.{length, getD, drop, length-map}
 use Rattle.refusal.specs.declared.Refusal.the-variants.{TooManyQubits, CountAboveLimit, LengthMismatch, TableFull}
 use Rattle.refusal.specs.declared.Answer.{Answer}
 use Rattle.refusal.specs.declared.Answer.the-variants.{Accepted, Refused}
@@ -22,9 +23,9 @@ use Rattle.gksl.specs.Model.{RealTerm, JumpOver}
 use Rattle.gksl.specs.Words.{pauli}
 use Rattle.table.specs.Numbers.{complexes}
 use Rattle.model.specs.Stored.{Tables}
-use Rattle.model.specs.Tested.{maxHamiltonian, maxJumps, counted, lent, entries, testModel}
+use Rattle.model.specs.Tested.{maxHamiltonian, maxJumps, counted, lent, whereAny, entries, testModel}
 use Rattle.model.specs.Fails.{numberFails}
-use Rattle.model.specs.Given.{Read, got, refused, GivenTerm, Term, maxTerms, readJump}
+use Rattle.model.specs.Given.{Read, got, refused, GivenTerm, Term, maxTerms, readOperator, readJump}
 use Rattle.model.specs.Compiled.{Compiled, compileJump}
 use Rattle.model.specs.Taken.{termTaken, jumpTaken}
 use Rattle.model.specs.Built.{parts, termItems, jumpItems, partsFit, andThen, equal, termPlaces, workPlaces, termsOf, Building, finished, tested, whenRead}
@@ -34,11 +35,12 @@ use Rattle.model.specs.declared.tables.Model.{Model}
 use Rattle.model.specs.declared.spec.Built.{Built}
 use Rattle.model.specs.declared.spec.Built.the-variants as Answers
 use Rattle.model.proofs.BuildLaws.{passed, both, counted-passed}
+use Rattle.model.proofs.NeedLaws.{need-mono}
 use Rattle.model.proofs.Parts.{fit-total, length-parts}
 use Rattle.model.proofs.TakenLaws.{jumps-taken}
 use Rattle.kossakowski.specs.Matrix.{hermitian, pairPlaces}
 use Rattle.kossakowski.specs.Pairs.{pairsOf}
-use Rattle.kossakowski.specs.Added.{operators, matrix, maxOperators, entriesNeeded, workNeeded, readOperators, allTerms, matrixTests, compiledMatrix}
+use Rattle.kossakowski.specs.Added.{operators, operatorsGiven, matrix, maxOperators, entriesNeeded, workNeeded, readOperators, allTerms, matrixTests, compiledMatrix}
 use Rattle.kossakowski.specs.Added as Adding
 use Rattle.kossakowski.specs.Work.{matrixAnswer}
 use Rattle.kossakowski.proofs.AddLaws.{operators-are}
@@ -50,7 +52,7 @@ use Rattle.model_laws.specs.BuiltFrom as BuiltFrom
 use Rattle.model_laws.specs.AddedFrom.{addedFrom, matrixPlaces, MatrixCounts, MatrixRoom}
 use Rattle.model_laws.specs.AddedFrom as AddedFrom
 use Rattle.model_laws.proofs.Lists.{every-weaken, every-both, every-map}
-use Rattle.model_laws.proofs.ReadItems.{JumpGood, jump-read, each-every}
+use Rattle.model_laws.proofs.ReadItems.{JumpGood, operator-read, jump-read, each-every}
 use Rattle.model_laws.proofs.BuiltLaws.{jumps-few}
 use Rattle.model_laws.proofs.SizesLaws.{parts-every, jumps-fit, pairs-up, pairs-fit}
 
@@ -101,8 +103,9 @@ module _ (n h j c : ℕ) (i : Compiling.Input) (few : ModelCounts h j c i) (t : 
       let h2 : length (i .hNumbers) ≤ length (t .hCoeffs) = omega (arith, few .reals, room .h-coeffs) in
       let h3 : length (i .rates) ≤ length (t .jumps) / 8 = omega (arith, few .jumps, room .jumps) in
       let h4 : length (i .rates) ≤ length (t .rates) = omega (arith, few .jumps, room .rates) in
-      let h5 : workPlaces ≤ length workWords / 4 = omega (arith, room .work-words) in
-      let h6 : workPlaces ≤ length workNumbers / 2 = omega (arith, room .work-numbers) in
+      let up = need-mono (length (i .rates)) j workPlaces workPlaces (omega (arith, few .jumps, q)) (omega arith) in
+      let h5 : whereAny (length (i .rates)) workPlaces ≤ length workWords / 4 = omega (arith, up, room .work-words) in
+      let h6 : whereAny (length (i .rates)) workPlaces ≤ length workNumbers / 2 = omega (arith, up, room .work-numbers) in
       rw (le-ltb _ _ h1, le-ltb _ _ h2, le-ltb _ _ h3, le-ltb _ _ h4, le-ltb _ _ h5, le-ltb _ _ h6)
 
   module _ (q : length (i .rates) ≤ maxJumps) (js : List (JumpOver floats pauli)) (read : Compiling.readJumps n i ≡ got js) where
@@ -169,19 +172,29 @@ module _ (k c : ℕ) (m : Model) (i : Adding.Input) (few : MatrixCounts k c i) (
     abbrev terms-given : ℕ
     terms-given = length (i .numbers) / 2
 
-    terms-few : partsFit (i .counts) terms-given ≡ Accepted → terms-given ≤ k * c
-    terms-few e = omega (arith, fit-total (i .counts) terms-given e, le-trans (total-most c (i .counts) (few .terms)) (mul-le-mul-right c ops-few))
+    -- up to the limit of each operator
+    terms-few : partsFit (i .counts) terms-given ≡ Accepted → min terms-given (maxTerms * operators i) ≤ k * c
+    terms-few e = go (decLe maxTerms c)
+      where
+        go : Dec (maxTerms ≤ c) → min terms-given (maxTerms * operators i) ≤ k * c
+        go (yes h) = let most : operators i * maxTerms ≤ k * c = mul-le-mul ops-few h in omega (arith, most)
+        go (no h) =
+            let counts : (j : ℕ) → getD (i .counts) j 0 ≤ c = λ j. omega (arith, few .terms j, h) in
+            omega (arith, fit-total (i .counts) terms-given e, le-trans (total-most c (i .counts) counts) (mul-le-mul-right c ops-few))
+
+    work-few : partsFit (i .counts) terms-given ≡ Accepted → workNeeded (operators i) terms-given ≤ workNeeded k (k * c)
+    work-few e = need-mono (operators i) k _ _ ops-few (omega (arith, terms-few e, ops-few))
 
     lent-same : partsFit (i .counts) terms-given ≡ Accepted
         → lent (entriesNeeded m (operators i)) (length (t .jumps) / 8) (lent (entriesNeeded m (operators i)) (length (t .rates))
-        (lent (workNeeded terms-given) (length workWords / 4) (lent (workNeeded terms-given) (length workNumbers / 2) Accepted))) ≡ Accepted
+        (lent (workNeeded (operators i) terms-given) (length workWords / 4) (lent (workNeeded (operators i) terms-given) (length workNumbers / 2) Accepted))) ≡ Accepted
     lent-same e =
         let up = pairs-up (operators i) k ops-few in
-        let l = terms-few e in
+        let w = work-few e in
         let h1 : entriesNeeded m (operators i) ≤ length (t .jumps) / 8 = omega (arith, up, room .jumps) in
         let h2 : entriesNeeded m (operators i) ≤ length (t .rates) = omega (arith, up, room .rates) in
-        let h3 : workNeeded terms-given ≤ length workWords / 4 = omega (arith, l, room .work-words) in
-        let h4 : workNeeded terms-given ≤ length workNumbers / 2 = omega (arith, l, room .work-numbers) in
+        let h3 : workNeeded (operators i) terms-given ≤ length workWords / 4 = omega (arith, w, room .work-words) in
+        let h4 : workNeeded (operators i) terms-given ≤ length workNumbers / 2 = omega (arith, w, room .work-numbers) in
         rw (le-ltb _ _ h1, le-ltb _ _ h2, le-ltb _ _ h3, le-ltb _ _ h4)
 
     lengths-added : Adding.lengthsAnswer m i t workWords workNumbers ≡ AddedFrom.ownLengths i
@@ -203,7 +216,12 @@ module _ (k c : ℕ) (m : Model) (i : Adding.Input) (few : MatrixCounts k c i) (
       operators-read = operators-are (m .qubits) i As read
 
       operators-most : Every (λ A. length A ≤ c) As
-      operators-most = subst⁻¹ (Every (λ A. length A ≤ c)) operators-read (parts-every (λ k. k ≤ c) (λ a b l h. omega arith) (i .counts) _ (few .terms))
+      operators-most =
+          let given : Every (λ A. min (length A) maxTerms ≤ c) As =
+          subst⁻¹ (Every (λ A. min (length A) maxTerms ≤ c)) operators-read (parts-every (λ k. min k maxTerms ≤ c) (λ a b l h. omega arith) (i .counts) _ (few .terms)) in
+          let tested = each-every (λ (A : List Term). length A ≤ maxTerms) (readOperator (m .qubits)) (λ j gs A e. operator-read (m .qubits) j gs A e .0) 0 (operatorsGiven i) As read in
+          every-weaken (λ A. (min (length A) maxTerms ≤ c) × (length A ≤ maxTerms)) (λ A. length A ≤ c) (λ A h. omega (arith, h .0, h .1)) As
+          (every-both (λ A. min (length A) maxTerms ≤ c) (λ A. length A ≤ maxTerms) As given tested)
 
       pairs-room : m .terms + length (allTerms As ++ termsOf cs) ≤ termPlaces t
       pairs-room =

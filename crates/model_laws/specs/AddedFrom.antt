@@ -13,6 +13,7 @@ use Rattle.number.specs.Floats.{floats}
 use Rattle.model.specs.Stored.{Tables}
 use Rattle.model.specs.Tested.{maxJumps, counted, entries, testModel}
 use Rattle.model.specs.Fails.{numberFails}
+use Rattle.model.specs.Given.{maxTerms}
 use Rattle.model.specs.Compiled.{Compiled}
 use Rattle.model.specs.Built.{partsFit, andThen, equal, termsOf}
 use Rattle.model.specs.declared.tables.Model.{Model}
@@ -58,10 +59,10 @@ pairsUpTo k = k * (k + 1) / 2
 abbrev pub matrixPlaces : ℕ → ℕ → ℕ
 matrixPlaces k c = k * c + pairsUpTo k * (2 * (c * c))
 
--- at most k operators, up to the limit, of at most c terms
+-- at most k operators of at most c terms, each count up to its limit
 pub record MatrixCounts (k c : ℕ) (i : Input) : Type 0 where
   pub operators : min (operators i) maxOperators ≤ k
-  pub terms : (j : ℕ) → getD (i .counts) j 0 ≤ c
+  pub terms : (j : ℕ) → min (getD (i .counts) j 0) maxTerms ≤ c
 
 -- room for them beside what the model holds
 pub record MatrixRoom (k c : ℕ) (m : Model) (t : Tables) (workWords : List ℕ) (workNumbers : List Float) : Type 0 where
@@ -69,5 +70,5 @@ pub record MatrixRoom (k c : ℕ) (m : Model) (t : Tables) (workWords : List ℕ
   pub rates : m .jumps + pairsUpTo k ≤ length (t .rates)
   pub t-words : 4 * (m .terms + matrixPlaces k c) ≤ length (t .tWords)
   pub t-numbers : 2 * (m .terms + matrixPlaces k c) ≤ length (t .tNumbers)
-  pub work-words : 4 * workNeeded (k * c) ≤ length workWords
-  pub work-numbers : 2 * workNeeded (k * c) ≤ length workNumbers
+  pub work-words : 4 * workNeeded k (k * c) ≤ length workWords
+  pub work-numbers : 2 * workNeeded k (k * c) ≤ length workNumbers

@@ -14,7 +14,7 @@ use Rattle.refusal.specs.declared.Answer.{Answer}
 use Rattle.refusal.specs.declared.Answer.the-variants.{Accepted, Refused}
 use Rattle.word.specs.Word.{maxQubits}
 use Rattle.model.specs.Stored.{Tables}
-use Rattle.model.specs.Tested.{maxHamiltonian, maxJumps, counted}
+use Rattle.model.specs.Tested.{maxHamiltonian, maxJumps, counted, whereAny}
 use Rattle.model.specs.Given.{Read, got, refused, maxTerms}
 use Rattle.model.specs.Compiled.{Compiled, compileJump}
 use Rattle.model.specs.Built.{Input, partsFit, andThen, equal, workPlaces, readHamiltonian, readJumps, termsOf}
@@ -64,5 +64,5 @@ pub record ModelRoom (h j c : ℕ) (t : Tables) (workWords : List ℕ) (workNumb
   pub rates : j ≤ length (t .rates)
   pub t-words : 4 * (j * (c + c * c)) ≤ length (t .tWords)
   pub t-numbers : 2 * (j * (c + c * c)) ≤ length (t .tNumbers)
-  pub work-words : 4 * workPlaces ≤ length workWords
-  pub work-numbers : 2 * workPlaces ≤ length workNumbers
+  pub work-words : 4 * whereAny j workPlaces ≤ length workWords
+  pub work-numbers : 2 * whereAny j workPlaces ≤ length workNumbers
