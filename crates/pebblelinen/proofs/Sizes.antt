@@ -2,24 +2,24 @@
 -- SPDX-License-Identifier: Apache-2.0
 
 -- Tables of the lengths that `modelSizes` and `matrixSizes` name have room for all, so no table decides what building and
--- adding answer. Assumes nothing.
+-- adding answer: for so many items at most, and for any input with the lengths named for its own counts. Assumes nothing.
 use mathlib.Core.Path.{_≡_}
-use mathlib.Core.List.{List}
-use Prim.Native.Nat.{ℕ, _+_, _*_, _≤_, min}
+use mathlib.Core.List.{List, [], _∷_}
+use Prim.Native.Nat.{ℕ, zero, suc, _+_, _*_, _≤_, min}
 use native.Mathlib.Omega.{arith}
 use lib.Ieee.{Float}
-use lib.ListN.{length}
+use lib.ListN.{length, getD}
 use Rattle.model.specs.Stored.{Tables}
 use Rattle.model.specs.Tested.{maxHamiltonian, maxJumps}
 use Rattle.model.specs.Given.{maxTerms}
 use Rattle.model.specs.Built as Building
 use Rattle.model.specs.declared.tables.Model.{Model}
-use Rattle.kossakowski.specs.Added.{maxOperators}
+use Rattle.kossakowski.specs.Added.{operators, maxOperators}
 use Rattle.kossakowski.specs.Added as Adding
 use Rattle.model_laws.specs.BuiltFrom.{builtFrom, ModelCounts, ModelRoom}
 use Rattle.model_laws.specs.AddedFrom.{addedFrom, MatrixCounts, MatrixRoom}
 use Rattle.model_laws.proofs.RoomLaws.{build-answer, add-answer}
-use Rattle.pebblelinen.specs.Models.{modelSizes, matrixSizes}
+use Rattle.pebblelinen.specs.Models.{modelSizes, matrixSizes, largestCount}
 use Rattle.pebblelinen.specs.declared.models.Sizes.{Sizes}
 
 -- tables at least as long
@@ -32,6 +32,12 @@ pub record AtLeast (s : Sizes) (t : Tables) (workWords : List ℕ) (workNumbers 
   pub t-numbers : s .«t_numbers» ≤ length (t .tNumbers)
   pub work-words : s .«work_words» ≤ length workWords
   pub work-numbers : s .«work_numbers» ≤ length workNumbers
+
+count-most : (ks : List ℕ) (j : ℕ) → getD ks j 0 ≤ largestCount ks
+unfolding largestCount
+count-most [] j = omega arith
+count-most (k ∷ ks) zero = omega arith
+count-most (k ∷ ks) (suc j) = omega (arith, count-most ks j)
 
 -- ---- building
 module _ (h j c : ℕ) (t : Tables) (workWords : List ℕ) (workNumbers : List Float) (a : AtLeast (modelSizes h j c) t workWords workNumbers) where
@@ -51,6 +57,14 @@ module _ (h j c : ℕ) (t : Tables) (workWords : List ℕ) (workNumbers : List F
   pub model-enough : (n : ℕ) (i : Building.Input) → ModelCounts (min h maxHamiltonian) (min j maxJumps) (min c maxTerms) i
       → Building.build n i t workWords workNumbers .answer ≡ builtFrom n i
   model-enough n i counts = build-answer n (min h maxHamiltonian) (min j maxJumps) (min c maxTerms) i counts t workWords workNumbers model-room
+
+-- every input, by its own counts
+pub model-own-enough : (n : ℕ) (i : Building.Input) (t : Tables) (workWords : List ℕ) (workNumbers : List Float)
+    → AtLeast (modelSizes (length (i .hNumbers)) (length (i .rates)) (largestCount (i .counts))) t workWords workNumbers
+    → Building.build n i t workWords workNumbers .answer ≡ builtFrom n i
+model-own-enough n i t workWords workNumbers a =
+    model-enough (length (i .hNumbers)) (length (i .rates)) (largestCount (i .counts)) t workWords workNumbers a n i
+    (record { reals = omega arith; jumps = omega arith; terms = λ k. omega (arith, count-most (i .counts) k) })
 
 -- ---- adding: tables that are so much longer than what the model takes
 pub record Beyond (s : Sizes) (m : Model) (t : Tables) (workWords : List ℕ) (workNumbers : List Float) : Type 0 where
@@ -75,3 +89,11 @@ module _ (k c : ℕ) (m : Model) (t : Tables) (workWords : List ℕ) (workNumber
 
   pub matrix-enough : (i : Adding.Input) → MatrixCounts (min k maxOperators) (min c maxTerms) i → Adding.add m i t workWords workNumbers .answer ≡ addedFrom m i t
   matrix-enough i counts = add-answer (min k maxOperators) (min c maxTerms) m i counts t workWords workNumbers matrix-room
+
+-- every input, by its own counts
+pub matrix-own-enough : (m : Model) (i : Adding.Input) (t : Tables) (workWords : List ℕ) (workNumbers : List Float)
+    → Beyond (matrixSizes (operators i) (largestCount (i .counts))) m t workWords workNumbers
+    → Adding.add m i t workWords workNumbers .answer ≡ addedFrom m i t
+matrix-own-enough m i t workWords workNumbers b =
+    matrix-enough (operators i) (largestCount (i .counts)) m t workWords workNumbers b i
+    (record { operators = omega arith; terms = λ j. omega (arith, count-most (i .counts) j) })

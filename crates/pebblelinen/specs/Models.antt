@@ -2,15 +2,15 @@
 -- SPDX-License-Identifier: Apache-2.0
 
 -- Answers about models in plain numbers, and the lengths of tables that are enough.
-use Prim.Native.Nat.{ℕ, _+_, _*_, _/_, min}
+use Prim.Native.Nat.{ℕ, _+_, _*_, _/_, min, max}
 use mathlib.Core.Path.{_≡_}
-use mathlib.Core.List.{List}
+use mathlib.Core.List.{List, [], _∷_}
 use lib.Ieee.{Float}
 use Rattle.refusal.specs.Cause.{statusOf, answerStatus}
 use Rattle.refusal.specs.declared.Answer.the-variants.{Accepted}
 use Rattle.model.specs.Stored.{Tables}
 use Rattle.model.specs.Given.{maxTerms}
-use Rattle.model.specs.Tested.{maxHamiltonian, maxJumps}
+use Rattle.model.specs.Tested.{maxHamiltonian, maxJumps, whereAny}
 use Rattle.model.specs.Built.{workPlaces, Building}
 use Rattle.kossakowski.specs.Added.{maxOperators, workNeeded}
 use Rattle.model.specs.declared.tables.Model.{Model}
@@ -51,19 +51,24 @@ lengthsOf hamiltonian jumps terms work = record {
 
 -- the lengths that are enough for so many Hamiltonian items and jumps of at most so many terms: a jump stores its terms and
 -- its product, which has no more words than there are pairs of terms. Counts above a limit are refused, so they ask for no more
--- than the limit does
+-- than the limit does. Without jumps no work place is used
 unfoldable pub modelSizes : ℕ → ℕ → ℕ → Sizes
 modelSizes hamiltonian jumps terms =
     let j : ℕ = min jumps maxJumps in
     let c : ℕ = min terms maxTerms in
-    lengthsOf (min hamiltonian maxHamiltonian) j (j * (c + c * c)) workPlaces
+    lengthsOf (min hamiltonian maxHamiltonian) j (j * (c + c * c)) (whereAny j workPlaces)
 
 -- the further lengths for a matrix over so many operators of at most so many terms, and those of its work tables: an entry for
 -- each two operators, the first not above the second; the operators' terms, and for each entry its factors and its product, each
--- no more than there are pairs of terms. The work tables hold a product's sums and all operators
+-- no more than there are pairs of terms. The work tables hold a product's sums and all operators, where there is one
 unfoldable pub matrixSizes : ℕ → ℕ → Sizes
 matrixSizes operators terms =
     let k : ℕ = min operators maxOperators in
     let c : ℕ = min terms maxTerms in
     let pairs : ℕ = k * (k + 1) / 2 in
-    lengthsOf 0 pairs (k * c + pairs * (2 * (c * c))) (workNeeded (k * c))
+    lengthsOf 0 pairs (k * c + pairs * (2 * (c * c))) (workNeeded k (k * c))
+
+-- the largest of the counts of terms of an input
+unfoldable pub largestCount : List ℕ → ℕ
+largestCount [] = 0
+largestCount (k ∷ ks) = max k (largestCount ks)

@@ -11,6 +11,7 @@ ghost use Rattle.pebblelinen.specs.Models.{builtOf, Leaves, modelSizes, 
 use kossakowski::check::MAX_OPERATORS;
 use model::items::MAX_TERMS;
 use model::lengths::WORK_PLACES;
+use model::lengths::where_any;
 use model::product::SUM_PLACES;
 use model::spec::Built;
 use model::tables::Model;
@@ -171,6 +172,7 @@ pub extern "C" fn pebblelinen_model_sizes(hamiltonian: usize, jumps: usize, term
     let j = smaller(jumps, MAX_JUMPS);
     let c = smaller(terms, MAX_TERMS);
     let places = j * (c + c * c);
+    let work = where_any(j, WORK_PLACES);
     Sizes {
         h_words: 4 * h,
         h_coeffs: h,
@@ -178,8 +180,8 @@ pub extern "C" fn pebblelinen_model_sizes(hamiltonian: usize, jumps: usize, term
         rates: j,
         t_words: 4 * places,
         t_numbers: 2 * places,
-        work_words: 4 * WORK_PLACES,
-        work_numbers: 2 * WORK_PLACES,
+        work_words: 4 * work,
+        work_numbers: 2 * work,
     }
 }
 
@@ -192,7 +194,7 @@ pub extern "C" fn pebblelinen_matrix_sizes(operators: usize, terms: usize) -> Si
     let pairs = k * (k + 1) / 2;
     let given = k * c;
     let places = given + pairs * (2 * (c * c));
-    let work = SUM_PLACES + given;
+    let work = where_any(k, SUM_PLACES + given);
     Sizes {
         h_words: 0,
         h_coeffs: 0,
