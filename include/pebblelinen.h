@@ -182,15 +182,15 @@ typedef struct {
 
 /* The lengths that are enough to build every model of so many Hamiltonian items and so many jumps
  * of at most so many terms each: a jump of c terms takes at most c + c c places of the terms table,
- * and the work tables have 272 places, 4 lanes and 2 numbers each. A count above its limit (4,096,
- * 4,096, 16) is taken for the limit, since more is refused whatever is lent. */
+ * and the work tables have 272 places, 4 lanes and 2 numbers each, or none without jumps. A count
+ * above its limit (4,096, 4,096, 16) is taken for the limit, since more is refused whatever is lent. */
 pebblelinen_sizes pebblelinen_model_sizes(size_t hamiltonian, size_t jumps, size_t terms);
 
 /* What a matrix over k operators of at most c terms each takes beyond the tables of the model that
  * it is added to: k (k + 1) / 2 entries of the table of jumps and pairs, and
  * k c + k (k + 1) / 2 * 2 c c places of the terms table. Add these to the lengths of the model.
- * work_words and work_numbers are the lengths of the call's own work tables, of 256 + k c places.
- * A count above its limit (64, 16) is taken for the limit. */
+ * work_words and work_numbers are the lengths of the call's own work tables, of 256 + k c places, or
+ * none without operators. A count above its limit (64, 16) is taken for the limit. */
 pebblelinen_sizes pebblelinen_matrix_sizes(size_t operators, size_t terms);
 
 /* Builds a model from Hamiltonian items and jumps, in lent tables.
@@ -220,8 +220,8 @@ pebblelinen_sizes pebblelinen_matrix_sizes(size_t operators, size_t terms);
  *       each term; a count for each jump; two numbers for each term; counts that make up the terms;
  *       lengths that make up the bytes. Of counts and lengths the first that is longer than what is
  *       left gives (it, what is left); what is left over gives (0, what is left over)
- *    9  (places needed, places lent) for h_words, h_coeffs, jumps, rates, then 272 for work_words
- *       and work_numbers, whatever is given
+ *    9  (places needed, places lent) for h_words, h_coeffs, jumps, rates, then, where there is a
+ *       jump, 272 for work_words and work_numbers
  *       each Hamiltonian item in turn: its text (3 at the first byte from 128 up; 2; 3 at the first
  *       byte that is no letter), then 7 (item) for its number
  *       each jump in turn: 5 (jump) for a rate below 0, 7 (jump) for the rate, 6 (jump) without
@@ -268,8 +268,8 @@ pebblelinen_built pebblelinen_build_model(
  *    9  (k * k, entries of K), then (2 k k, numbers of K), then for the operators as in
  *       pebblelinen_build_model
  *    9  (places needed, places lent) for jumps and rates, which need room for every pair that there
- *       can be: the model's entries and k (k + 1) / 2 more, at most 4,096; then 256 and one for each
- *       term for work_words and work_numbers
+ *       can be: the model's entries and k (k + 1) / 2 more, at most 4,096; then, where there is an
+ *       operator, 256 and one for each term, at most 16 k, for work_words and work_numbers
  *    7  (place in K, row by row) for the first entry out of range
  *   10  (n, m) for the first entry, in row order with n not above m, that is not the conjugate of
  *       K[m][n]: the difference has a squared magnitude above (1e-10 * 1e-10) times the larger of 1
