@@ -221,24 +221,17 @@ fn add(
     after
 }
 
-/// Adds a matrix in tables of the lengths that the port names, but for the work tables where there
-/// are too many terms: these take all.
+/// Adds a matrix in tables of the lengths that the port names.
 fn add_sized(
     rng: &mut Rng,
     tallies: &mut Tallies,
     standing: &Standing,
     matrix: &Matrix,
 ) -> (Standing, Outcome) {
-    let mut sizes = matrix_sizes(matrix.operators.len(), matrix.longest());
-    let within = matrix.operators.len() <= MAX_OPERATORS && matrix.longest() <= MAX_TERMS;
-    if !within {
-        let all = 256 + matrix.operators.iter().map(Vec::len).sum::<usize>();
-        sizes.work_words = 4 * all;
-        sizes.work_numbers = 2 * all;
-    }
+    let sizes = matrix_sizes(matrix.operators.len(), matrix.longest());
     let lent = standing.with_room(rng, inputs::enough(standing.model, sizes));
     let outcome = add(tallies, &lent, matrix, &matrix.flat(), true);
-    if matrix.is_square() && within {
+    if matrix.is_square() {
         let answers = Answers {
             rust: None,
             port: [9, 13].contains(&outcome.built.status.refusal),

@@ -15,6 +15,7 @@ use crate::port::Status;
 use crate::port::models::{self as port, Built, Given, Lent, Model, Sizes};
 use crate::published::models::RustItems;
 use crate::rules::MAX_QUBITS;
+use crate::rules::matrices::work_places;
 use crate::rules::models as rules;
 use crate::rules::refusal;
 
@@ -288,12 +289,14 @@ fn sizes(rng: &mut Rng, cases: usize) -> Tally {
         let (h1, j1) = (h.min(rules::MAX_HAMILTONIAN), j.min(rules::MAX_JUMPS));
         let (k1, c1) = (k.min(rules::MAX_OPERATORS), c.min(rules::MAX_TERMS));
         let pairs = (1..=k1).sum::<usize>();
+        let jump_work = rules::where_any(j1, rules::WORK_PLACES);
+        let pair_work = work_places(k1, k1 * c1);
         let answers = Answers {
             rust: None,
             port: (port::model_sizes(h, j, c), port::matrix_sizes(k, c)),
             rules: (
-                lengths(h1, j1, j1 * (c1 + c1 * c1), rules::WORK_PLACES),
-                lengths(0, pairs, k1 * c1 + pairs * 2 * c1 * c1, 256 + k1 * c1),
+                lengths(h1, j1, j1 * (c1 + c1 * c1), jump_work),
+                lengths(0, pairs, k1 * c1 + pairs * 2 * c1 * c1, pair_work),
             ),
             listed: false,
         };

@@ -60,9 +60,9 @@ pub fn cases() -> Vec<Case> {
         },
         Case {
             place: "lent tables",
-            input: "a model without items, empty work tables",
+            input: "one jump X, empty work tables",
             expected: ["9 (272, 0)", "accepted"],
-            found: build_in(items(0, &[], &[]), short_of_work),
+            found: build_in(items(1, &[], &[jump]), short_of_work),
         },
     ]
 }

@@ -4,17 +4,23 @@
 //! Matrices over operators, added to models.
 
 use super::models::{
-    Answer, Complex, MAX_JUMPS, MAX_OPERATORS, Magnitudes, TERMS_TABLE, Term, at_most, conjugate,
-    equal, in_range, lay_terms, lent_places, operator, parts, product, refuse, term_places, tested,
-    texts, times,
+    Answer, Complex, MAX_JUMPS, MAX_OPERATORS, MAX_TERMS, Magnitudes, TERMS_TABLE, Term, at_most,
+    conjugate, equal, in_range, lay_terms, lent_places, operator, parts, product, refuse,
+    term_places, tested, texts, times, where_any,
 };
 use super::refusal;
 use crate::port::Status;
 use crate::port::matrices::Given;
 use crate::port::models::{Built, Lent, Model};
 
-/// The work places for the sums of the largest product; each term of an operator needs one more.
+/// The work places for the sums of the largest product.
 const SUM_PLACES: usize = 256;
+
+/// The work places of so many operators with so many terms: those of the sums and one for each term
+/// that they may have.
+pub fn work_places(operators: usize, terms: usize) -> usize {
+    where_any(operators, SUM_PLACES + terms.min(MAX_TERMS * operators))
+}
 
 /// What a pair stores: its operators, its factors and its product.
 struct Pair {
@@ -89,8 +95,9 @@ fn stored(by: Magnitudes, model: Model, given: &Given, lent: &Lent) -> Answer<St
     let entries = MAX_JUMPS.min(model.jumps + (1..=count).sum::<usize>());
     lent_places(entries, lent.jumps.len() / 8)?;
     lent_places(entries, lent.rates.len())?;
-    lent_places(SUM_PLACES + terms, lent.work_words.len() / 4)?;
-    lent_places(SUM_PLACES + terms, lent.work_numbers.len() / 2)?;
+    let work = work_places(count, terms);
+    lent_places(work, lent.work_words.len() / 4)?;
+    lent_places(work, lent.work_numbers.len() / 2)?;
 
     let flat: Vec<Complex> = given.k.chunks_exact(2).map(|k| (k[0], k[1])).collect();
     let out_of_range = |&(re, im): &Complex| !in_range(re) || !in_range(im);

@@ -13,8 +13,16 @@ pub const MAX_JUMPS: usize = 4096;
 pub const MAX_TERMS: usize = 16;
 pub const MAX_OPERATORS: usize = 64;
 
-/// The work places that building asks for.
+/// The work places that building asks for where there is a jump.
 pub const WORK_PLACES: usize = 272;
+
+/// The places that so many jumps or operators need of a table: none where there is none.
+pub fn where_any(count: usize, places: usize) -> usize {
+    match count {
+        0 => 0,
+        _ => places,
+    }
+}
 
 /// The table of compiled terms, as 13 names it.
 pub(super) const TERMS_TABLE: usize = 4;
@@ -260,8 +268,9 @@ fn items(by: Magnitudes, given: &Given, n_qubits: usize, lent: &Lent) -> Answer<
     lent_places(h, lent.h_coeffs.len())?;
     lent_places(jumps, lent.jumps.len() / 8)?;
     lent_places(jumps, lent.rates.len())?;
-    lent_places(WORK_PLACES, lent.work_words.len() / 4)?;
-    lent_places(WORK_PLACES, lent.work_numbers.len() / 2)?;
+    let work = where_any(jumps, WORK_PLACES);
+    lent_places(work, lent.work_words.len() / 4)?;
+    lent_places(work, lent.work_numbers.len() / 2)?;
 
     let mut items = Items {
         hamiltonian: Vec::new(),
