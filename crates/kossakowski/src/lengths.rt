@@ -22,8 +22,8 @@ use refusal::Answer;
 use word::flat::WORD_LANES;
 
 // Whether there is an entry of K for each two operators, a text and two numbers for each term, and
-// lent places for the pairs and the work, which operators of more terms than an operator may have do
-// not reach. The terms table has no say: it is full or not, which 13 tells.
+// lent places for the pairs and the work: for no more terms than the operators may have, since one
+// with more is refused before the work. The terms table has no say: it is full or not, which 13 tells.
 pub fn lengths_agree(
     m: Model,
     texts: &[u8],
