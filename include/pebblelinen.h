@@ -362,13 +362,13 @@ typedef struct {
  * The model is tested once. An index, made once in h_index and j_index, tells for each qubit which
  * Hamiltonian terms and which jumps and pairs have a letter there; each action then visits only the
  * items that share a qubit with its word. h_index and j_index are of 64 lanes for each qubit, mask of
- * 64 lanes. Where the call was accepted, all five work tables are all zero; what they held before
- * makes no difference. Refusals, in this order:
+ * 64 lanes; without a word none are asked for. Where the call was accepted, all five work tables are
+ * all zero; what they held before makes no difference. Refusals, in this order:
  *
  *       those of pebblelinen_test_model for the model
  *    8  (count): more than 65,536 words
- *    9  (lanes of whole words, lanes) where the last word is cut off; then (64 for each qubit, lanes
- *       lent) for h_index and j_index, and (64, lanes lent) for mask
+ *    9  (lanes of whole words, lanes) where the last word is cut off; then, where there is a word, (64
+ *       for each qubit, lanes lent) for h_index and j_index, and (64, lanes lent) for mask
  *   11  (position): the first word with a letter at or above the register
  *   13  (1, places lent): work_words and work_sums have fewer places than one of the actions touches
  *       words
@@ -420,9 +420,9 @@ typedef struct {
 
 /* The lengths of work tables that are enough for pebblelinen_prune_basis and pebblelinen_cap_basis on a
  * basis of so many entries with so many protected words, and for pebblelinen_add_leakage_capped with
- * so many listed words: order and work as many as the largest of the three counts, fixed as many as
- * there are entries, kept as many as the larger of entries and listed words. Give 0 for what there is
- * not. */
+ * so many listed words: order and work as many as the largest of the three counts, protected words
+ * counted only where there are entries, fixed as many as there are entries, kept as many as the larger
+ * of entries and listed words. Give 0 for what there is not. */
 pebblelinen_basis_work pebblelinen_basis_sizes(size_t entries, size_t protected_words,
                                                size_t listed);
 
@@ -434,7 +434,7 @@ pebblelinen_basis_work pebblelinen_basis_sizes(size_t entries, size_t protected_
  *   words, coeffs, len   the basis
  *   protected_words      the protected words; its length is in lanes
  *   order, work          work tables of a place for each entry and for each protected word, whichever
- *                        are more
+ *                        are more; none where there is no entry
  *   fixed, kept          work tables of a place for each entry
  *
  * Where the call was accepted and drop_tol is above 0, everything in words and coeffs past the new
@@ -568,9 +568,10 @@ pebblelinen_leakage_lengths pebblelinen_leakage_sizes(
  *   words, coeffs, len   the basis: its first len places
  *   protected_words      whole words, 4 lanes each
  *   limits               see above
- *   h_index, j_index     64 lanes for each qubit; mask: 64 lanes
+ *   h_index, j_index     64 lanes for each qubit; mask: 64 lanes; none of either for an empty basis
  *   order, nexts         a place for each entry; heads: at least as many, twice as many is good
- *   fixed_nexts          a place for each protected word; fixed_heads: at least as many
+ *   fixed_nexts          a place for each protected word; fixed_heads: at least as many; none of either
+ *                        for an empty basis
  *   table 1              words touched by one action: work_words (4 lanes a place), work_sums (2
  *                        numbers), log_words (4 lanes), log_values, place_order, place_work
  *   table 2              candidates held at a time, before the room rule: cand_words and next_words (4
@@ -649,7 +650,7 @@ pebblelinen_generator_lengths pebblelinen_generator_sizes(size_t qubits, size_t 
  * values, side by side.
  *
  *   words, len           the basis: its first len places, 4 lanes a word
- *   h_index, j_index     64 lanes for each qubit; mask: 64 lanes
+ *   h_index, j_index     64 lanes for each qubit; mask: 64 lanes; none of either for an empty basis
  *   nexts                a place for each basis word; heads: at least as many, twice as many is good
  *   table 1              words touched by one action: work_words (4 lanes a place), work_sums (2
  *                        numbers)

@@ -19,8 +19,9 @@ use Rattle.word.specs.Flat as Flat
 use Rattle.word.specs.Register.{reaches}
 use Rattle.word.specs.declared.word.Word.{Word}
 use Rattle.model.specs.Stored.{Tables}
-use Rattle.model.specs.Tested.{firstTo, testModel}
+use Rattle.model.specs.Tested.{whereAny, firstTo, testModel}
 use Rattle.model.specs.declared.tables.Model.{Model}
+use Rattle.model.proofs.NeedLaws.{need-some}
 use Rattle.model.proofs.Firsts.{first-before}
 use Rattle.model.proofs.BuildLaws.{passed, both, equal-passed, lent-passed, counted-passed}
 use Rattle.action.specs.Counts.{maxWords, rowLanes, outsideAt, insideTo, wordsTests, AllInside}
@@ -46,25 +47,25 @@ module _ (m : Model) (t : Tables) (lanes : List ℕ) (h j k : ℕ) where
       unfolding wordsTests
       lanes-over e = rw (ok, le-ltb maxWords words few, e)
 
-      module _ (four : eqb (length lanes) (words * 4) ≡ true) where
-        pub h-index-short : h < rowLanes * m .qubits → Refused (LengthMismatch (rowLanes * m .qubits) h) ≡ tests
+      module _ (four : eqb (length lanes) (words * 4) ≡ true) {rows row : ℕ} (rows-are : rows ≡ whereAny words (rowLanes * m .qubits)) (row-is : row ≡ whereAny words rowLanes) where
+        pub h-index-short : h < rows → Refused (LengthMismatch rows h) ≡ tests
         unfolding wordsTests
-        h-index-short l = rw (ok, le-ltb maxWords words few, four, lt-ltb h (rowLanes * m .qubits) l)
+        h-index-short l = rw (ok, le-ltb maxWords words few, four, ← rows-are, lt-ltb h rows l)
 
-        module _ (h-long : rowLanes * m .qubits ≤ h) where
-          pub j-index-short : j < rowLanes * m .qubits → Refused (LengthMismatch (rowLanes * m .qubits) j) ≡ tests
+        module _ (h-long : rows ≤ h) where
+          pub j-index-short : j < rows → Refused (LengthMismatch rows j) ≡ tests
           unfolding wordsTests
-          j-index-short l = rw (ok, le-ltb maxWords words few, four, le-ltb h (rowLanes * m .qubits) h-long, lt-ltb j (rowLanes * m .qubits) l)
+          j-index-short l = rw (ok, le-ltb maxWords words few, four, ← rows-are, le-ltb h rows h-long, lt-ltb j rows l)
 
-          module _ (j-long : rowLanes * m .qubits ≤ j) where
-            pub mask-short : k < rowLanes → Refused (LengthMismatch rowLanes k) ≡ tests
+          module _ (j-long : rows ≤ j) where
+            pub mask-short : k < row → Refused (LengthMismatch row k) ≡ tests
             unfolding wordsTests
-            mask-short l = rw (ok, le-ltb maxWords words few, four, le-ltb h (rowLanes * m .qubits) h-long, le-ltb j (rowLanes * m .qubits) j-long, lt-ltb k rowLanes l)
+            mask-short l = rw (ok, le-ltb maxWords words few, four, ← rows-are, le-ltb h rows h-long, le-ltb j rows j-long, ← row-is, lt-ltb k row l)
 
-            module _ (mask-long : rowLanes ≤ k) (first : ℕ) (is : first ≡ firstTo words (outsideAt lanes (m .qubits))) where
+            module _ (mask-long : row ≤ k) (first : ℕ) (is : first ≡ firstTo words (outsideAt lanes (m .qubits))) where
               reached : insideTo words lanes (m .qubits) Accepted ≡ tests
               unfolding wordsTests
-              reached = rw (ok, le-ltb maxWords words few, four, le-ltb h (rowLanes * m .qubits) h-long, le-ltb j (rowLanes * m .qubits) j-long, le-ltb k rowLanes mask-long)
+              reached = rw (ok, le-ltb maxWords words few, four, ← rows-are, le-ltb h rows h-long, le-ltb j rows j-long, ← row-is, le-ltb k row mask-long)
 
               pub word-outside : first < words → Refused (WordOutsideRegister first) ≡ tests
               unfolding insideTo
@@ -82,9 +83,9 @@ outside-at lanes n k e f = f ∙ ap (λ (v : Word). reaches v n) e
 -- ---- what is known where all tests are passed
 pub record Passed (m : Model) (t : Tables) (lanes : List ℕ) (h j k : ℕ) : Type 0 where
   pub model : testModel m t ≡ Accepted
-  pub h-long : rowLanes * m .qubits ≤ h
-  pub j-long : rowLanes * m .qubits ≤ j
-  pub mask-long : rowLanes ≤ k
+  pub h-long : 0 < length lanes / 4 → rowLanes * m .qubits ≤ h
+  pub j-long : 0 < length lanes / 4 → rowLanes * m .qubits ≤ j
+  pub mask-long : 0 < length lanes / 4 → rowLanes ≤ k
   pub inside : AllInside lanes (m .qubits)
 
 pub words-passed : (m : Model) (t : Tables) (lanes : List ℕ) (h j k : ℕ) → wordsTests m t lanes h j k ≡ Accepted → Passed m t lanes h j k
@@ -95,15 +96,16 @@ words-passed m t lanes h j k e =
     let e0 = both (testModel m t) _ e in
     let e1 = counted-passed maxWords words _ (e0 .1) in
     let e2 = equal-passed (words * 4) (length lanes) _ (e1 .1) in
-    let e3 = lent-passed (rowLanes * m .qubits) h _ (e2 .1) in
-    let e4 = lent-passed (rowLanes * m .qubits) j _ (e3 .1) in
-    let e5 = lent-passed rowLanes k _ (e4 .1) in
+    let rows : ℕ = rowLanes * m .qubits in
+    let e3 = lent-passed (whereAny words rows) h _ (e2 .1) in
+    let e4 = lent-passed (whereAny words rows) j _ (e3 .1) in
+    let e5 = lent-passed (whereAny words rowLanes) k _ (e4 .1) in
     let e6 = passed (ltb first words) (WordOutsideRegister first) _ (e5 .1) in
     let l = ltb-false first words (e6 .0) in
     record {
       model = e0 .0;
-      h-long = e3 .0;
-      j-long = e4 .0;
-      mask-long = e5 .0;
+      h-long = λ a. need-some words rows h a (e3 .0);
+      j-long = λ a. need-some words rows j a (e4 .0);
+      mask-long = λ a. need-some words rowLanes k a (e5 .0);
       inside = λ i a. first-before words (outsideAt lanes (m .qubits)) i (omega arith);
     }

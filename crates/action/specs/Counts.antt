@@ -20,7 +20,7 @@ use Rattle.word.specs.Register.{reaches}
 use Rattle.word.specs.declared.word.Word.{Word}
 use Rattle.number.specs.Floats.{float0}
 use Rattle.model.specs.Stored.{Tables}
-use Rattle.model.specs.Tested.{counted, lent, firstTo, testModel}
+use Rattle.model.specs.Tested.{counted, lent, whereAny, firstTo, testModel}
 use Rattle.model.specs.Built.{andThen, equal}
 use Rattle.model.specs.declared.tables.Model.{Model}
 use Rattle.action.specs.Acts.{sumsOf, actionOf, sumPlaces}
@@ -59,15 +59,15 @@ outsideAt lanes n k = reaches (getD (words lanes) k identity) n
 unfoldable pub insideTo : ℕ → List ℕ → ℕ → Answer → Answer
 insideTo count lanes n after = cond (ltb (firstTo count (outsideAt lanes n)) count) (Tests.Refused (WordOutsideRegister (firstTo count (outsideAt lanes n)))) after
 
--- the model, 8, 9, 11
+-- the model, 8, 9, 11; no words ask for no place
 unfoldable pub wordsTests : Model → Tables → List ℕ → ℕ → ℕ → ℕ → Answer
 wordsTests m t lanes hIndex jIndex mask =
     andThen (testModel m t)
     (counted maxWords (length lanes / 4)
     (equal (length lanes / 4 * 4) (length lanes)
-    (lent (rowLanes * m .qubits) hIndex
-    (lent (rowLanes * m .qubits) jIndex
-    (lent rowLanes mask
+    (lent (whereAny (length lanes / 4) (rowLanes * m .qubits)) hIndex
+    (lent (whereAny (length lanes / 4) (rowLanes * m .qubits)) jIndex
+    (lent (whereAny (length lanes / 4) rowLanes) mask
     (insideTo (length lanes / 4) lanes (m .qubits)
     Tests.Accepted))))))
 

@@ -5,7 +5,7 @@
 // built once; each action then visits only the items that share a qubit with its word.
 ghost use mathlib.Core.Path.{_≡_};
 ghost use mathlib.Core.Bool.{cond};
-ghost use Prim.Native.Nat.{_*_, _≤_, max};
+ghost use Prim.Native.Nat.{_*_, _/_, _≤_, _<_, max};
 ghost use lib.Dec.{ltb};
 ghost use lib.ListN.{length};
 ghost use Rattle.refusal.specs.declared.Answer.the-variants.{Accepted};
@@ -44,7 +44,8 @@ pub fn larger_count(a: usize, b: usize) -> usize
     a
 }
 
-// The same of a model that passed its test, with its index, and a table of sums of so many places.
+// The same of a model that passed its test, with its index where there is a word, and a table of sums of
+// so many places.
 fn most_places(
     m: Model,
     h_words: &[u64],
@@ -61,7 +62,7 @@ fn most_places(
     work_sums: &mut [f64],
     room: usize,
 ) -> Counted
-    requires { ⌜ (testModel m (tables (now «h_words») (now «h_coeffs») (now jumps) (now rates) (now «t_words») (now «t_numbers»)) ≡ Accepted) × ModelIndexed m (tables (now «h_words») (now «h_coeffs») (now jumps) (now rates) (now «t_words») (now «t_numbers»)) (now «h_index») (now «j_index») × (64 * m .qubits ≤ length (now «h_index»)) × (64 * m .qubits ≤ length (now «j_index»)) × (64 ≤ length (now mask)) × (4 * room ≤ length (now «work_words»)) × (2 * room ≤ length (now «work_sums»)) × AllInside (now list) (m .qubits) ⌝ }
+    requires { ⌜ (testModel m (tables (now «h_words») (now «h_coeffs») (now jumps) (now rates) (now «t_words») (now «t_numbers»)) ≡ Accepted) × (0 < length (now list) / 4 → ModelIndexed m (tables (now «h_words») (now «h_coeffs») (now jumps) (now rates) (now «t_words») (now «t_numbers»)) (now «h_index») (now «j_index») × (64 * m .qubits ≤ length (now «h_index»)) × (64 * m .qubits ≤ length (now «j_index»)) × (64 ≤ length (now mask))) × (4 * room ≤ length (now «work_words»)) × (2 * room ≤ length (now «work_sums»)) × AllInside (now list) (m .qubits) ⌝ }
     ensures { λ r. ⌜ r ≡ mostPlaces room (touchedBy m (tables (now («h_words» .entry)) (now («h_coeffs» .entry)) (now (jumps .entry)) (now (rates .entry)) (now («t_words» .entry)) (now («t_numbers» .entry)))) (listedBy m (tables (now («h_words» .entry)) (now («h_coeffs» .entry)) (now (jumps .entry)) (now (rates .entry)) (now («t_words» .entry)) (now («t_numbers» .entry)))) (words (now (list .entry))) ⌝ }
 {
     let count = list.len() / WORD_LANES;
@@ -119,7 +120,8 @@ fn count_tested(
     requires { ⌜ wordsTests m (tables (now «h_words») (now «h_coeffs») (now jumps) (now rates) (now «t_words») (now «t_numbers»)) (now list) (length (now «h_index»)) (length (now «j_index»)) (length (now mask)) ≡ Accepted ⌝ }
     ensures { λ r. ⌜ record { answer = r; hIndex = now («h_index» .exit); jIndex = now («j_index» .exit); mask = now (mask .exit); workWords = now («work_words» .exit); workSums = now («work_sums» .exit) } ≡ countPlaces (now («h_index» .entry)) (now («j_index» .entry)) (now (mask .entry)) (now («work_words» .entry)) (now («work_sums» .entry)) m (tables (now («h_words» .entry)) (now («h_coeffs» .entry)) (now (jumps .entry)) (now (rates .entry)) (now («t_words» .entry)) (now («t_numbers» .entry))) (now (list .entry)) ⌝ }
 {
-    index_model(h_index, j_index, m, h_words, jumps, rates, t_words);
+    let count = list.len() / WORD_LANES;
+    index_model(h_index, j_index, m, h_words, jumps, rates, t_words, count);
     let room = smaller(work_words.len() / WORD_LANES, work_sums.len() / 2);
     let counted = most_places(
         m,

@@ -9,6 +9,7 @@ ghost use Rattle.model.specs.Stored.{tables};
 ghost use Rattle.model.specs.Tested.{firstTo};
 ghost use Rattle.action.specs.Counts.{outsideAt, wordsTests};
 use model::lengths::mismatch;
+use model::lengths::where_any;
 use model::tables::Model;
 use model::test::test_model;
 use refusal::Answer;
@@ -65,15 +66,16 @@ pub fn check_words(
     if words.len() != count * WORD_LANES {
         return mismatch(count * WORD_LANES, words.len());
     }
-    let rows = ROW_LANES * m.qubits;
+    let rows = where_any(count, ROW_LANES * m.qubits);
+    let row = where_any(count, ROW_LANES);
     if h_index < rows {
         return mismatch(rows, h_index);
     }
     if j_index < rows {
         return mismatch(rows, j_index);
     }
-    if mask < ROW_LANES {
-        return mismatch(ROW_LANES, mask);
+    if mask < row {
+        return mismatch(row, mask);
     }
     let n = m.qubits;
     let first = first_outside(words, count, n);

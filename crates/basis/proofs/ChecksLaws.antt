@@ -5,7 +5,7 @@
 use mathlib.Core.Path.{_≡_, refl, sym}
 use mathlib.Core.Bool.{Bool, true, false, cond}
 use mathlib.Core.List.{List}
-use Prim.Native.Nat.{ℕ, _+_, _*_, _/_, _≤_, _<_, max}
+use Prim.Native.Nat.{ℕ, zero, suc, _+_, _*_, _/_, _≤_, _<_, max}
 use native.Mathlib.Omega.{arith}
 use borrow.Author.Tests.{lt-ltb, le-ltb, ltb-false, not-false}
 use denote.Floats.{passes}
@@ -19,8 +19,9 @@ use Rattle.refusal.specs.declared.Answer.{Answer}
 use Rattle.refusal.specs.declared.Answer.the-variants.{Accepted, Refused}
 use Rattle.number.specs.Floats.{isFinite}
 use Rattle.order.specs.Magnitudes.{AreFinite}
-use Rattle.model.specs.Tested.{firstTo}
+use Rattle.model.specs.Tested.{whereAny, firstTo}
 use Rattle.model.specs.Built.{andThen}
+use Rattle.model.proofs.NeedLaws.{need-some}
 use Rattle.model.proofs.Firsts.{first-before}
 use Rattle.model.proofs.BuildLaws.{passed, equal-passed, lent-passed}
 use Rattle.action.specs.Counts.{outsideAt, insideTo}
@@ -48,6 +49,12 @@ module _ (r1 r2 r3 : Refusal) (after : Answer) where
     seven-then false false true false false false true = refl
     seven-then false false true false false false false = refl
 
+-- a place for each entry
+entries-asked : (len count : ℕ) → len ≤ whereAny len (max len count)
+unfolding whereAny
+entries-asked zero count = omega arith
+entries-asked (suc len) count = omega arith
+
 module _ (len : ℕ) (lanes : List ℕ) (coeffs : List Float) (order work fixed kept : List ℕ) (n : ℕ) (protected : List ℕ) where
   abbrev tests : Answer → Answer
   tests = lengthTests len lanes coeffs order work fixed kept n protected
@@ -57,8 +64,8 @@ module _ (len : ℕ) (lanes : List ℕ) (coeffs : List Float) (order work fixed 
 
   pub lengths-then : (after : Answer) → tests after ≡ andThen (tests Accepted) after
   lengths-then after =
-      seven-then (LengthMismatch len (length lanes / 4)) (LengthMismatch len (length coeffs)) (LengthMismatch (count * 4) (length protected)) after (LengthMismatch (max len count) (length order)) (LengthMismatch (max len count) (length work)) (LengthMismatch len (length fixed)) (LengthMismatch len (length kept))
-      (ltb (length lanes / 4) len) (ltb (length coeffs) len) (eqb (length protected) (count * 4)) (ltb (length order) (max len count)) (ltb (length work) (max len count)) (ltb (length fixed) len) (ltb (length kept) len)
+      seven-then (LengthMismatch len (length lanes / 4)) (LengthMismatch len (length coeffs)) (LengthMismatch (count * 4) (length protected)) after (LengthMismatch (whereAny len (max len count)) (length order)) (LengthMismatch (whereAny len (max len count)) (length work)) (LengthMismatch len (length fixed)) (LengthMismatch len (length kept))
+      (ltb (length lanes / 4) len) (ltb (length coeffs) len) (eqb (length protected) (count * 4)) (ltb (length order) (whereAny len (max len count))) (ltb (length work) (whereAny len (max len count))) (ltb (length fixed) len) (ltb (length kept) len)
 
   pub lanes-short : length lanes / 4 < len → Refused (LengthMismatch len (length lanes / 4)) ≡ tests Accepted
   lanes-short l = rw (lt-ltb (length lanes / 4) len l)
@@ -71,7 +78,7 @@ module _ (len : ℕ) (lanes : List ℕ) (coeffs : List Float) (order work fixed 
       pub protected-over : eqb (length protected) (count * 4) ≡ false → Refused (LengthMismatch (count * 4) (length protected)) ≡ tests Accepted
       protected-over e = rw (le-ltb (length lanes / 4) len h1, le-ltb (length coeffs) len h2, e)
 
-      module _ (four : eqb (length protected) (count * 4) ≡ true) (places : ℕ) (is : places ≡ max len count) where
+      module _ (four : eqb (length protected) (count * 4) ≡ true) (places : ℕ) (is : places ≡ whereAny len (max len count)) where
         pub order-short : length order < places → Refused (LengthMismatch places (length order)) ≡ tests Accepted
         order-short l = rw (le-ltb (length lanes / 4) len h1, le-ltb (length coeffs) len h2, four, sym is, lt-ltb (length order) places l)
 
@@ -98,9 +105,9 @@ module _ (len : ℕ) (lanes : List ℕ) (coeffs : List Float) (order work fixed 
     pub coeffs-room : len ≤ length coeffs
     pub protected-whole : count * 4 ≡ length protected
     pub order-entries : len ≤ length order
-    pub order-protected : count ≤ length order
+    pub order-protected : 0 < len → count ≤ length order
     pub work-entries : len ≤ length work
-    pub work-protected : count ≤ length work
+    pub work-protected : 0 < len → count ≤ length work
     pub fixed-room : len ≤ length fixed
     pub kept-room : len ≤ length kept
 
@@ -109,18 +116,18 @@ module _ (len : ℕ) (lanes : List ℕ) (coeffs : List Float) (order work fixed 
       let e1 = lent-passed len (length lanes / 4) _ e in
       let e2 = lent-passed len (length coeffs) _ (e1 .1) in
       let e3 = equal-passed (count * 4) (length protected) _ (e2 .1) in
-      let e4 = lent-passed (max len count) (length order) _ (e3 .1) in
-      let e5 = lent-passed (max len count) (length work) _ (e4 .1) in
+      let e4 = lent-passed (whereAny len (max len count)) (length order) _ (e3 .1) in
+      let e5 = lent-passed (whereAny len (max len count)) (length work) _ (e4 .1) in
       let e6 = lent-passed len (length fixed) _ (e5 .1) in
       let e7 = lent-passed len (length kept) _ (e6 .1) in
       record {
         lanes-room = omega (arith, e1 .0);
         coeffs-room = e2 .0;
         protected-whole = sym (e3 .0);
-        order-entries = omega (arith, e4 .0);
-        order-protected = omega (arith, e4 .0);
-        work-entries = omega (arith, e5 .0);
-        work-protected = omega (arith, e5 .0);
+        order-entries = omega (arith, e4 .0, entries-asked len count);
+        order-protected = λ h. omega (arith, need-some len (max len count) (length order) h (e4 .0));
+        work-entries = omega (arith, e5 .0, entries-asked len count);
+        work-protected = λ h. omega (arith, need-some len (max len count) (length work) h (e5 .0));
         fixed-room = e6 .0;
         kept-room = e7 .0;
       }

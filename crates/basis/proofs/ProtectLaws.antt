@@ -132,3 +132,10 @@ module _ (len : ℕ) (lanes protected : List ℕ) (h : 4 * len ≤ length lanes)
   unfolding pruneFlags protectedFlags
   prune-marked coeffs tol large flags n l m z e =
       e ∙ rw (z, m) (large-flagged (words protected) tol (words lanes) (take len coeffs) len (length-take-le len coeffs l) (omega (arith, words-high lanes)))
+
+-- no entries have no flags
+pub none-kept : (len : ℕ) (lanes : List ℕ) (coeffs : List Float) (protected : List ℕ) (tol : Float) (kept : List ℕ) → len ≡ 0 → length kept ≡ len → kept ≡ pruneFlags len lanes coeffs protected tol
+unfolding pruneFlags protectedFlags largeFlags
+none-kept zero lanes coeffs protected tol [] z e = refl
+none-kept zero lanes coeffs protected tol (k ∷ kept) z e = absurd (omega arith)
+none-kept (suc len) lanes coeffs protected tol kept z e = absurd (omega arith)

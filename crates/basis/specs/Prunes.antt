@@ -21,7 +21,7 @@ use Rattle.order.specs.Places.{isAmong}
 use Rattle.truncate.specs.Retained.{flagged, retainedLanes, retainedNumbers}
 use Rattle.truncate.specs.Chosen.{chosen}
 use Rattle.truncate.specs.Pruned.{largeFlags}
-use Rattle.model.specs.Tested.{counted, lent}
+use Rattle.model.specs.Tested.{counted, lent, whereAny}
 use Rattle.model.specs.Built.{equal}
 use Rattle.action.specs.Counts.{maxWords, insideTo}
 use Rattle.basis.specs.Tests.{finiteTo, finiteThreshold}
@@ -79,10 +79,10 @@ module _ (len : ℕ) (lanes : List ℕ) (coeffs : List Float) (order work fixed 
   tested (Tests.Refused r) after = unchanged r
 
   -- 1, 8, 9, 11, 7: what prune and cap ask alike of a basis and a protected list; each work table has a place for each entry, and
-  -- the two for ordering also one for each protected word
+  -- the two for ordering, where there is an entry, also one for each protected word
   module _ (n : ℕ) (protected : List ℕ) where
     abbrev pub orderPlaces : ℕ
-    orderPlaces = max len (length protected / 4)
+    orderPlaces = whereAny len (max len (length protected / 4))
 
     abbrev pub lengthTests : Answer → Answer
     lengthTests after =

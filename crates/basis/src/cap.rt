@@ -5,7 +5,7 @@
 ghost use mathlib.Core.Path.{_≡_};
 ghost use mathlib.Core.Bool.{cond};
 ghost use mathlib.Core.List.{List};
-ghost use Prim.Native.Nat.{ℕ, _-_, _*_, _/_, _≤_};
+ghost use Prim.Native.Nat.{ℕ, _-_, _*_, _/_, _≤_, _<_};
 ghost use lib.Dec.{leb};
 ghost use lib.ListN.{length, take};
 ghost use Rattle.order.specs.Magnitudes.{byMagnitude, AreFinite};
@@ -121,7 +121,7 @@ fn keep_largest(
     fixed: &mut [u64],
     kept: &mut [u64],
 ) -> usize
-    requires { ⌜ (4 * len ≤ length (now words)) × (len ≤ length (now coeffs)) × (length (now protected) / 4 * 4 ≡ length (now protected)) × (length (now protected) / 4 ≤ length (now order)) × (length (now protected) / 4 ≤ length (now work)) × (len ≤ length (now order)) × (len ≤ length (now fixed)) × (len ≤ length (now kept)) × AreFinite (take len (now coeffs)) ⌝ }
+    requires { ⌜ (4 * len ≤ length (now words)) × (len ≤ length (now coeffs)) × (length (now protected) / 4 * 4 ≡ length (now protected)) × (0 < len → length (now protected) / 4 ≤ length (now order)) × (0 < len → length (now protected) / 4 ≤ length (now work)) × (len ≤ length (now order)) × (len ≤ length (now fixed)) × (len ≤ length (now kept)) × AreFinite (take len (now coeffs)) ⌝ }
     ensures { λ r. ⌜ ((o w f k : List ℕ) → left len (now (words .entry)) (now (coeffs .entry)) o w f k r (now (words .exit)) (now (coeffs .exit)) ≡ cond (leb len limit) (left len (now (words .entry)) (now (coeffs .entry)) o w f k len (now (words .entry)) (now (coeffs .entry))) (retained len (now (words .entry)) (now (coeffs .entry)) o w f k (capFlags len (now (words .entry)) (now (coeffs .entry)) (now (protected .entry)) limit))) ⌝ }
 {
     if len <= limit {

@@ -13,6 +13,7 @@ use crate::tests::first_not_finite;
 use action::count::larger_count;
 use action::words::first_outside;
 use model::lengths::mismatch;
+use model::lengths::where_any;
 use refusal::Answer;
 use refusal::Refusal;
 use word::flat::WORD_LANES;
@@ -49,7 +50,7 @@ pub fn check_lengths(
     if protected.len() != count * WORD_LANES {
         return mismatch(count * WORD_LANES, protected.len());
     }
-    let places = larger_count(len, count);
+    let places = where_any(len, larger_count(len, count));
     if order.len() < places {
         return mismatch(places, order.len());
     }

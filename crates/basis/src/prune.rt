@@ -5,7 +5,7 @@
 ghost use mathlib.Core.Path.{_≡_};
 ghost use mathlib.Core.Bool.{cond};
 ghost use mathlib.Core.List.{List};
-ghost use Prim.Native.Nat.{ℕ, _*_, _/_, _≤_};
+ghost use Prim.Native.Nat.{ℕ, _*_, _/_, _≤_, _<_};
 ghost use lib.Ieee.{le};
 ghost use lib.ListN.{length};
 ghost use Rattle.number.specs.Floats.{float0};
@@ -78,9 +78,12 @@ fn flag_kept(
     list: &mut [u64],
     kept: &mut [u64],
 )
-    requires { ⌜ (4 * len ≤ length (now words)) × (len ≤ length (now coeffs)) × (length (now protected) / 4 * 4 ≡ length (now protected)) × (length (now protected) / 4 ≤ length (now order)) × (length (now protected) / 4 ≤ length (now work)) × (len ≤ length (now list)) × (length (now kept) ≡ len) ⌝ }
+    requires { ⌜ (4 * len ≤ length (now words)) × (len ≤ length (now coeffs)) × (length (now protected) / 4 * 4 ≡ length (now protected)) × (0 < len → length (now protected) / 4 ≤ length (now order)) × (0 < len → length (now protected) / 4 ≤ length (now work)) × (len ≤ length (now list)) × (length (now kept) ≡ len) ⌝ }
     ensures { λ _. ⌜ now (kept .exit) ≡ pruneFlags len (now (words .entry)) (now (coeffs .entry)) (now (protected .entry)) «drop_tol» ⌝ }
 {
+    if len == 0 {
+        return;
+    }
     flag_large(coeffs, drop_tol, kept);
     mark_protected(words, protected, order, work, list, kept);
 }
@@ -97,7 +100,7 @@ fn drop_small(
     list: &mut [u64],
     kept: &mut [u64],
 ) -> usize
-    requires { ⌜ (4 * len ≤ length (now words)) × (len ≤ length (now coeffs)) × (length (now protected) / 4 * 4 ≡ length (now protected)) × (length (now protected) / 4 ≤ length (now order)) × (length (now protected) / 4 ≤ length (now work)) × (len ≤ length (now list)) × (len ≤ length (now kept)) ⌝ }
+    requires { ⌜ (4 * len ≤ length (now words)) × (len ≤ length (now coeffs)) × (length (now protected) / 4 * 4 ≡ length (now protected)) × (0 < len → length (now protected) / 4 ≤ length (now order)) × (0 < len → length (now protected) / 4 ≤ length (now work)) × (len ≤ length (now list)) × (len ≤ length (now kept)) ⌝ }
     ensures { λ r. ⌜ ((o w f k : List ℕ) → left len (now (words .entry)) (now (coeffs .entry)) o w f k r (now (words .exit)) (now (coeffs .exit)) ≡ cond (le «drop_tol» float0) (left len (now (words .entry)) (now (coeffs .entry)) o w f k len (now (words .entry)) (now (coeffs .entry))) (retained len (now (words .entry)) (now (coeffs .entry)) o w f k (pruneFlags len (now (words .entry)) (now (coeffs .entry)) (now (protected .entry)) «drop_tol»))) ⌝ }
 {
     if drop_tol <= 0.0 {

@@ -3,7 +3,8 @@
 
 // All columns in position order, staged: an out table must stay as it was where a later column finds no
 // room, so that entries cannot be written there at once.
-ghost use Prim.Native.Nat.{_≤_};
+ghost use Prim.Native.Nat.{_/_, _<_};
+ghost use lib.ListN.{length};
 ghost use Rattle.word.specs.Flat.{words};
 ghost use Rattle.model.specs.Stored.{tables};
 ghost use Rattle.columns.specs.Columns.{generatorOf, generatorRoom};
@@ -42,7 +43,7 @@ pub fn stage_columns(
     values: &mut [f64],
     entry_room: usize,
 ) -> Acted
-    requires { ⌜ ModelReady m (tables (now «h_words») (now «h_coeffs») (now jumps) (now rates) (now «t_words») (now «t_numbers»)) (now «h_index») (now «j_index») (now mask) × BasisReady (m .qubits) (now basis) (now heads) (now nexts) × SumRoom «sum_room» (now «work_words») (now «work_sums») × StageRoom «entry_room» (now rows) (now columns) (now values) ⌝ }
+    requires { ⌜ (0 < length (now basis) / 4 → ModelReady m (tables (now «h_words») (now «h_coeffs») (now jumps) (now rates) (now «t_words») (now «t_numbers»)) (now «h_index») (now «j_index») (now mask)) × BasisReady (m .qubits) (now basis) (now heads) (now nexts) × SumRoom «sum_room» (now «work_words») (now «work_sums») × StageRoom «entry_room» (now rows) (now columns) (now values) ⌝ }
     ensures { λ r. ⌜ Stages (generatorRoom m (tables (now («h_words» .entry)) (now («h_coeffs» .entry)) (now (jumps .entry)) (now (rates .entry)) (now («t_words» .entry)) (now («t_numbers» .entry))) (words (now (basis .entry))) «sum_room» «entry_room») (generatorOf m (tables (now («h_words» .entry)) (now («h_coeffs» .entry)) (now (jumps .entry)) (now (rates .entry)) (now («t_words» .entry)) (now («t_numbers» .entry))) (words (now (basis .entry)))) (now (rows .exit)) (now (columns .exit)) (now (values .exit)) r ⌝ }
 {
     let len = basis.len() / WORD_LANES;

@@ -16,9 +16,10 @@ use Rattle.refusal.specs.declared.Refusal.the-variants.{CountAboveLimit, Length
 use Rattle.refusal.specs.declared.Answer.{Answer}
 use Rattle.refusal.specs.declared.Answer.the-variants.{Accepted, Refused}
 use Rattle.model.specs.Stored.{Tables}
-use Rattle.model.specs.Tested.{lent, firstTo, testModel}
+use Rattle.model.specs.Tested.{lent, whereAny, firstTo, testModel}
 use Rattle.model.specs.Built.{andThen}
 use Rattle.model.specs.declared.tables.Model.{Model}
+use Rattle.model.proofs.NeedLaws.{need-some}
 use Rattle.model.proofs.Firsts.{first-before}
 use Rattle.model.proofs.BuildLaws.{passed, both, lent-passed, counted-passed, refused-not}
 use Rattle.action.specs.Counts.{maxWords, rowLanes, outsideAt, insideTo}
@@ -45,44 +46,44 @@ module _ (m : Model) (t : Tables) (lanes : List ℕ) (len h j k he ne : ℕ) whe
       unfolding tableTests
       words-short l = rw (ok, le-ltb maxWords len h1, lt-ltb places len l)
 
-      module _ (h2 : len ≤ places) where
-        pub h-short : h < rowLanes * m .qubits → Refused (LengthMismatch (rowLanes * m .qubits) h) ≡ tests
+      module _ (h2 : len ≤ places) {rows row : ℕ} (rows-are : rows ≡ whereAny len (rowLanes * m .qubits)) (row-is : row ≡ whereAny len rowLanes) where
+        pub h-short : h < rows → Refused (LengthMismatch rows h) ≡ tests
         unfolding tableTests
-        h-short l = rw (ok, le-ltb maxWords len h1, le-ltb places len h2, lt-ltb h (rowLanes * m .qubits) l)
+        h-short l = rw (ok, le-ltb maxWords len h1, le-ltb places len h2, ← rows-are, lt-ltb h rows l)
 
-        module _ (h3 : rowLanes * m .qubits ≤ h) where
-          pub j-short : j < rowLanes * m .qubits → Refused (LengthMismatch (rowLanes * m .qubits) j) ≡ tests
+        module _ (h3 : rows ≤ h) where
+          pub j-short : j < rows → Refused (LengthMismatch rows j) ≡ tests
           unfolding tableTests
-          j-short l = rw (ok, le-ltb maxWords len h1, le-ltb places len h2, le-ltb h (rowLanes * m .qubits) h3, lt-ltb j (rowLanes * m .qubits) l)
+          j-short l = rw (ok, le-ltb maxWords len h1, le-ltb places len h2, ← rows-are, le-ltb h rows h3, lt-ltb j rows l)
 
-          module _ (h4 : rowLanes * m .qubits ≤ j) where
-            pub mask-short : k < rowLanes → Refused (LengthMismatch rowLanes k) ≡ tests
+          module _ (h4 : rows ≤ j) where
+            pub mask-short : k < row → Refused (LengthMismatch row k) ≡ tests
             unfolding tableTests
-            mask-short l = rw (ok, le-ltb maxWords len h1, le-ltb places len h2, le-ltb h (rowLanes * m .qubits) h3, le-ltb j (rowLanes * m .qubits) h4, lt-ltb k rowLanes l)
+            mask-short l = rw (ok, le-ltb maxWords len h1, le-ltb places len h2, ← rows-are, le-ltb h rows h3, le-ltb j rows h4, ← row-is, lt-ltb k row l)
 
-            module _ (h5 : rowLanes ≤ k) where
+            module _ (h5 : row ≤ k) where
               pub heads-short : he < len → Refused (LengthMismatch len he) ≡ tests
               unfolding tableTests
-              heads-short l = rw (ok, le-ltb maxWords len h1, le-ltb places len h2, le-ltb h (rowLanes * m .qubits) h3, le-ltb j (rowLanes * m .qubits) h4, le-ltb k rowLanes h5, lt-ltb he len l)
+              heads-short l = rw (ok, le-ltb maxWords len h1, le-ltb places len h2, ← rows-are, le-ltb h rows h3, le-ltb j rows h4, ← row-is, le-ltb k row h5, lt-ltb he len l)
 
               module _ (h6 : len ≤ he) where
                 pub nexts-short : ne < len → Refused (LengthMismatch len ne) ≡ tests
                 unfolding tableTests
-                nexts-short l = rw (ok, le-ltb maxWords len h1, le-ltb places len h2, le-ltb h (rowLanes * m .qubits) h3, le-ltb j (rowLanes * m .qubits) h4, le-ltb k rowLanes h5, le-ltb he len h6, lt-ltb ne len l)
+                nexts-short l = rw (ok, le-ltb maxWords len h1, le-ltb places len h2, ← rows-are, le-ltb h rows h3, le-ltb j rows h4, ← row-is, le-ltb k row h5, le-ltb he len h6, lt-ltb ne len l)
 
                 module _ (h7 : len ≤ ne) where
                   pub tables-accepted : Accepted ≡ tests
                   unfolding tableTests
-                  tables-accepted = rw (ok, le-ltb maxWords len h1, le-ltb places len h2, le-ltb h (rowLanes * m .qubits) h3, le-ltb j (rowLanes * m .qubits) h4, le-ltb k rowLanes h5, le-ltb he len h6, le-ltb ne len h7)
+                  tables-accepted = rw (ok, le-ltb maxWords len h1, le-ltb places len h2, ← rows-are, le-ltb h rows h3, le-ltb j rows h4, ← row-is, le-ltb k row h5, le-ltb he len h6, le-ltb ne len h7)
 
 -- ---- what is known where they are passed
 pub record Passed (m : Model) (t : Tables) (lanes : List ℕ) (len h j k he ne : ℕ) : Type 0 where
   pub model : testModel m t ≡ Accepted
   pub few : len ≤ maxWords
   pub words-long : len ≤ length lanes / 4
-  pub h-long : rowLanes * m .qubits ≤ h
-  pub j-long : rowLanes * m .qubits ≤ j
-  pub mask-long : rowLanes ≤ k
+  pub h-long : 0 < len → rowLanes * m .qubits ≤ h
+  pub j-long : 0 < len → rowLanes * m .qubits ≤ j
+  pub mask-long : 0 < len → rowLanes ≤ k
   pub heads-long : len ≤ he
   pub nexts-long : len ≤ ne
 
@@ -92,12 +93,22 @@ tables-passed m t lanes len h j k he ne e =
     let e0 = both (testModel m t) _ e in
     let e1 = counted-passed maxWords len _ (e0 .1) in
     let e2 = lent-passed len (length lanes / 4) _ (e1 .1) in
-    let e3 = lent-passed (rowLanes * m .qubits) h _ (e2 .1) in
-    let e4 = lent-passed (rowLanes * m .qubits) j _ (e3 .1) in
-    let e5 = lent-passed rowLanes k _ (e4 .1) in
+    let rows : ℕ = rowLanes * m .qubits in
+    let e3 = lent-passed (whereAny len rows) h _ (e2 .1) in
+    let e4 = lent-passed (whereAny len rows) j _ (e3 .1) in
+    let e5 = lent-passed (whereAny len rowLanes) k _ (e4 .1) in
     let e6 = lent-passed len he _ (e5 .1) in
     let e7 = lent-passed len ne _ (e6 .1) in
-    record { model = e0 .0; few = e1 .0; words-long = e2 .0; h-long = e3 .0; j-long = e4 .0; mask-long = e5 .0; heads-long = e6 .0; nexts-long = e7 .0 }
+    record {
+      model = e0 .0;
+      few = e1 .0;
+      words-long = e2 .0;
+      h-long = λ a. need-some len rows h a (e3 .0);
+      j-long = λ a. need-some len rows j a (e4 .0);
+      mask-long = λ a. need-some len rowLanes k a (e5 .0);
+      heads-long = e6 .0;
+      nexts-long = e7 .0;
+    }
 
 -- ---- 11
 module _ (count : ℕ) (lanes : List ℕ) (n first : ℕ) (is : first ≡ firstTo count (outsideAt lanes n)) where

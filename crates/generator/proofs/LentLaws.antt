@@ -34,8 +34,11 @@ use Rattle.generator.proofs.CheckLaws.{Passed}
 
 -- ---- after the tests
 module _ (m : Model) (t : Tables) (lanes : List ℕ) (len : ℕ) (hIndex jIndex mask heads nexts : List ℕ) (p : Passed m t lanes len (length hIndex) (length jIndex) (length mask) (length heads) (length nexts)) where
-  pub model-lent : ModelLent m t hIndex jIndex mask
-  model-lent = record { accepted = p .model; h-rows = p .h-long; j-rows = p .j-long; row = p .mask-long }
+  basis-long : length (take (len * 4) lanes) ≡ len * 4
+  basis-long = length-take-le (len * 4) lanes (omega (arith, p .words-long))
+
+  pub model-lent : 0 < length (take (len * 4) lanes) / 4 → ModelLent m t hIndex jIndex mask
+  model-lent h = let a : 0 < len = omega (arith, basis-long) in record { accepted = p .model; h-rows = p .h-long a; j-rows = p .j-long a; row = p .mask-long a }
 
   first-words : words (take (len * 4) lanes) ≡ basisOf lanes len
   first-words = let e : len * 4 ≡ 4 * len = omega arith in ap (λ (k : ℕ). words (take k lanes)) e ∙ words-take len lanes
@@ -46,11 +49,10 @@ module _ (m : Model) (t : Tables) (lanes : List ℕ) (len : ℕ) (hIndex jIndex 
   pub basis-lent : ((k : ℕ) → k < len → outsideAt lanes (m .qubits) k ≡ false) → BasisLent (m .qubits) len (take (len * 4) lanes) heads nexts
   unfolding outsideAt
   basis-lent inside =
-      let n : length (take (len * 4) lanes) ≡ len * 4 = length-take-le (len * 4) lanes (omega (arith, p .words-long)) in
       record {
-        each = n;
+        each = basis-long;
         few = p .few;
-        inside = λ k h. let l : k < len = omega (arith, n, h) in
+        inside = λ k h. let l : k < len = omega (arith, basis-long, h) in
             ap (λ (v : Word). reaches v (m .qubits)) (ap (λ (ws : List Word). getD ws k identity) first-words ∙ getD-take len (words lanes) k identity l) ∙ inside k l;
         heads-long = p .heads-long;
         nexts-long = p .nexts-long;

@@ -16,7 +16,7 @@ use Rattle.word.specs.Flat.{words}
 use Rattle.word.specs.declared.word.Word.{Word}
 use Rattle.number.specs.Floats.{float0}
 use Rattle.model.specs.Stored.{Tables}
-use Rattle.model.specs.Tested.{counted, lent, testModel}
+use Rattle.model.specs.Tested.{counted, lent, whereAny, testModel}
 use Rattle.model.specs.Built.{andThen}
 use Rattle.model.specs.declared.tables.Model.{Model}
 use Rattle.action.specs.Counts.{maxWords, rowLanes, insideTo, AllInside}
@@ -67,15 +67,15 @@ abbrev pub basisOf : List ℕ → ℕ → List Word
 basisOf lanes len = take len (words lanes)
 
 -- ---- the tests
--- the model, 8, 9
+-- the model, 8, 9; no words ask for no place
 unfoldable pub tableTests : Model → Tables → List ℕ → ℕ → ℕ → ℕ → ℕ → ℕ → ℕ → Answer
 tableTests m t lanes len hIndex jIndex mask heads nexts =
     andThen (testModel m t)
     (counted maxWords len
     (lent len (length lanes / 4)
-    (lent (rowLanes * m .qubits) hIndex
-    (lent (rowLanes * m .qubits) jIndex
-    (lent rowLanes mask
+    (lent (whereAny len (rowLanes * m .qubits)) hIndex
+    (lent (whereAny len (rowLanes * m .qubits)) jIndex
+    (lent (whereAny len rowLanes) mask
     (lent len heads
     (lent len nexts
     Accepted)))))))

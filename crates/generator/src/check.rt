@@ -16,6 +16,7 @@ use action::words::MAX_WORDS;
 use action::words::ROW_LANES;
 use action::words::first_outside;
 use model::lengths::mismatch;
+use model::lengths::where_any;
 use model::tables::Model;
 use model::test::test_model;
 use refusal::Answer;
@@ -51,15 +52,16 @@ fn check_tables(
     if places < len {
         return mismatch(len, places);
     }
-    let rows = ROW_LANES * m.qubits;
+    let rows = where_any(len, ROW_LANES * m.qubits);
+    let row = where_any(len, ROW_LANES);
     if h_index < rows {
         return mismatch(rows, h_index);
     }
     if j_index < rows {
         return mismatch(rows, j_index);
     }
-    if mask < ROW_LANES {
-        return mismatch(ROW_LANES, mask);
+    if mask < row {
+        return mismatch(row, mask);
     }
     if heads < len {
         return mismatch(len, heads);

@@ -4,7 +4,7 @@
 // The matrix by rows of a lent model over a lent basis: the generator's entries with ascending columns in
 // every row, and where each row starts.
 ghost use mathlib.Core.Path.{_≡_};
-ghost use Prim.Native.Nat.{_≤_, _<_};
+ghost use Prim.Native.Nat.{_/_, _≤_, _<_};
 ghost use lib.ListN.{length, replicate};
 ghost use Rattle.word.specs.Flat.{words as wordsIn};
 ghost use Rattle.model.specs.Stored.{tables};
@@ -83,7 +83,7 @@ fn csr_tested(
     columns: &mut [u32],
     values: &mut [f64],
 ) -> Acted
-    requires { ⌜ ModelLent m (tables (now «h_words») (now «h_coeffs») (now jumps) (now rates) (now «t_words») (now «t_numbers»)) (now «h_index») (now «j_index») (now mask) × BasisLent (m .qubits) len (now basis) (now heads) (now nexts) × (len < length (now offsets)) ⌝ }
+    requires { ⌜ (0 < length (now basis) / 4 → ModelLent m (tables (now «h_words») (now «h_coeffs») (now jumps) (now rates) (now «t_words») (now «t_numbers»)) (now «h_index») (now «j_index») (now mask)) × BasisLent (m .qubits) len (now basis) (now heads) (now nexts) × (len < length (now offsets)) ⌝ }
     ensures { λ r. ⌜ record { out = record { answer = r; offsets = now (offsets .exit); columns = now (columns .exit); values = now (values .exit) }; work = (workOf (now («h_index» .exit)) (now («j_index» .exit)) (now (mask .exit)) (now (heads .exit)) (now (nexts .exit)) (now («work_words» .exit)) (now («work_sums» .exit)) (now («stage_rows» .exit)) (now («stage_columns» .exit)) (now («stage_values» .exit))) } ≡ csrTested (now (offsets .entry)) (now (columns .entry)) (now (values .entry)) (workOf (now («h_index» .entry)) (now («j_index» .entry)) (now (mask .entry)) (now (heads .entry)) (now (nexts .entry)) (now («work_words» .entry)) (now («work_sums» .entry)) (now («stage_rows» .entry)) (now («stage_columns» .entry)) (now («stage_values» .entry))) (distinct (wordsIn (now (basis .entry)))) (csrOver (now (offsets .entry)) (now (columns .entry)) (now (values .entry)) (workOf (now («h_index» .entry)) (now («j_index» .entry)) (now (mask .entry)) (now (heads .entry)) (now (nexts .entry)) (now («work_words» .entry)) (now («work_sums» .entry)) (now («stage_rows» .entry)) (now («stage_columns» .entry)) (now («stage_values» .entry))) len m (tables (now («h_words» .entry)) (now («h_coeffs» .entry)) (now (jumps .entry)) (now (rates .entry)) (now («t_words» .entry)) (now («t_numbers» .entry))) (wordsIn (now (basis .entry)))) ⌝ }
 {
     let first = lay_distinct(basis, heads, &mut nexts[..len]);

@@ -1,8 +1,10 @@
 // SPDX-FileCopyrightText: 2026 The PPVM Authors
 // SPDX-License-Identifier: Apache-2.0
 
-// The entries of all columns, staged, with the index of the model made before and cleared after.
+// The entries of all columns, staged, with the index of the model made before, where there is a column, and
+// cleared after.
 ghost use mathlib.Core.Path.{_≡_};
+ghost use Prim.Native.Nat.{_/_, _<_};
 ghost use lib.ListN.{length, take, replicate};
 ghost use Rattle.word.specs.Flat.{words as wordsIn};
 ghost use Rattle.number.specs.Floats.{float0};
@@ -41,10 +43,11 @@ pub fn gather(
     stage_values: &mut [f64],
     entry_room: usize,
 ) -> Acted
-    requires { ⌜ ModelLent m (tables (now «h_words») (now «h_coeffs») (now jumps) (now rates) (now «t_words») (now «t_numbers»)) (now «h_index») (now «j_index») (now mask) × BasisReady (m .qubits) (now basis) (now heads) (now nexts) × StageRoom «entry_room» (now «stage_rows») (now «stage_columns») (now «stage_values») ⌝ }
+    requires { ⌜ (0 < length (now basis) / 4 → ModelLent m (tables (now «h_words») (now «h_coeffs») (now jumps) (now rates) (now «t_words») (now «t_numbers»)) (now «h_index») (now «j_index») (now mask)) × BasisReady (m .qubits) (now basis) (now heads) (now nexts) × StageRoom «entry_room» (now «stage_rows») (now «stage_columns») (now «stage_values») ⌝ }
     ensures { λ r. ⌜ Stages (generatorRoom m (tables (now («h_words» .entry)) (now («h_coeffs» .entry)) (now (jumps .entry)) (now (rates .entry)) (now («t_words» .entry)) (now («t_numbers» .entry))) (wordsIn (now (basis .entry))) (sumPlaces (now («work_words» .entry)) (now («work_sums» .entry))) «entry_room») (generatorOf m (tables (now («h_words» .entry)) (now («h_coeffs» .entry)) (now (jumps .entry)) (now (rates .entry)) (now («t_words» .entry)) (now («t_numbers» .entry))) (wordsIn (now (basis .entry)))) (now («stage_rows» .exit)) (now («stage_columns» .exit)) (now («stage_values» .exit)) r × (now («h_index» .exit) ≡ replicate (length (now («h_index» .entry))) 0) × (now («j_index» .exit) ≡ replicate (length (now («j_index» .entry))) 0) × (now (mask .exit) ≡ replicate (length (now (mask .entry))) 0) × (now («work_words» .exit) ≡ replicate (length (now («work_words» .entry))) 0) × (now («work_sums» .exit) ≡ replicate (length (now («work_sums» .entry))) float0) ⌝ }
 {
-    index_model(h_index, j_index, m, h_words, jumps, rates, t_words);
+    let count = basis.len() / WORD_LANES;
+    index_model(h_index, j_index, m, h_words, jumps, rates, t_words, count);
     let sum_room = smaller(work_words.len() / WORD_LANES, work_sums.len() / 2);
     let staged = stage_all(
         m,

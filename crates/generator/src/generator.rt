@@ -4,7 +4,7 @@
 // The generator of a lent model over a lent basis, listed by column, then word: tests, the slots of the
 // basis, the columns staged and copied out; work tables are zero afterwards.
 ghost use mathlib.Core.Path.{_≡_};
-ghost use Prim.Native.Nat.{_≤_};
+ghost use Prim.Native.Nat.{_/_, _≤_, _<_};
 ghost use lib.ListN.{length};
 ghost use Rattle.word.specs.Flat.{words as wordsIn};
 ghost use Rattle.model.specs.Stored.{tables};
@@ -72,7 +72,7 @@ fn generator_tested(
     columns: &mut [u32],
     values: &mut [f64],
 ) -> Acted
-    requires { ⌜ ModelLent m (tables (now «h_words») (now «h_coeffs») (now jumps) (now rates) (now «t_words») (now «t_numbers»)) (now «h_index») (now «j_index») (now mask) × BasisLent (m .qubits) len (now basis) (now heads) (now nexts) ⌝ }
+    requires { ⌜ (0 < length (now basis) / 4 → ModelLent m (tables (now «h_words») (now «h_coeffs») (now jumps) (now rates) (now «t_words») (now «t_numbers»)) (now «h_index») (now «j_index») (now mask)) × BasisLent (m .qubits) len (now basis) (now heads) (now nexts) ⌝ }
     ensures { λ r. ⌜ record { out = record { answer = r; rows = now (rows .exit); columns = now (columns .exit); values = now (values .exit) }; work = (workOf (now («h_index» .exit)) (now («j_index» .exit)) (now (mask .exit)) (now (heads .exit)) (now (nexts .exit)) (now («work_words» .exit)) (now («work_sums» .exit)) (now («stage_rows» .exit)) (now («stage_columns» .exit)) (now («stage_values» .exit))) } ≡ tested (now (rows .entry)) (now (columns .entry)) (now (values .entry)) (workOf (now («h_index» .entry)) (now («j_index» .entry)) (now (mask .entry)) (now (heads .entry)) (now (nexts .entry)) (now («work_words» .entry)) (now («work_sums» .entry)) (now («stage_rows» .entry)) (now («stage_columns» .entry)) (now («stage_values» .entry))) (distinct (wordsIn (now (basis .entry)))) (listedOver (now (rows .entry)) (now (columns .entry)) (now (values .entry)) (workOf (now («h_index» .entry)) (now («j_index» .entry)) (now (mask .entry)) (now (heads .entry)) (now (nexts .entry)) (now («work_words» .entry)) (now («work_sums» .entry)) (now («stage_rows» .entry)) (now («stage_columns» .entry)) (now («stage_values» .entry))) m (tables (now («h_words» .entry)) (now («h_coeffs» .entry)) (now (jumps .entry)) (now (rates .entry)) (now («t_words» .entry)) (now («t_numbers» .entry))) (wordsIn (now (basis .entry)))) ⌝ }
 {
     let first = lay_distinct(basis, heads, &mut nexts[..len]);

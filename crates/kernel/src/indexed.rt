@@ -98,6 +98,7 @@ pub fn index_jumps(
     }
 }
 
+// The index of a model for the actions on so many words: none is made for no words, which read none.
 pub fn index_model(
     h_index: &mut [u64],
     j_index: &mut [u64],
@@ -106,10 +107,14 @@ pub fn index_model(
     jumps: &[u64],
     rates: &[f64],
     t_words: &[u64],
+    words: usize,
 )
-    requires { ⌜ (64 * m .qubits ≤ length (now «h_index»)) × (64 * m .qubits ≤ length (now «j_index»)) × (m .hamiltonian ≤ 4096) × (m .jumps ≤ 4096) × (4 * m .hamiltonian ≤ length (now «h_words»)) × (8 * m .jumps ≤ length (now jumps)) × (m .jumps ≤ length (now rates)) × (4 * m .terms ≤ length (now «t_words»)) × ((j : ℕ) → j < m .jumps → badJump (m .terms) (jumpAt (now jumps) (now rates) j) ≡ false) ⌝ }
-    ensures { λ _. ⌜ ((t : Tables) → (t .hWords ≡ now («h_words» .entry)) → (t .jumps ≡ now (jumps .entry)) → (t .rates ≡ now (rates .entry)) → (t .tWords ≡ now («t_words» .entry)) → ModelIndexed m t (now («h_index» .exit)) (now («j_index» .exit))) ⌝ }
+    requires { ⌜ (0 < words → (64 * m .qubits ≤ length (now «h_index»)) × (64 * m .qubits ≤ length (now «j_index»)) × (m .hamiltonian ≤ 4096) × (m .jumps ≤ 4096) × (4 * m .hamiltonian ≤ length (now «h_words»)) × (8 * m .jumps ≤ length (now jumps)) × (m .jumps ≤ length (now rates)) × (4 * m .terms ≤ length (now «t_words»)) × ((j : ℕ) → j < m .jumps → badJump (m .terms) (jumpAt (now jumps) (now rates) j) ≡ false)) ⌝ }
+    ensures { λ _. ⌜ (0 < words → (t : Tables) → (t .hWords ≡ now («h_words» .entry)) → (t .jumps ≡ now (jumps .entry)) → (t .rates ≡ now (rates .entry)) → (t .tWords ≡ now («t_words» .entry)) → ModelIndexed m t (now («h_index» .exit)) (now («j_index» .exit))) ⌝ }
 {
+    if words == 0 {
+        return;
+    }
     let n = m.qubits;
     let reals = m.hamiltonian;
     let count = m.jumps;

@@ -13,7 +13,7 @@ use Rattle.refusal.specs.declared.Refusal.the-variants.{CountAboveLimit, Length
 use Rattle.refusal.specs.declared.Answer.{Answer}
 use Rattle.refusal.specs.declared.Answer.the-variants.{Accepted, Refused}
 use Rattle.model.specs.Stored.{Tables}
-use Rattle.model.specs.Tested.{lent, testModel}
+use Rattle.model.specs.Tested.{lent, whereAny, testModel}
 use Rattle.model.specs.declared.tables.Model.{Model}
 use Rattle.action.specs.Counts.{maxWords, rowLanes, insideTo}
 use Rattle.basis.specs.Tests.{finiteTo}
@@ -22,48 +22,50 @@ use Rattle.leakage.specs.Leakages.{Basis, Work, limitOf, tauOf, limitTes
 use Rattle.leakage.specs.declared.limits.Limits.{Limits}
 
 -- ---- the tables whose lengths the input fixes
-module _ (n len count h j k o he ne fh fn : ℕ) where
+module _ (rows row len slots h j k o he ne fh fn : ℕ) where
   abbrev chain : Answer
-  chain = lent (rowLanes * n) h (lent (rowLanes * n) j (lent rowLanes k (lent len o (lent len he (lent len ne (lent count fh (lent count fn Accepted)))))))
+  chain = lent rows h (lent rows j (lent row k (lent len o (lent len he (lent len ne (lent slots fh (lent slots fn Accepted)))))))
 
-  pub short-1 : h < (rowLanes * n) → Refused (LengthMismatch (rowLanes * n) h) ≡ chain
-  short-1 l = rw (lt-ltb h (rowLanes * n) l)
+  pub short-1 : h < rows → Refused (LengthMismatch rows h) ≡ chain
+  short-1 l = rw (lt-ltb h rows l)
 
-  module _ (l1 : (rowLanes * n) ≤ h) where
-    pub short-2 : j < (rowLanes * n) → Refused (LengthMismatch (rowLanes * n) j) ≡ chain
-    short-2 l = rw (le-ltb h (rowLanes * n) l1, lt-ltb j (rowLanes * n) l)
+  module _ (l1 : rows ≤ h) where
+    pub short-2 : j < rows → Refused (LengthMismatch rows j) ≡ chain
+    short-2 l = rw (le-ltb h rows l1, lt-ltb j rows l)
 
-    module _ (l2 : (rowLanes * n) ≤ j) where
-      pub short-3 : k < rowLanes → Refused (LengthMismatch rowLanes k) ≡ chain
-      short-3 l = rw (le-ltb h (rowLanes * n) l1, le-ltb j (rowLanes * n) l2, lt-ltb k rowLanes l)
+    module _ (l2 : rows ≤ j) where
+      pub short-3 : k < row → Refused (LengthMismatch row k) ≡ chain
+      short-3 l = rw (le-ltb h rows l1, le-ltb j rows l2, lt-ltb k row l)
 
-      module _ (l3 : rowLanes ≤ k) where
+      module _ (l3 : row ≤ k) where
         pub short-4 : o < len → Refused (LengthMismatch len o) ≡ chain
-        short-4 l = rw (le-ltb h (rowLanes * n) l1, le-ltb j (rowLanes * n) l2, le-ltb k rowLanes l3, lt-ltb o len l)
+        short-4 l = rw (le-ltb h rows l1, le-ltb j rows l2, le-ltb k row l3, lt-ltb o len l)
 
         module _ (l4 : len ≤ o) where
           pub short-5 : he < len → Refused (LengthMismatch len he) ≡ chain
-          short-5 l = rw (le-ltb h (rowLanes * n) l1, le-ltb j (rowLanes * n) l2, le-ltb k rowLanes l3, le-ltb o len l4, lt-ltb he len l)
+          short-5 l = rw (le-ltb h rows l1, le-ltb j rows l2, le-ltb k row l3, le-ltb o len l4, lt-ltb he len l)
 
           module _ (l5 : len ≤ he) where
             pub short-6 : ne < len → Refused (LengthMismatch len ne) ≡ chain
-            short-6 l = rw (le-ltb h (rowLanes * n) l1, le-ltb j (rowLanes * n) l2, le-ltb k rowLanes l3, le-ltb o len l4, le-ltb he len l5, lt-ltb ne len l)
+            short-6 l = rw (le-ltb h rows l1, le-ltb j rows l2, le-ltb k row l3, le-ltb o len l4, le-ltb he len l5, lt-ltb ne len l)
 
             module _ (l6 : len ≤ ne) where
-              pub short-7 : fh < count → Refused (LengthMismatch count fh) ≡ chain
-              short-7 l = rw (le-ltb h (rowLanes * n) l1, le-ltb j (rowLanes * n) l2, le-ltb k rowLanes l3, le-ltb o len l4, le-ltb he len l5, le-ltb ne len l6, lt-ltb fh count l)
+              pub short-7 : fh < slots → Refused (LengthMismatch slots fh) ≡ chain
+              short-7 l = rw (le-ltb h rows l1, le-ltb j rows l2, le-ltb k row l3, le-ltb o len l4, le-ltb he len l5, le-ltb ne len l6, lt-ltb fh slots l)
 
-              module _ (l7 : count ≤ fh) where
-                pub short-8 : fn < count → Refused (LengthMismatch count fn) ≡ chain
-                short-8 l = rw (le-ltb h (rowLanes * n) l1, le-ltb j (rowLanes * n) l2, le-ltb k rowLanes l3, le-ltb o len l4, le-ltb he len l5, le-ltb ne len l6, le-ltb fh count l7, lt-ltb fn count l)
+              module _ (l7 : slots ≤ fh) where
+                pub short-8 : fn < slots → Refused (LengthMismatch slots fn) ≡ chain
+                short-8 l = rw (le-ltb h rows l1, le-ltb j rows l2, le-ltb k row l3, le-ltb o len l4, le-ltb he len l5, le-ltb ne len l6, le-ltb fh slots l7, lt-ltb fn slots l)
 
-                module _ (l8 : count ≤ fn) where
+                module _ (l8 : slots ≤ fn) where
                   pub long-enough : Accepted ≡ chain
-                  long-enough = rw (le-ltb h (rowLanes * n) l1, le-ltb j (rowLanes * n) l2, le-ltb k rowLanes l3, le-ltb o len l4, le-ltb he len l5, le-ltb ne len l6, le-ltb fh count l7, le-ltb fn count l8)
+                  long-enough = rw (le-ltb h rows l1, le-ltb j rows l2, le-ltb k row l3, le-ltb o len l4, le-ltb he len l5, le-ltb ne len l6, le-ltb fh slots l7, le-ltb fn slots l8)
 
-pub work-is : (n len count h j k o he ne fh fn : ℕ) (w : Work) → length (w .hIndex) ≡ h → length (w .jIndex) ≡ j → length (w .mask) ≡ k → length (w .order) ≡ o → length (w .heads) ≡ he → length (w .nexts) ≡ ne → length (w .fixedHeads) ≡ fh → length (w .fixedNexts) ≡ fn → chain n len count h j k o he ne fh fn ≡ workTests n len count w
+pub work-is : (n len count : ℕ) {rows row slots : ℕ} → rows ≡ whereAny len (rowLanes * n) → row ≡ whereAny len rowLanes → slots ≡ whereAny len count
+    → (h j k o he ne fh fn : ℕ) (w : Work) → length (w .hIndex) ≡ h → length (w .jIndex) ≡ j → length (w .mask) ≡ k → length (w .order) ≡ o → length (w .heads) ≡ he → length (w .nexts) ≡ ne → length (w .fixedHeads) ≡ fh → length (w .fixedNexts) ≡ fn
+    → chain rows row len slots h j k o he ne fh fn ≡ workTests n len count w
 unfolding workTests
-work-is n len count h j k o he ne fh fn w eh ej ek eo ehe ene efh efn = rw (eh, ej, ek, eo, ehe, ene, efh, efn)
+work-is n len count rows-are row-is slots-are h j k o he ne fh fn w eh ej ek eo ehe ene efh efn = rw (rows-are, row-is, slots-are, eh, ej, ek, eo, ehe, ene, efh, efn)
 
 -- ---- the whole
 module _ (m : Model) (t : Tables) (b : Basis) (l : Limits) (w : Work) where

@@ -14,8 +14,9 @@ use lib.ListN.{length}
 use Rattle.refusal.specs.declared.Refusal.the-variants.{WordOutsideRegister}
 use Rattle.refusal.specs.declared.Answer.the-variants.{Accepted}
 use Rattle.model.specs.Stored.{Tables}
-use Rattle.model.specs.Tested.{firstTo, testModel}
+use Rattle.model.specs.Tested.{whereAny, firstTo, testModel}
 use Rattle.model.specs.declared.tables.Model.{Model}
+use Rattle.model.proofs.NeedLaws.{need-some}
 use Rattle.model.proofs.Firsts.{first-before}
 use Rattle.model.proofs.BuildLaws.{passed, both, equal-passed, lent-passed, counted-passed}
 use Rattle.action.specs.Counts.{maxWords, rowLanes, outsideAt, insideTo}
@@ -28,14 +29,14 @@ pub record Passed (m : Model) (t : Tables) (b : Basis) (w : Work) : Type 0 where
   pub words-long : b .len ≤ length (b .lanes) / 4
   pub coeffs-long : b .len ≤ length (b .coeffs)
   pub protected-whole : length (b .protected) ≡ length (b .protected) / 4 * 4
-  pub h-long : 64 * m .qubits ≤ length (w .hIndex)
-  pub j-long : 64 * m .qubits ≤ length (w .jIndex)
-  pub mask-long : 64 ≤ length (w .mask)
+  pub h-long : 0 < b .len → 64 * m .qubits ≤ length (w .hIndex)
+  pub j-long : 0 < b .len → 64 * m .qubits ≤ length (w .jIndex)
+  pub mask-long : 0 < b .len → 64 ≤ length (w .mask)
   pub order-long : b .len ≤ length (w .order)
   pub heads-long : b .len ≤ length (w .heads)
   pub nexts-long : b .len ≤ length (w .nexts)
-  pub fixed-heads-long : length (b .protected) / 4 ≤ length (w .fixedHeads)
-  pub fixed-nexts-long : length (b .protected) / 4 ≤ length (w .fixedNexts)
+  pub fixed-heads-long : 0 < b .len → length (b .protected) / 4 ≤ length (w .fixedHeads)
+  pub fixed-nexts-long : whereAny (b .len) (length (b .protected) / 4) ≤ length (w .fixedNexts)
   pub inside : (k : ℕ) → k < b .len → outsideAt (b .lanes) (m .qubits) k ≡ false
 
 pub leak-passed : (m : Model) (t : Tables) (b : Basis) (l : Limits) (w : Work) → leakTests m t b l w ≡ Accepted → Passed m t b w
@@ -51,14 +52,15 @@ leak-passed m t b l w e =
     let e5 = lent-passed (b .len) (length (b .coeffs)) _ (e4 .1) in
     let e6 = equal-passed (count * 4) (length (b .protected)) _ (e5 .1) in
     let e7 = both _ _ (e6 .1) in
-    let w0 = lent-passed (rowLanes * m .qubits) (length (w .hIndex)) _ (e7 .0) in
-    let w1 = lent-passed (rowLanes * m .qubits) (length (w .jIndex)) _ (w0 .1) in
-    let w2 = lent-passed rowLanes (length (w .mask)) _ (w1 .1) in
+    let rows : ℕ = rowLanes * m .qubits in
+    let w0 = lent-passed (whereAny (b .len) rows) (length (w .hIndex)) _ (e7 .0) in
+    let w1 = lent-passed (whereAny (b .len) rows) (length (w .jIndex)) _ (w0 .1) in
+    let w2 = lent-passed (whereAny (b .len) rowLanes) (length (w .mask)) _ (w1 .1) in
     let w3 = lent-passed (b .len) (length (w .order)) _ (w2 .1) in
     let w4 = lent-passed (b .len) (length (w .heads)) _ (w3 .1) in
     let w5 = lent-passed (b .len) (length (w .nexts)) _ (w4 .1) in
-    let w6 = lent-passed count (length (w .fixedHeads)) _ (w5 .1) in
-    let w7 = lent-passed count (length (w .fixedNexts)) _ (w6 .1) in
+    let w6 = lent-passed (whereAny (b .len) count) (length (w .fixedHeads)) _ (w5 .1) in
+    let w7 = lent-passed (whereAny (b .len) count) (length (w .fixedNexts)) _ (w6 .1) in
     let e8 = both _ _ (e7 .1) in
     let f0 = passed (ltb first (b .len)) (WordOutsideRegister first) _ (e8 .0) in
     let h = ltb-false first (b .len) (f0 .0) in
@@ -67,13 +69,13 @@ leak-passed m t b l w e =
       words-long = e4 .0;
       coeffs-long = e5 .0;
       protected-whole = e6 .0;
-      h-long = w0 .0;
-      j-long = w1 .0;
-      mask-long = w2 .0;
+      h-long = λ a. need-some (b .len) rows (length (w .hIndex)) a (w0 .0);
+      j-long = λ a. need-some (b .len) rows (length (w .jIndex)) a (w1 .0);
+      mask-long = λ a. need-some (b .len) rowLanes (length (w .mask)) a (w2 .0);
       order-long = w3 .0;
       heads-long = w4 .0;
       nexts-long = w5 .0;
-      fixed-heads-long = w6 .0;
+      fixed-heads-long = λ a. need-some (b .len) count (length (w .fixedHeads)) a (w6 .0);
       fixed-nexts-long = w7 .0;
       inside = λ k a. first-before (b .len) (outsideAt (b .lanes) (m .qubits)) k (omega arith);
     }
@@ -83,8 +85,8 @@ module _ (m : Model) (t : Tables) (b : Basis) (w : Work) (p : Passed m t b w) wh
   pub basis-lent : BasisLent (b .len) (b .lanes) (b .coeffs) (w .order) (w .heads) (w .nexts)
   basis-lent = record { lanes-long = p .words-long; coeffs-long = p .coeffs-long; order-long = p .order-long; nexts-long = p .nexts-long; slots-enough = p .heads-long }
 
-  pub fixed-lent : FixedLent (b .protected) (w .fixedHeads) (w .fixedNexts)
-  fixed-lent = record { whole = p .protected-whole; nexts-long = p .fixed-nexts-long; slots-enough = p .fixed-heads-long }
+  pub fixed-lent : 0 < b .len → FixedLent (b .protected) (w .fixedHeads) (w .fixedNexts)
+  fixed-lent h = record { whole = p .protected-whole; nexts-long = need-some (b .len) (length (b .protected) / 4) (length (w .fixedNexts)) h (p .fixed-nexts-long); slots-enough = p .fixed-heads-long h }
 
 -- ---- the places of the tables of the passes
 module _ (workWords : List ℕ) (workSums : List Float) (logWords : List ℕ) (logValues : List Float) (placeOrder placeWork : List ℕ) where

@@ -3,25 +3,27 @@
 
 -- What is laid once before the passes: the lent tables then stand as the passes ask, over positions in falling magnitude; and what
 -- the passes left is the course of the call. Assumes nothing.
-use mathlib.Core.Path.{_≡_, sym, ap, _∙_}
+use mathlib.Core.Path.{_≡_, refl, sym, ap, _∙_}
 use mathlib.Core.List.{List, [], _++_}
-use Prim.Native.Nat.{ℕ, _-_, _*_, _/_, _≤_, _<_}
+use Prim.Native.Nat.{ℕ, zero, suc, _-_, _*_, _/_, _≤_, _<_}
 use native.Mathlib.Omega.{arith}
 use lib.Ieee.{Float}
-use lib.ListN.{length, getD, take, drop}
+use lib.ListN.{length, getD, take, drop, length-take}
 use lib.Seq.{length-take-le, getD-take, take-at}
 use Rattle.word.specs.Word.{identity}
 use Rattle.word.specs.Flat.{words}
 use Rattle.word.specs.Register.{reaches}
 use Rattle.word.specs.declared.word.Word.{Word}
-use Rattle.order.specs.Merge.{positions, AllBelow}
-use Rattle.order.specs.Magnitudes.{fallsBefore}
+use Rattle.order.specs.Merge.{positions, sortBy, AllBelow}
+use Rattle.order.specs.Magnitudes.{byMagnitude, fallsBefore}
 use Rattle.order.proofs.Members.{all-sort, positions-below}
 use Rattle.candidates.specs.Log.{Rows}
 use Rattle.candidates.proofs.LogLaws.{words-take}
 use Rattle.model.specs.Stored.{Tables}
 use Rattle.model.specs.Given.{Read}
+use Rattle.model.specs.Tested.{whereAny}
 use Rattle.model.specs.declared.tables.Model.{Model}
+use Rattle.model.proofs.NeedLaws.{need-is}
 use Rattle.action.specs.Counts.{outsideAt, AllInside}
 use Rattle.kernel.specs.Near.{ModelIndexed}
 use Rattle.passes.specs.Leaks.{passes, passCount, touchedAt, leaksAt, candidatesOf, ModelReady, BasisReady, Took}
@@ -37,6 +39,16 @@ laid-first n x y e = take-at x (drop n y) n e
 pub laid-long : (n : ℕ) (y x : List ℕ) → length x ≡ length (take n y) → n ≤ length y → length (take n (x ++ drop n y)) ≡ n
 laid-long n y x e h = ap length (laid-first n x y (e ∙ length-take-le n y h)) ∙ e ∙ length-take-le n y h
 
+-- an empty basis has no positions to put into an order
+ordered : (n : ℕ) (order : List ℕ) (coeffs : List Float) → (0 < n → take n order ≡ byMagnitude (take n coeffs)) → take n order ≡ byMagnitude (take n coeffs)
+unfolding positions sortBy
+ordered zero order coeffs e = refl
+ordered (suc n) order coeffs e = e (omega arith)
+
+-- where there is a position, there is a basis word
+pub some-word : (n : ℕ) (order : List ℕ) → 0 < length (take n order) → 0 < n
+some-word n order h = omega (arith, length-take n order)
+
 -- ---- what the passes ask for
 module _ (m : Model) (t : Tables) (b : Basis) (w : Work) (p : Passed m t b w) where
   abbrev lanes : List ℕ
@@ -45,8 +57,8 @@ module _ (m : Model) (t : Tables) (b : Basis) (w : Work) (p : Passed m t b w) wh
   abbrev coeffs : List Float
   coeffs = take (b .len) (b .coeffs)
 
-  pub model-ready : (hIndex jIndex : List ℕ) → ModelIndexed m t hIndex jIndex → length hIndex ≡ length (w .hIndex) → length jIndex ≡ length (w .jIndex) → ModelReady m t hIndex jIndex (w .mask)
-  model-ready hIndex jIndex i eh ej = record { tested = p .model; indexed = i; h-rows = omega (arith, p .h-long, eh); j-rows = omega (arith, p .j-long, ej); row = p .mask-long }
+  pub model-ready : 0 < b .len → (hIndex jIndex : List ℕ) → ModelIndexed m t hIndex jIndex → length hIndex ≡ length (w .hIndex) → length jIndex ≡ length (w .jIndex) → ModelReady m t hIndex jIndex (w .mask)
+  model-ready h hIndex jIndex i eh ej = record { tested = p .model; indexed = i; h-rows = omega (arith, p .h-long h, eh); j-rows = omega (arith, p .j-long h, ej); row = p .mask-long h }
 
   lanes-long : length lanes ≡ b .len * 4
   lanes-long = length-take-le (b .len * 4) (b .lanes) (omega (arith, p .words-long))
@@ -63,14 +75,16 @@ module _ (m : Model) (t : Tables) (b : Basis) (w : Work) (p : Passed m t b w) wh
       let l : k < b .len = omega (arith, lanes-long) in
       ap (λ (v : Word). reaches v (m .qubits)) (ap (λ (ws : List Word). getD ws k identity) words-are ∙ getD-take (b .len) (words (b .lanes)) k identity l) ∙ p .inside k l
 
-  module _ (order heads nexts fixedHeads fixedNexts : List ℕ) (laid : BasisLaid (b .len) (b .lanes) (b .coeffs) (b .protected) order heads nexts fixedHeads fixedNexts) where
-    pub basis-ready : BasisReady (m .qubits) lanes coeffs heads (take (b .len) nexts) (b .protected) fixedHeads (take (length (b .protected) / 4) fixedNexts)
-    basis-ready = record { basis-slots = laid .basis-slots; fixed-slots = laid .fixed-slots; each = omega (arith, lanes-long, coeffs-long); inside = all-inside }
+  module _ (order heads nexts fixedHeads fixedNexts : List ℕ) (laid : 0 < b .len → BasisLaid (b .len) (b .lanes) (b .coeffs) (b .protected) order heads nexts fixedHeads fixedNexts) where
+    pub basis-ready : 0 < b .len → {slots : ℕ} → slots ≡ whereAny (b .len) (length (b .protected) / 4) → BasisReady (m .qubits) lanes coeffs heads (take (b .len) nexts) (b .protected) fixedHeads (take slots fixedNexts)
+    basis-ready h e =
+        let f : length (b .protected) / 4 ≡ _ = sym (e ∙ need-is (b .len) (length (b .protected) / 4) h) in
+        record { basis-slots = laid h .basis-slots; fixed-slots = rw f at (laid h .fixed-slots); each = omega (arith, lanes-long, coeffs-long); inside = all-inside }
 
-    pub order-below : AllBelow (length coeffs) (take (b .len) order)
-    order-below =
+    pub order-below : 0 < b .len → AllBelow (length coeffs) (take (b .len) order)
+    order-below h =
         let n : ℕ = length coeffs in
-        rw (laid .order-is) (all-sort (λ x. x < n) (fallsBefore coeffs) (length (positions n)) (positions n) (positions-below n))
+        rw (laid h .order-is) (all-sort (λ x. x < n) (fallsBefore coeffs) (length (positions n)) (positions n) (positions-below n))
 
     -- the passes over such an order are the course of the call
     module _ (l : Limits) (order-long : length order ≡ length (w .order)) {room : ℕ} (er : room ≡ limitOf l - b .len) where
@@ -81,7 +95,7 @@ module _ (m : Model) (t : Tables) (b : Basis) (w : Work) (p : Passed m t b w) wh
       unfolding leakCourse candidatesOf
       course-is =
           let n : length (take (b .len) order) ≡ length coeffs = length-take-le (b .len) order (omega (arith, p .order-long, order-long)) ∙ sym coeffs-long in
-          rw (n, laid .order-is, er, words-are)
+          rw (n, ordered (b .len) order (b .coeffs) (λ h. laid h .order-is), er, words-are)
 
       pub gathered : (candWords : List ℕ) (candSums : List Float) (r : Taken) → Took (candidatePlaces w) (course (take (b .len) order)) candWords candSums r → Took (candidatePlaces w) (leakCourse m t b l w) candWords candSums r
       gathered candWords candSums r k = rw course-is k

@@ -20,7 +20,7 @@ use Rattle.slots.specs.Slots.{Slotted}
 use Rattle.candidates.specs.Log.{Rows, table}
 use Rattle.model.specs.Stored.{Tables}
 use Rattle.model.specs.Given.{Read, got, refused}
-use Rattle.model.specs.Tested.{counted, lent, testModel}
+use Rattle.model.specs.Tested.{counted, lent, whereAny, testModel}
 use Rattle.model.specs.Built.{andThen, equal}
 use Rattle.model.specs.Laid.{laid}
 use Rattle.model.specs.declared.tables.Model.{Model}
@@ -144,17 +144,18 @@ candidatePlaces w =
     rowPlaces (length (w .candWords)) (length (w .candSums)) (length (w .nextWords)) (length (w .nextSums)) (length (w .placeOrder)) (length (w .placeWork)) (length (w .placeKept))
 
 -- ---- the tests
--- 9 for the tables whose lengths the input fixes: rows of an index, places for each basis word, and for each protected word
+-- 9 for the tables whose lengths the input fixes: rows of an index, places for each basis word, and for each protected word; an empty
+-- basis asks for no place
 unfoldable pub workTests : ℕ → ℕ → ℕ → Work → Answer
 workTests n len count w =
-    lent (rowLanes * n) (length (w .hIndex))
-    (lent (rowLanes * n) (length (w .jIndex))
-    (lent rowLanes (length (w .mask))
+    lent (whereAny len (rowLanes * n)) (length (w .hIndex))
+    (lent (whereAny len (rowLanes * n)) (length (w .jIndex))
+    (lent (whereAny len rowLanes) (length (w .mask))
     (lent len (length (w .order))
     (lent len (length (w .heads))
     (lent len (length (w .nexts))
-    (lent count (length (w .fixedHeads))
-    (lent count (length (w .fixedNexts))
+    (lent (whereAny len count) (length (w .fixedHeads))
+    (lent (whereAny len count) (length (w .fixedNexts))
     Tests.Accepted)))))))
 
 -- 11, 7

@@ -12,6 +12,7 @@ use action::words::MAX_WORDS;
 use action::words::ROW_LANES;
 use basis::checks::check_entries;
 use model::lengths::mismatch;
+use model::lengths::where_any;
 use model::tables::Model;
 use model::test::test_model;
 use number::scalar::is_finite;
@@ -68,15 +69,17 @@ fn check_work(
     requires { ⌜ n ≤ 128 ⌝ }
     ensures { λ r. ⌜ ((w : Work) → (length (w .hIndex) ≡ «h_index») → (length (w .jIndex) ≡ «j_index») → (length (w .mask) ≡ mask) → (length (w .order) ≡ order) → (length (w .heads) ≡ heads) → (length (w .nexts) ≡ nexts) → (length (w .fixedHeads) ≡ «fixed_heads») → (length (w .fixedNexts) ≡ «fixed_nexts») → r ≡ workTests n len count w) ⌝ }
 {
-    let rows = ROW_LANES * n;
+    let rows = where_any(len, ROW_LANES * n);
+    let row = where_any(len, ROW_LANES);
+    let slots = where_any(len, count);
     if h_index < rows {
         return mismatch(rows, h_index);
     }
     if j_index < rows {
         return mismatch(rows, j_index);
     }
-    if mask < ROW_LANES {
-        return mismatch(ROW_LANES, mask);
+    if mask < row {
+        return mismatch(row, mask);
     }
     if order < len {
         return mismatch(len, order);
@@ -87,11 +90,11 @@ fn check_work(
     if nexts < len {
         return mismatch(len, nexts);
     }
-    if fixed_heads < count {
-        return mismatch(count, fixed_heads);
+    if fixed_heads < slots {
+        return mismatch(slots, fixed_heads);
     }
-    if fixed_nexts < count {
-        return mismatch(count, fixed_nexts);
+    if fixed_nexts < slots {
+        return mismatch(slots, fixed_nexts);
     }
     Answer::Accepted
 }

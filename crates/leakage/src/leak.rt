@@ -15,6 +15,7 @@ use crate::listing::list_candidates;
 use crate::run::run_and_clear;
 use action::act::Acted;
 use kernel::indexed::index_model;
+use model::lengths::where_any;
 use model::tables::Model;
 use refusal::Answer;
 use table::clear::clear_lanes;
@@ -83,8 +84,8 @@ pub fn leakage_with_prune(
         return Acted::Refused(refusal);
     }
     let room = word_room(limits, len);
-    let count = protected.len() / WORD_LANES;
-    index_model(h_index, j_index, m, h_words, jumps, rates, t_words);
+    let count = where_any(len, protected.len() / WORD_LANES);
+    index_model(h_index, j_index, m, h_words, jumps, rates, t_words, len);
     lay_basis(
         words,
         coeffs,

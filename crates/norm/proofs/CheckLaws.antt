@@ -17,9 +17,10 @@ use Rattle.refusal.specs.declared.Answer.{Answer}
 use Rattle.refusal.specs.declared.Answer.the-variants.{Accepted, Refused}
 use Rattle.number.specs.Floats.{isFinite}
 use Rattle.model.specs.Stored.{Tables}
-use Rattle.model.specs.Tested.{firstTo, testModel}
+use Rattle.model.specs.Tested.{whereAny, firstTo, testModel}
 use Rattle.model.specs.Built.{andThen}
 use Rattle.model.specs.declared.tables.Model.{Model}
+use Rattle.model.proofs.NeedLaws.{need-some}
 use Rattle.model.proofs.Firsts.{first-before}
 use Rattle.model.proofs.BuildLaws.{passed, both, lent-passed, counted-passed}
 use Rattle.action.specs.Counts.{maxWords, rowLanes, outsideAt, insideTo}
@@ -28,9 +29,6 @@ use Rattle.norm.specs.Norms.{normTests, finiteTests}
 module _ (m : Model) (t : Tables) (lanes : List ℕ) (len h j k r d : ℕ) where
   abbrev tests : Answer
   tests = normTests m t lanes len h j k r d
-
-  abbrev rows : ℕ
-  rows = rowLanes * m .qubits
 
   pub model-refused : (q : Refusal) → testModel m t ≡ Refused q → Refused q ≡ tests
   unfolding normTests
@@ -46,35 +44,35 @@ module _ (m : Model) (t : Tables) (lanes : List ℕ) (len h j k r d : ℕ) where
       unfolding normTests
       words-short l = rw (ok, le-ltb maxWords len few, lt-ltb (length lanes / 4) len l)
 
-      module _ (words-long : len ≤ length lanes / 4) where
+      module _ (words-long : len ≤ length lanes / 4) {rows row : ℕ} (rows-are : rows ≡ whereAny len (rowLanes * m .qubits)) (row-is : row ≡ whereAny len rowLanes) where
         pub h-index-short : h < rows → Refused (LengthMismatch rows h) ≡ tests
         unfolding normTests
-        h-index-short l = rw (ok, le-ltb maxWords len few, le-ltb (length lanes / 4) len words-long, lt-ltb h rows l)
+        h-index-short l = rw (ok, le-ltb maxWords len few, le-ltb (length lanes / 4) len words-long, ← rows-are, lt-ltb h rows l)
 
         module _ (h-long : rows ≤ h) where
           pub j-index-short : j < rows → Refused (LengthMismatch rows j) ≡ tests
           unfolding normTests
-          j-index-short l = rw (ok, le-ltb maxWords len few, le-ltb (length lanes / 4) len words-long, le-ltb h rows h-long, lt-ltb j rows l)
+          j-index-short l = rw (ok, le-ltb maxWords len few, le-ltb (length lanes / 4) len words-long, ← rows-are, le-ltb h rows h-long, lt-ltb j rows l)
 
           module _ (j-long : rows ≤ j) where
-            pub mask-short : k < rowLanes → Refused (LengthMismatch rowLanes k) ≡ tests
+            pub mask-short : k < row → Refused (LengthMismatch row k) ≡ tests
             unfolding normTests
-            mask-short l = rw (ok, le-ltb maxWords len few, le-ltb (length lanes / 4) len words-long, le-ltb h rows h-long, le-ltb j rows j-long, lt-ltb k rowLanes l)
+            mask-short l = rw (ok, le-ltb maxWords len few, le-ltb (length lanes / 4) len words-long, ← rows-are, le-ltb h rows h-long, le-ltb j rows j-long, ← row-is, lt-ltb k row l)
 
-            module _ (mask-long : rowLanes ≤ k) where
+            module _ (mask-long : row ≤ k) where
               pub raws-short : r < len → Refused (LengthMismatch len r) ≡ tests
               unfolding normTests
-              raws-short l = rw (ok, le-ltb maxWords len few, le-ltb (length lanes / 4) len words-long, le-ltb h rows h-long, le-ltb j rows j-long, le-ltb k rowLanes mask-long, lt-ltb r len l)
+              raws-short l = rw (ok, le-ltb maxWords len few, le-ltb (length lanes / 4) len words-long, ← rows-are, le-ltb h rows h-long, le-ltb j rows j-long, ← row-is, le-ltb k row mask-long, lt-ltb r len l)
 
               module _ (raws-long : len ≤ r) where
                 pub diags-short : d < len → Refused (LengthMismatch len d) ≡ tests
                 unfolding normTests
-                diags-short l = rw (ok, le-ltb maxWords len few, le-ltb (length lanes / 4) len words-long, le-ltb h rows h-long, le-ltb j rows j-long, le-ltb k rowLanes mask-long, le-ltb r len raws-long, lt-ltb d len l)
+                diags-short l = rw (ok, le-ltb maxWords len few, le-ltb (length lanes / 4) len words-long, ← rows-are, le-ltb h rows h-long, le-ltb j rows j-long, ← row-is, le-ltb k row mask-long, le-ltb r len raws-long, lt-ltb d len l)
 
                 module _ (diags-long : len ≤ d) (first : ℕ) (is : first ≡ firstTo len (outsideAt lanes (m .qubits))) where
                   reached : insideTo len lanes (m .qubits) Accepted ≡ tests
                   unfolding normTests
-                  reached = rw (ok, le-ltb maxWords len few, le-ltb (length lanes / 4) len words-long, le-ltb h rows h-long, le-ltb j rows j-long, le-ltb k rowLanes mask-long, le-ltb r len raws-long, le-ltb d len diags-long)
+                  reached = rw (ok, le-ltb maxWords len few, le-ltb (length lanes / 4) len words-long, ← rows-are, le-ltb h rows h-long, le-ltb j rows j-long, ← row-is, le-ltb k row mask-long, le-ltb r len raws-long, le-ltb d len diags-long)
 
                   pub word-outside : first < len → Refused (WordOutsideRegister first) ≡ tests
                   unfolding insideTo
@@ -111,9 +109,9 @@ pub record Passed (m : Model) (t : Tables) (lanes : List ℕ) (len h j k r d : �
   pub model : testModel m t ≡ Accepted
   pub few : len ≤ maxWords
   pub words-long : len ≤ length lanes / 4
-  pub h-long : rowLanes * m .qubits ≤ h
-  pub j-long : rowLanes * m .qubits ≤ j
-  pub mask-long : rowLanes ≤ k
+  pub h-long : 0 < len → rowLanes * m .qubits ≤ h
+  pub j-long : 0 < len → rowLanes * m .qubits ≤ j
+  pub mask-long : 0 < len → rowLanes ≤ k
   pub raws-long : len ≤ r
   pub diags-long : len ≤ d
   pub inside : (i : ℕ) → i < len → outsideAt lanes (m .qubits) i ≡ false
@@ -125,9 +123,10 @@ norm-passed m t lanes len h j k r d e =
     let e0 = both (testModel m t) _ e in
     let e1 = counted-passed maxWords len _ (e0 .1) in
     let e2 = lent-passed len (length lanes / 4) _ (e1 .1) in
-    let e3 = lent-passed (rowLanes * m .qubits) h _ (e2 .1) in
-    let e4 = lent-passed (rowLanes * m .qubits) j _ (e3 .1) in
-    let e5 = lent-passed rowLanes k _ (e4 .1) in
+    let rows : ℕ = rowLanes * m .qubits in
+    let e3 = lent-passed (whereAny len rows) h _ (e2 .1) in
+    let e4 = lent-passed (whereAny len rows) j _ (e3 .1) in
+    let e5 = lent-passed (whereAny len rowLanes) k _ (e4 .1) in
     let e6 = lent-passed len r _ (e5 .1) in
     let e7 = lent-passed len d _ (e6 .1) in
     let e8 = passed (ltb first len) (WordOutsideRegister first) _ (e7 .1) in
@@ -136,9 +135,9 @@ norm-passed m t lanes len h j k r d e =
       model = e0 .0;
       few = e1 .0;
       words-long = e2 .0;
-      h-long = e3 .0;
-      j-long = e4 .0;
-      mask-long = e5 .0;
+      h-long = λ a. need-some len rows h a (e3 .0);
+      j-long = λ a. need-some len rows j a (e4 .0);
+      mask-long = λ a. need-some len rowLanes k a (e5 .0);
       raws-long = e6 .0;
       diags-long = e7 .0;
       inside = λ i a. first-before len (outsideAt lanes (m .qubits)) i (omega arith);

@@ -74,14 +74,14 @@ module _ (m : Model) (t : Tables) where
   normOf ps = largest (map (λ p. columnNorm (muOf ps) (rawBy p) (diagBy p)) ps)
 
 -- ---- for the functions that work on lent tables
--- a tested model with its index, a mask, places for the words of one action, and for each of so many basis words a raw and a
--- diagonal
+-- a tested model, its index and a mask where there is a word to act on, places for the words of one action, and for each of so many
+-- basis words a raw and a diagonal
 pub record ColumnRoom (m : Model) (t : Tables) (hIndex jIndex mask workWords : List ℕ) (workSums : List Float) (room : ℕ) (lanes : List ℕ) (len : ℕ) (raws diags : List Float) : Type 0 where
   pub tested : testModel m t ≡ Accepted
-  pub indexed : ModelIndexed m t hIndex jIndex
-  pub h-rows : 64 * m .qubits ≤ length hIndex
-  pub j-rows : 64 * m .qubits ≤ length jIndex
-  pub row : 64 ≤ length mask
+  pub indexed : 0 < len → ModelIndexed m t hIndex jIndex
+  pub h-rows : 0 < len → 64 * m .qubits ≤ length hIndex
+  pub j-rows : 0 < len → 64 * m .qubits ≤ length jIndex
+  pub row : 0 < len → 64 ≤ length mask
   pub work-words : 4 * room ≤ length workWords
   pub work-sums : 2 * room ≤ length workSums
   pub few : len ≤ maxWords

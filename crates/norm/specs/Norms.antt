@@ -17,7 +17,7 @@ use Rattle.number.specs.Floats.{floats, float0, magnitude}
 use Rattle.expm.specs.Selects.{degreeBy, tableFor}
 use Rattle.expm.specs.declared.Degree.{Degree}
 use Rattle.model.specs.Stored.{Tables}
-use Rattle.model.specs.Tested.{counted, lent, testModel}
+use Rattle.model.specs.Tested.{counted, lent, whereAny, testModel}
 use Rattle.model.specs.Built.{andThen}
 use Rattle.model.specs.declared.tables.Model.{Model}
 use Rattle.action.specs.Acts.{sumPlaces}
@@ -55,15 +55,15 @@ zeroed w = record {
 }
 
 -- ---- the tests
--- the model, 8, 9, 11, over the first len words and tables of so many places
+-- the model, 8, 9, 11, over the first len words and tables of so many places; no words ask for no place
 unfoldable pub normTests : Model → Tables → List ℕ → ℕ → ℕ → ℕ → ℕ → ℕ → ℕ → Answer
 normTests m t lanes len hIndex jIndex mask raws diags =
     andThen (testModel m t)
     (counted maxWords len
     (lent len (length lanes / 4)
-    (lent (rowLanes * m .qubits) hIndex
-    (lent (rowLanes * m .qubits) jIndex
-    (lent rowLanes mask
+    (lent (whereAny len (rowLanes * m .qubits)) hIndex
+    (lent (whereAny len (rowLanes * m .qubits)) jIndex
+    (lent (whereAny len rowLanes) mask
     (lent len raws
     (lent len diags
     (insideTo len lanes (m .qubits)

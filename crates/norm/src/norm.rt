@@ -104,7 +104,7 @@ fn fill_and_clear(
     requires { ⌜ normTests m (tables (now «h_words») (now «h_coeffs») (now jumps) (now rates) (now «t_words») (now «t_numbers»)) (now words) len (length (now «h_index»)) (length (now «j_index»)) (length (now mask)) (length (now raws)) (length (now diags)) ≡ Accepted ⌝ }
     ensures { λ r. ⌜ Fills (sumPlaces (now («work_words» .entry)) (now («work_sums» .entry))) m (tables (now («h_words» .entry)) (now («h_coeffs» .entry)) (now (jumps .entry)) (now (rates .entry)) (now («t_words» .entry)) (now («t_numbers» .entry))) (take len (wordsIn (now (words .entry)))) len (now (raws .exit)) (now (diags .exit)) r × (now («h_index» .exit) ≡ replicate (length (now («h_index» .entry))) 0) × (now («j_index» .exit) ≡ replicate (length (now («j_index» .entry))) 0) × (now (mask .exit) ≡ replicate (length (now (mask .entry))) 0) × (now («work_words» .exit) ≡ replicate (length (now («work_words» .entry))) 0) × (now («work_sums» .exit) ≡ replicate (length (now («work_sums» .entry))) float0) ⌝ }
 {
-    index_model(h_index, j_index, m, h_words, jumps, rates, t_words);
+    index_model(h_index, j_index, m, h_words, jumps, rates, t_words, len);
     let room = smaller(work_words.len() / WORD_LANES, work_sums.len() / 2);
     let filled = fill_columns(
         m,

@@ -278,15 +278,21 @@ pub fn compute_action_terms(model: Model, lent: &Lent, p: Word, room: &mut Room)
     }
 }
 
+/// The places that a table needs for so many words: none where there is none that could use one.
+pub(super) fn where_any(words: usize, places: usize) -> usize {
+    if words == 0 { 0 } else { places }
+}
+
 /// All tests of counting but 13.
 fn counted(model: Model, lent: &Lent, words: &[u64], room: &CountRoom) -> Answer<Vec<Word>> {
     tested(model, lent)?;
     let count = words.len() / 4;
     at_most(MAX_WORDS, count)?;
     equal(4 * count, words.len())?;
-    lent_places(ROW_LANES * model.qubits, room.h_index.len())?;
-    lent_places(ROW_LANES * model.qubits, room.j_index.len())?;
-    lent_places(ROW_LANES, room.mask.len())?;
+    let rows = where_any(count, ROW_LANES * model.qubits);
+    lent_places(rows, room.h_index.len())?;
+    lent_places(rows, room.j_index.len())?;
+    lent_places(where_any(count, ROW_LANES), room.mask.len())?;
     let words: Vec<Word> = (0..count).map(|i| word_at(words, i)).collect();
     let outside = |p: &Word| !fits_register(*p, model.qubits);
     match words.iter().position(outside) {

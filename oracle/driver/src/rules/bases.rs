@@ -3,7 +3,7 @@
 
 //! Prune, cap and admission on a lent basis, entry by entry.
 
-use super::actions::{LIST_TABLE, MAX_WORDS};
+use super::actions::{LIST_TABLE, MAX_WORDS, where_any};
 use super::models::{Answer, at_most, equal, lay_word, lent_places, refuse, word_at};
 use super::{MAX_QUBITS, fits_register, refusal};
 use crate::port::bases::{Basis, BasisSizes, Kept};
@@ -12,7 +12,7 @@ use std::collections::BTreeSet;
 
 /// The lengths of work tables that are enough.
 pub fn basis_sizes(entries: usize, protected: usize, listed: usize) -> BasisSizes {
-    let most = entries.max(protected).max(listed);
+    let most = entries.max(where_any(entries, protected)).max(listed);
     BasisSizes {
         order: most,
         work: most,
@@ -78,8 +78,9 @@ fn keeping_tested(
     at_most(MAX_WORDS, limit.unwrap_or(0))?;
     in_use(len, basis)?;
     whole_words(protected)?;
-    lent_places(len.max(count), basis.order.len())?;
-    lent_places(len.max(count), basis.work.len())?;
+    let most = where_any(len, len.max(count));
+    lent_places(most, basis.order.len())?;
+    lent_places(most, basis.work.len())?;
     lent_places(len, basis.fixed.len())?;
     lent_places(len, basis.kept.len())?;
     let (entries, protected) = (words(&basis.words, len), words(protected, count));

@@ -3,7 +3,7 @@
 
 //! The generator of a lent model over a lent basis, column by column, and the same matrix by rows.
 
-use super::actions::{LIST_TABLE, MAX_WORDS, ROW_LANES, SUMS_TABLE, acts, sum_places};
+use super::actions::{LIST_TABLE, MAX_WORDS, ROW_LANES, SUMS_TABLE, acts, sum_places, where_any};
 use super::bases::{inside, words};
 use super::models::{Answer, at_most, lent_places, refuse, tested};
 use super::{MAX_QUBITS, leakages::MAX_PLACES};
@@ -24,13 +24,13 @@ pub fn generator_sizes(
     touched: usize,
     entries: usize,
 ) -> GeneratorSizes {
-    let rows = ROW_LANES * qubits.min(MAX_QUBITS);
+    let rows = where_any(words, ROW_LANES * qubits.min(MAX_QUBITS));
     let (words, touched) = (words.min(MAX_WORDS), touched.min(MAX_PLACES));
     let entries = entries.min(MAX_ENTRIES);
     GeneratorSizes {
         h_index: rows,
         j_index: rows,
-        mask: ROW_LANES,
+        mask: where_any(words, ROW_LANES),
         heads: 2 * words,
         nexts: words,
         work_words: 4 * touched,
@@ -133,9 +133,10 @@ fn generator_tested(
     tested(model, lent)?;
     at_most(MAX_WORDS, len)?;
     lent_places(len, lanes.len() / 4)?;
-    lent_places(ROW_LANES * model.qubits, room.h_index.len())?;
-    lent_places(ROW_LANES * model.qubits, room.j_index.len())?;
-    lent_places(ROW_LANES, room.mask.len())?;
+    let rows = where_any(len, ROW_LANES * model.qubits);
+    lent_places(rows, room.h_index.len())?;
+    lent_places(rows, room.j_index.len())?;
+    lent_places(where_any(len, ROW_LANES), room.mask.len())?;
     lent_places(len, room.heads.len())?;
     lent_places(len, room.nexts.len())?;
     if by_rows {

@@ -3,7 +3,7 @@
 
 //! Leakage out of a lent basis, position by position.
 
-use super::actions::{LIST_TABLE, MAX_WORDS, ROW_LANES, SUMS_TABLE, acts};
+use super::actions::{LIST_TABLE, MAX_WORDS, ROW_LANES, SUMS_TABLE, acts, where_any};
 use super::bases::{finite, inside, largest, whole_words, words};
 use super::models::{Answer, at_most, lay_word, lent_places, refuse, tested};
 use super::{MAX_QUBITS, refusal};
@@ -30,14 +30,15 @@ pub fn leakage_sizes(
     touched: usize,
     candidates: usize,
 ) -> LeakageSizes {
-    let rows = ROW_LANES * qubits.min(MAX_QUBITS);
-    let (entries, protected) = (entries.min(MAX_WORDS), protected.min(MAX_WORDS));
+    let rows = where_any(entries, ROW_LANES * qubits.min(MAX_QUBITS));
+    let protected = where_any(entries, protected.min(MAX_WORDS));
+    let entries = entries.min(MAX_WORDS);
     let (touched, candidates) = (touched.min(MAX_PLACES), candidates.min(MAX_PLACES));
     let both = touched.max(candidates);
     LeakageSizes {
         h_index: rows,
         j_index: rows,
-        mask: ROW_LANES,
+        mask: where_any(entries, ROW_LANES),
         work_words: 4 * touched,
         work_sums: 2 * touched,
         order: entries,
@@ -98,14 +99,15 @@ fn leakage_tested(
     lent_places(len, given.words.len() / 4)?;
     lent_places(len, given.coeffs.len())?;
     whole_words(protected)?;
-    lent_places(ROW_LANES * model.qubits, room.h_index.len())?;
-    lent_places(ROW_LANES * model.qubits, room.j_index.len())?;
-    lent_places(ROW_LANES, room.mask.len())?;
+    let rows = where_any(len, ROW_LANES * model.qubits);
+    lent_places(rows, room.h_index.len())?;
+    lent_places(rows, room.j_index.len())?;
+    lent_places(where_any(len, ROW_LANES), room.mask.len())?;
     lent_places(len, room.order.len())?;
     lent_places(len, room.heads.len())?;
     lent_places(len, room.nexts.len())?;
-    lent_places(count, room.fixed_heads.len())?;
-    lent_places(count, room.fixed_nexts.len())?;
+    lent_places(where_any(len, count), room.fixed_heads.len())?;
+    lent_places(where_any(len, count), room.fixed_nexts.len())?;
     let (basis, protected) = (words(&given.words, len), words(protected, count));
     inside(&basis, model.qubits)?;
     inside(&protected, model.qubits)?;

@@ -3,7 +3,7 @@
 
 //! The norm of the generator over a lent basis, and the Taylor degree for a norm.
 
-use super::actions::{MAX_WORDS, ROW_LANES, SUMS_TABLE, sum_places};
+use super::actions::{MAX_WORDS, ROW_LANES, SUMS_TABLE, sum_places, where_any};
 use super::bases::{finite, inside, words};
 use super::generators::Acts;
 use super::models::{Answer, at_most, lent_places, refuse, tested};
@@ -108,9 +108,10 @@ fn norm_tested(
     tested(model, lent)?;
     at_most(MAX_WORDS, len)?;
     lent_places(len, lanes.len() / 4)?;
-    lent_places(ROW_LANES * model.qubits, room.h_index.len())?;
-    lent_places(ROW_LANES * model.qubits, room.j_index.len())?;
-    lent_places(ROW_LANES, room.mask.len())?;
+    let rows = where_any(len, ROW_LANES * model.qubits);
+    lent_places(rows, room.h_index.len())?;
+    lent_places(rows, room.j_index.len())?;
+    lent_places(where_any(len, ROW_LANES), room.mask.len())?;
     lent_places(len, room.raws.len())?;
     lent_places(len, room.diags.len())?;
     let basis = words(lanes, len);

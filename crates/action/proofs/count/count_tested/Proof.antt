@@ -22,7 +22,7 @@ index-model-requires c κs =
     let t : Tables = tables (a .h-words .now) (a .h-coeffs .now) (a .jumps .now) (a .rates .now) (a .t-words .now) (a .t-numbers .now) in
     let h = words-passed (a .m) t (a .list .now) (length (a .h-index .now)) (length (a .j-index .now)) (length (a .mask .now)) (s .pre) in
     let k = tested-stands (a .m) t (h .model) in
-    (h .h-long, h .j-long, k .few-reals, k .few-jumps, k .h-words-room, k .jumps-room, k .rates-room, k .t-words-room, k .fits)
+    λ w. (h .h-long w, h .j-long w, k .few-reals, k .few-jumps, k .h-words-room, k .jumps-room, k .rates-room, k .t-words-room, k .fits)
 
 most-places-requires : tie.Need-most-places-requires
 most-places-requires c κs =
@@ -32,7 +32,7 @@ most-places-requires c κs =
     let h = words-passed (a .m) t (a .list .now) (length (a .h-index .now)) (length (a .j-index .now)) (length (a .mask .now)) (s .pre) in
     let q = c .before .before .before .before .before .before .before .before .before .before .index-model in
     let e = c .before .before .before .before .before .smaller .ensures in
-    (h .model, q .ensures t refl refl refl refl, omega (arith, h .h-long, q .kept .0), omega (arith, h .j-long, q .kept .1 .0), h .mask-long, omega (arith, e), omega (arith, e), h .inside)
+    (h .model, (λ w. (q .ensures w t refl refl refl refl, omega (arith, h .h-long w, q .kept .0), omega (arith, h .j-long w, q .kept .1 .0), h .mask-long w)), omega (arith, e), omega (arith, e), h .inside)
 
 returns : tie.Need-returns
 returns c =

@@ -39,14 +39,15 @@ put-rules-near-requires c κs =
     let s = c .before .before .before .before .before .before .before .before .before .before .before .before .before .before .before .before .before .before in
     let a = s .args in
     let l = c .before .before .before .before .before .loop in
-    let h = s .pre in (
-      empty-room (a .room) (l .work-words) (l .work-sums) (omega (arith, h .5, l .inv .2)) (omega (arith, h .6, l .inv .3)),
+    let h = s .pre in
+    let i = h .1 (omega (arith, c .before .before .before .before .loop-test .taken)) in (
+      empty-room (a .room) (l .work-words) (l .work-sums) (omega (arith, h .2, l .inv .2)) (omega (arith, h .3, l .inv .3)),
       h .0,
-      h .1,
-      h .2,
-      h .3,
-      omega (arith, h .4, l .inv .1),
-      word-inside (a .list .now) (a .m .qubits) (h .7) (l .k) (c .before .before .before .before .loop-test .taken) (c .before .before .before .word-at .ensures),
+      i .0,
+      i .1,
+      i .2,
+      omega (arith, i .3, l .inv .1),
+      word-inside (a .list .now) (a .m .qubits) (h .4) (l .k) (c .before .before .before .before .loop-test .taken) (c .before .before .before .word-at .ensures),
     )
 
 returns : tie.Need-returns Inv-loop μ-loop
@@ -69,7 +70,7 @@ count-listed-requires c κs =
     let n = words-count (a .list .now) in
     let q = c .before .before .before .before .before .before .before .before .before .before .before .put-rules-near in
     let h = s .pre in
-    sums-inside (a .m) t (c .before .before .before .before .before .before .before .before .before .before .before .before .before .before .before .word-at .result) (a .room) (l .work-words) (l .work-sums) _ _ _ (q .ensures) _ (c .before .before .before .added .given .1) (q .kept .0) (q .kept .1 .0) (omega (arith, h .5, l .inv .2)) (omega (arith, h .6, l .inv .3))
+    sums-inside (a .m) t (c .before .before .before .before .before .before .before .before .before .before .before .before .before .before .before .word-at .result) (a .room) (l .work-words) (l .work-sums) _ _ _ (q .ensures) _ (c .before .before .before .added .given .1) (q .kept .0) (q .kept .1 .0) (omega (arith, h .2, l .inv .2)) (omega (arith, h .3, l .inv .3))
 
 add-k : tie.Need-add-k Inv-loop μ-loop
 add-k c =

@@ -30,8 +30,8 @@ returns-3 c =
     let t : Tables = tables (a .h-words .now) (a .h-coeffs .now) (a .jumps .now) (a .rates .now) (a .t-words .now) (a .t-numbers .now) in
     c .mismatch .ensures ∙ lanes-over (a .m) t (a .words .now) (a .h-index) (a .j-index) (a .mask) (sym (c .before .before .before .before .before .test-model .ensures) ∙ c .before .before .before .enum-told .given .1) (c .before .before .if1 .left) (ne-eqb _ _ (c .before .if2 .taken))
 
-mul-rows : tie.Need-mul-rows
-mul-rows c =
+mul-where-any : tie.Need-mul-where-any
+mul-where-any c =
     let a = c .before .before .before .before .before .before .before .before .before .before .before .before .before .args in
     let t : Tables = tables (a .h-words .now) (a .h-coeffs .now) (a .jumps .now) (a .rates .now) (a .t-words .now) (a .t-numbers .now) in
     let s = tested-stands (a .m) t (sym (c .before .before .before .before .before .test-model .ensures) ∙ c .before .before .before .enum-told .given .1) in
@@ -39,33 +39,33 @@ mul-rows c =
 
 returns-4 : tie.Need-returns-4
 returns-4 c =
-    let a = c .before .before .before .before .before .before .before .before .before .before .before .before .before .before .before .args in
+    let a = c .before .before .before .before .before .before .before .before .before .before .before .before .before .before .before .before .before .args in
     let t : Tables = tables (a .h-words .now) (a .h-coeffs .now) (a .jumps .now) (a .rates .now) (a .t-words .now) (a .t-numbers .now) in
-    c .mismatch2 .ensures ∙ h-index-short (a .m) t (a .words .now) (a .h-index) (a .j-index) (a .mask) (sym (c .before .before .before .before .before .before .before .test-model .ensures) ∙ c .before .before .before .before .before .enum-told .given .1) (c .before .before .before .before .if1 .left) (eq-eqb _ _ (c .before .before .before .if2 .left)) (c .before .if3 .taken)
+    c .mismatch2 .ensures ∙ h-index-short (a .m) t (a .words .now) (a .h-index) (a .j-index) (a .mask) (sym (c .before .before .before .before .before .before .before .before .before .test-model .ensures) ∙ c .before .before .before .before .before .before .before .enum-told .given .1) (c .before .before .before .before .before .before .if1 .left) (eq-eqb _ _ (c .before .before .before .before .before .if2 .left)) (c .before .before .before .where-any .ensures) (c .before .before .where-any2 .ensures) (c .before .if3 .taken)
 
 returns-5 : tie.Need-returns-5
 returns-5 c =
-    let a = c .before .before .before .before .before .before .before .before .before .before .before .before .before .before .before .before .args in
+    let a = c .before .before .before .before .before .before .before .before .before .before .before .before .before .before .before .before .before .before .args in
     let t : Tables = tables (a .h-words .now) (a .h-coeffs .now) (a .jumps .now) (a .rates .now) (a .t-words .now) (a .t-numbers .now) in
-    c .mismatch3 .ensures ∙ j-index-short (a .m) t (a .words .now) (a .h-index) (a .j-index) (a .mask) (sym (c .before .before .before .before .before .before .before .before .test-model .ensures) ∙ c .before .before .before .before .before .before .enum-told .given .1) (c .before .before .before .before .before .if1 .left) (eq-eqb _ _ (c .before .before .before .before .if2 .left)) (c .before .before .if3 .left) (c .before .if4 .taken)
+    c .mismatch3 .ensures ∙ j-index-short (a .m) t (a .words .now) (a .h-index) (a .j-index) (a .mask) (sym (c .before .before .before .before .before .before .before .before .before .before .test-model .ensures) ∙ c .before .before .before .before .before .before .before .before .enum-told .given .1) (c .before .before .before .before .before .before .before .if1 .left) (eq-eqb _ _ (c .before .before .before .before .before .before .if2 .left)) (c .before .before .before .before .where-any .ensures) (c .before .before .before .where-any2 .ensures) (c .before .before .if3 .left) (c .before .if4 .taken)
 
 returns-6 : tie.Need-returns-6
 returns-6 c =
-    let a = c .before .before .before .before .before .before .before .before .before .before .before .before .before .before .before .before .before .args in
+    let a = c .before .before .before .before .before .before .before .before .before .before .before .before .before .before .before .before .before .before .before .args in
     let t : Tables = tables (a .h-words .now) (a .h-coeffs .now) (a .jumps .now) (a .rates .now) (a .t-words .now) (a .t-numbers .now) in
-    c .mismatch4 .ensures ∙ mask-short (a .m) t (a .words .now) (a .h-index) (a .j-index) (a .mask) (sym (c .before .before .before .before .before .before .before .before .before .test-model .ensures) ∙ c .before .before .before .before .before .before .before .enum-told .given .1) (c .before .before .before .before .before .before .if1 .left) (eq-eqb _ _ (c .before .before .before .before .before .if2 .left)) (c .before .before .before .if3 .left) (c .before .before .if4 .left) (c .before .if5 .taken)
+    c .mismatch4 .ensures ∙ mask-short (a .m) t (a .words .now) (a .h-index) (a .j-index) (a .mask) (sym (c .before .before .before .before .before .before .before .before .before .before .before .test-model .ensures) ∙ c .before .before .before .before .before .before .before .before .before .enum-told .given .1) (c .before .before .before .before .before .before .before .before .if1 .left) (eq-eqb _ _ (c .before .before .before .before .before .before .before .if2 .left)) (c .before .before .before .before .before .where-any .ensures) (c .before .before .before .before .where-any2 .ensures) (c .before .before .before .if3 .left) (c .before .before .if4 .left) (c .before .if5 .taken)
 
 returns-7 : tie.Need-returns-7
 returns-7 c =
-    let a = c .before .before .before .before .before .before .before .before .before .before .before .before .before .before .before .before .before .before .args in
+    let a = c .before .before .before .before .before .before .before .before .before .before .before .before .before .before .before .before .before .before .before .before .args in
     let t : Tables = tables (a .h-words .now) (a .h-coeffs .now) (a .jumps .now) (a .rates .now) (a .t-words .now) (a .t-numbers .now) in
-    word-outside (a .m) t (a .words .now) (a .h-index) (a .j-index) (a .mask) (sym (c .before .before .before .before .before .before .before .before .before .before .test-model .ensures) ∙ c .before .before .before .before .before .before .before .before .enum-told .given .1) (c .before .before .before .before .before .before .before .if1 .left) (eq-eqb _ _ (c .before .before .before .before .before .before .if2 .left)) (c .before .before .before .before .if3 .left) (c .before .before .before .if4 .left) (c .before .before .if5 .left) _ (c .before .first-outside .ensures) (c .if6 .taken)
+    word-outside (a .m) t (a .words .now) (a .h-index) (a .j-index) (a .mask) (sym (c .before .before .before .before .before .before .before .before .before .before .before .before .test-model .ensures) ∙ c .before .before .before .before .before .before .before .before .before .before .enum-told .given .1) (c .before .before .before .before .before .before .before .before .before .if1 .left) (eq-eqb _ _ (c .before .before .before .before .before .before .before .before .if2 .left)) (c .before .before .before .before .before .before .where-any .ensures) (c .before .before .before .before .before .where-any2 .ensures) (c .before .before .before .before .if3 .left) (c .before .before .before .if4 .left) (c .before .before .if5 .left) _ (c .before .first-outside .ensures) (c .if6 .taken)
 
 returns-8 : tie.Need-returns-8
 returns-8 c =
-    let a = c .before .before .before .before .before .before .before .before .before .before .before .before .before .before .before .before .before .before .args in
+    let a = c .before .before .before .before .before .before .before .before .before .before .before .before .before .before .before .before .before .before .before .before .args in
     let t : Tables = tables (a .h-words .now) (a .h-coeffs .now) (a .jumps .now) (a .rates .now) (a .t-words .now) (a .t-numbers .now) in
-    words-accepted (a .m) t (a .words .now) (a .h-index) (a .j-index) (a .mask) (sym (c .before .before .before .before .before .before .before .before .before .before .test-model .ensures) ∙ c .before .before .before .before .before .before .before .before .enum-told .given .1) (c .before .before .before .before .before .before .before .if1 .left) (eq-eqb _ _ (c .before .before .before .before .before .before .if2 .left)) (c .before .before .before .before .if3 .left) (c .before .before .before .if4 .left) (c .before .before .if5 .left) _ (c .before .first-outside .ensures) (c .if6 .left)
+    words-accepted (a .m) t (a .words .now) (a .h-index) (a .j-index) (a .mask) (sym (c .before .before .before .before .before .before .before .before .before .before .before .before .test-model .ensures) ∙ c .before .before .before .before .before .before .before .before .before .before .enum-told .given .1) (c .before .before .before .before .before .before .before .before .before .if1 .left) (eq-eqb _ _ (c .before .before .before .before .before .before .before .before .if2 .left)) (c .before .before .before .before .before .before .where-any .ensures) (c .before .before .before .before .before .where-any2 .ensures) (c .before .before .before .before .if3 .left) (c .before .before .before .if4 .left) (c .before .before .if5 .left) _ (c .before .first-outside .ensures) (c .if6 .left)
 
 pub check-words-spec : {M : Type 1} → statement M
 check-words-spec =
@@ -80,7 +80,9 @@ check-words-spec =
     (λ c. search needs)
     (λ c κs. search needs)
     returns-3
-    mul-rows
+    mul-where-any
+    (λ c κs. search needs)
+    (λ c κs. search needs)
     (λ c κs. search needs)
     returns-4
     (λ c κs. search needs)

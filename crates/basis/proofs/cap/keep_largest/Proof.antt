@@ -4,7 +4,7 @@
 -- `cap::keep_largest` meets its contract. Assumes nothing.
 use mathlib.Core.Path.{_≡_, sym, ap, _∙_}
 use mathlib.Core.List.{List, _++_}
-use Prim.Native.Nat.{ℕ}
+use Prim.Native.Nat.{ℕ, _<_}
 use native.Mathlib.Omega.{arith}
 use borrow.Author.Tests.{le-leb, lt-leb}
 use lib.ListN.{length, take, drop}
@@ -35,7 +35,8 @@ flag-largest-requires c κs =
     let s = c .before .before .before .before .before .before .before .before .before .before .before .before .before .before in
     let a = s .args in
     let h = s .pre in
-    (h .0, h .1, h .2, h .3, h .4, h .5, length-take-le (a .len) (a .fixed .now) (h .6), length-take-le (a .len) (a .kept .now) (h .7), h .8)
+    let w : 0 < a .len = omega arith in
+    (h .0, h .1, h .2, h .3 w, h .4 w, h .5, length-take-le (a .len) (a .fixed .now) (h .6), length-take-le (a .len) (a .kept .now) (h .7), h .8)
 
 slice-aggregate-retain-in-place : tie.Need-slice-aggregate-retain-in-place
 slice-aggregate-retain-in-place c =

@@ -39,13 +39,14 @@ word-at-requires c κs = omega (arith, c .loop-test .taken)
 put-rules-near-requires : tie.Need-put-rules-near-requires Inv-loop μ-loop
 put-rules-near-requires c κs =
     let l = c .before .before .before .before .before .loop in
-    let h = c .before .before .before .before .before .before .before .before .before .before .before .before .before .before .before .before .before .before .before .before .before .before .before .pre in (
+    let h = c .before .before .before .before .before .before .before .before .before .before .before .before .before .before .before .before .before .before .before .before .before .before .before .pre in
+    let r = h .0 (omega (arith, c .before .before .before .before .loop-test .taken)) in (
       empty-room (c .before .before .before .before .before .before .before .before .before .before .before .before .before .before .before .before .before .before .before .before .before .before .before .args .sum-room) (l .work-words) (l .work-sums) (omega (arith, h .2 .words-long, l .inv .2)) (omega (arith, h .2 .sums-long, l .inv .3)),
-      h .0 .tested,
-      h .0 .indexed,
-      h .0 .h-rows,
-      h .0 .j-rows,
-      omega (arith, h .0 .row, l .inv .1),
+      r .tested,
+      r .indexed,
+      r .h-rows,
+      r .j-rows,
+      omega (arith, r .row, l .inv .1),
       word-inside (c .before .before .before .before .before .before .before .before .before .before .before .before .before .before .before .before .before .before .before .before .before .before .before .args .basis .now) (c .before .before .before .before .before .before .before .before .before .before .before .before .before .before .before .before .before .before .before .before .before .before .before .args .m .qubits) (h .1 .inside) (l .c) (c .before .before .before .before .loop-test .taken) (c .before .before .before .word-at .ensures),
     )
 

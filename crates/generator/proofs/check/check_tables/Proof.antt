@@ -23,8 +23,8 @@ returns-2 c =
     let t : Tables = tables (a .h-words .now) (a .h-coeffs .now) (a .jumps .now) (a .rates .now) (a .t-words .now) (a .t-numbers .now) in
     words-many (a .m) t (a .words .now) (a .len) (a .h-index) (a .j-index) (a .mask) (a .heads) (a .nexts) (sym (c .before .before .before .test-model .ensures) ∙ c .before .enum-told .given .1) (c .if1 .taken)
 
-mul-rows : tie.Need-mul-rows
-mul-rows c =
+mul-where-any : tie.Need-mul-where-any
+mul-where-any c =
     let a = c .before .before .before .before .before .before .before .before .before .before .before .before .before .args in
     let t : Tables = tables (a .h-words .now) (a .h-coeffs .now) (a .jumps .now) (a .rates .now) (a .t-words .now) (a .t-numbers .now) in
     let s = tested-stands (a .m) t (sym (c .before .before .before .before .before .test-model .ensures) ∙ c .before .before .before .enum-told .given .1) in
@@ -38,39 +38,39 @@ returns-3 c =
 
 returns-4 : tie.Need-returns-4
 returns-4 c =
-    let a = c .before .before .before .before .before .before .before .before .before .before .before .before .before .before .before .args in
+    let a = c .before .before .before .before .before .before .before .before .before .before .before .before .before .before .before .before .before .args in
     let t : Tables = tables (a .h-words .now) (a .h-coeffs .now) (a .jumps .now) (a .rates .now) (a .t-words .now) (a .t-numbers .now) in
-    c .mismatch2 .ensures ∙ h-short (a .m) t (a .words .now) (a .len) (a .h-index) (a .j-index) (a .mask) (a .heads) (a .nexts) (sym (c .before .before .before .before .before .before .before .test-model .ensures) ∙ c .before .before .before .before .before .enum-told .given .1) (c .before .before .before .before .if1 .left) (c .before .before .before .if2 .left) (c .before .if3 .taken)
+    c .mismatch2 .ensures ∙ h-short (a .m) t (a .words .now) (a .len) (a .h-index) (a .j-index) (a .mask) (a .heads) (a .nexts) (sym (c .before .before .before .before .before .before .before .before .before .test-model .ensures) ∙ c .before .before .before .before .before .before .before .enum-told .given .1) (c .before .before .before .before .before .before .if1 .left) (c .before .before .before .before .before .if2 .left) (c .before .before .before .where-any .ensures) (c .before .before .where-any2 .ensures) (c .before .if3 .taken)
 
 returns-5 : tie.Need-returns-5
 returns-5 c =
-    let a = c .before .before .before .before .before .before .before .before .before .before .before .before .before .before .before .before .args in
+    let a = c .before .before .before .before .before .before .before .before .before .before .before .before .before .before .before .before .before .before .args in
     let t : Tables = tables (a .h-words .now) (a .h-coeffs .now) (a .jumps .now) (a .rates .now) (a .t-words .now) (a .t-numbers .now) in
-    c .mismatch3 .ensures ∙ j-short (a .m) t (a .words .now) (a .len) (a .h-index) (a .j-index) (a .mask) (a .heads) (a .nexts) (sym (c .before .before .before .before .before .before .before .before .test-model .ensures) ∙ c .before .before .before .before .before .before .enum-told .given .1) (c .before .before .before .before .before .if1 .left) (c .before .before .before .before .if2 .left) (c .before .before .if3 .left) (c .before .if4 .taken)
+    c .mismatch3 .ensures ∙ j-short (a .m) t (a .words .now) (a .len) (a .h-index) (a .j-index) (a .mask) (a .heads) (a .nexts) (sym (c .before .before .before .before .before .before .before .before .before .before .test-model .ensures) ∙ c .before .before .before .before .before .before .before .before .enum-told .given .1) (c .before .before .before .before .before .before .before .if1 .left) (c .before .before .before .before .before .before .if2 .left) (c .before .before .before .before .where-any .ensures) (c .before .before .before .where-any2 .ensures) (c .before .before .if3 .left) (c .before .if4 .taken)
 
 returns-6 : tie.Need-returns-6
 returns-6 c =
-    let a = c .before .before .before .before .before .before .before .before .before .before .before .before .before .before .before .before .before .args in
+    let a = c .before .before .before .before .before .before .before .before .before .before .before .before .before .before .before .before .before .before .before .args in
     let t : Tables = tables (a .h-words .now) (a .h-coeffs .now) (a .jumps .now) (a .rates .now) (a .t-words .now) (a .t-numbers .now) in
-    c .mismatch4 .ensures ∙ mask-short (a .m) t (a .words .now) (a .len) (a .h-index) (a .j-index) (a .mask) (a .heads) (a .nexts) (sym (c .before .before .before .before .before .before .before .before .before .test-model .ensures) ∙ c .before .before .before .before .before .before .before .enum-told .given .1) (c .before .before .before .before .before .before .if1 .left) (c .before .before .before .before .before .if2 .left) (c .before .before .before .if3 .left) (c .before .before .if4 .left) (c .before .if5 .taken)
+    c .mismatch4 .ensures ∙ mask-short (a .m) t (a .words .now) (a .len) (a .h-index) (a .j-index) (a .mask) (a .heads) (a .nexts) (sym (c .before .before .before .before .before .before .before .before .before .before .before .test-model .ensures) ∙ c .before .before .before .before .before .before .before .before .before .enum-told .given .1) (c .before .before .before .before .before .before .before .before .if1 .left) (c .before .before .before .before .before .before .before .if2 .left) (c .before .before .before .before .before .where-any .ensures) (c .before .before .before .before .where-any2 .ensures) (c .before .before .before .if3 .left) (c .before .before .if4 .left) (c .before .if5 .taken)
 
 returns-7 : tie.Need-returns-7
 returns-7 c =
-    let a = c .before .before .before .before .before .before .before .before .before .before .before .before .before .before .before .before .before .before .args in
+    let a = c .before .before .before .before .before .before .before .before .before .before .before .before .before .before .before .before .before .before .before .before .args in
     let t : Tables = tables (a .h-words .now) (a .h-coeffs .now) (a .jumps .now) (a .rates .now) (a .t-words .now) (a .t-numbers .now) in
-    c .mismatch5 .ensures ∙ heads-short (a .m) t (a .words .now) (a .len) (a .h-index) (a .j-index) (a .mask) (a .heads) (a .nexts) (sym (c .before .before .before .before .before .before .before .before .before .before .test-model .ensures) ∙ c .before .before .before .before .before .before .before .before .enum-told .given .1) (c .before .before .before .before .before .before .before .if1 .left) (c .before .before .before .before .before .before .if2 .left) (c .before .before .before .before .if3 .left) (c .before .before .before .if4 .left) (c .before .before .if5 .left) (c .before .if6 .taken)
+    c .mismatch5 .ensures ∙ heads-short (a .m) t (a .words .now) (a .len) (a .h-index) (a .j-index) (a .mask) (a .heads) (a .nexts) (sym (c .before .before .before .before .before .before .before .before .before .before .before .before .test-model .ensures) ∙ c .before .before .before .before .before .before .before .before .before .before .enum-told .given .1) (c .before .before .before .before .before .before .before .before .before .if1 .left) (c .before .before .before .before .before .before .before .before .if2 .left) (c .before .before .before .before .before .before .where-any .ensures) (c .before .before .before .before .before .where-any2 .ensures) (c .before .before .before .before .if3 .left) (c .before .before .before .if4 .left) (c .before .before .if5 .left) (c .before .if6 .taken)
 
 returns-8 : tie.Need-returns-8
 returns-8 c =
-    let a = c .before .before .before .before .before .before .before .before .before .before .before .before .before .before .before .before .before .before .before .args in
+    let a = c .before .before .before .before .before .before .before .before .before .before .before .before .before .before .before .before .before .before .before .before .before .args in
     let t : Tables = tables (a .h-words .now) (a .h-coeffs .now) (a .jumps .now) (a .rates .now) (a .t-words .now) (a .t-numbers .now) in
-    c .mismatch6 .ensures ∙ nexts-short (a .m) t (a .words .now) (a .len) (a .h-index) (a .j-index) (a .mask) (a .heads) (a .nexts) (sym (c .before .before .before .before .before .before .before .before .before .before .before .test-model .ensures) ∙ c .before .before .before .before .before .before .before .before .before .enum-told .given .1) (c .before .before .before .before .before .before .before .before .if1 .left) (c .before .before .before .before .before .before .before .if2 .left) (c .before .before .before .before .before .if3 .left) (c .before .before .before .before .if4 .left) (c .before .before .before .if5 .left) (c .before .before .if6 .left) (c .before .if7 .taken)
+    c .mismatch6 .ensures ∙ nexts-short (a .m) t (a .words .now) (a .len) (a .h-index) (a .j-index) (a .mask) (a .heads) (a .nexts) (sym (c .before .before .before .before .before .before .before .before .before .before .before .before .before .test-model .ensures) ∙ c .before .before .before .before .before .before .before .before .before .before .before .enum-told .given .1) (c .before .before .before .before .before .before .before .before .before .before .if1 .left) (c .before .before .before .before .before .before .before .before .before .if2 .left) (c .before .before .before .before .before .before .before .where-any .ensures) (c .before .before .before .before .before .before .where-any2 .ensures) (c .before .before .before .before .before .if3 .left) (c .before .before .before .before .if4 .left) (c .before .before .before .if5 .left) (c .before .before .if6 .left) (c .before .if7 .taken)
 
 returns-9 : tie.Need-returns-9
 returns-9 c =
-    let a = c .before .before .before .before .before .before .before .before .before .before .before .before .before .before .before .before .before .before .args in
+    let a = c .before .before .before .before .before .before .before .before .before .before .before .before .before .before .before .before .before .before .before .before .args in
     let t : Tables = tables (a .h-words .now) (a .h-coeffs .now) (a .jumps .now) (a .rates .now) (a .t-words .now) (a .t-numbers .now) in
-    tables-accepted (a .m) t (a .words .now) (a .len) (a .h-index) (a .j-index) (a .mask) (a .heads) (a .nexts) (sym (c .before .before .before .before .before .before .before .before .before .before .test-model .ensures) ∙ c .before .before .before .before .before .before .before .before .enum-told .given .1) (c .before .before .before .before .before .before .before .if1 .left) (c .before .before .before .before .before .before .if2 .left) (c .before .before .before .before .if3 .left) (c .before .before .before .if4 .left) (c .before .before .if5 .left) (c .before .if6 .left) (c .if7 .left)
+    tables-accepted (a .m) t (a .words .now) (a .len) (a .h-index) (a .j-index) (a .mask) (a .heads) (a .nexts) (sym (c .before .before .before .before .before .before .before .before .before .before .before .before .test-model .ensures) ∙ c .before .before .before .before .before .before .before .before .before .before .enum-told .given .1) (c .before .before .before .before .before .before .before .before .before .if1 .left) (c .before .before .before .before .before .before .before .before .if2 .left) (c .before .before .before .before .before .before .where-any .ensures) (c .before .before .before .before .before .where-any2 .ensures) (c .before .before .before .before .if3 .left) (c .before .before .before .if4 .left) (c .before .before .if5 .left) (c .before .if6 .left) (c .if7 .left)
 
 pub check-tables-spec : {M : Type 1} → statement M
 check-tables-spec =
@@ -83,7 +83,9 @@ check-tables-spec =
     returns-2
     (λ c κs. search needs)
     returns-3
-    mul-rows
+    mul-where-any
+    (λ c κs. search needs)
+    (λ c κs. search needs)
     (λ c κs. search needs)
     returns-4
     (λ c κs. search needs)

@@ -18,16 +18,14 @@ index-model-requires : tie.Need-index-model-requires
 index-model-requires c κs =
     let a = c .before .before .before .before .before .before .before .before .before .before .before .before .before .before .before .before .before .before .before .args in
     let t : Tables = tables (a .h-words .now) (a .h-coeffs .now) (a .jumps .now) (a .rates .now) (a .t-words .now) (a .t-numbers .now) in
-    let h = c .before .before .before .before .before .before .before .before .before .before .before .before .before .before .before .before .before .before .before .pre .0 in
-    let k = tested-stands (a .m) t (h .accepted) in
-    (h .h-rows, h .j-rows, k .few-reals, k .few-jumps, k .h-words-room, k .jumps-room, k .rates-room, k .t-words-room, k .fits)
+    λ w. let h = c .before .before .before .before .before .before .before .before .before .before .before .before .before .before .before .before .before .before .before .pre .0 w in let k = tested-stands (a .m) t (h .accepted) in (h .h-rows, h .j-rows, k .few-reals, k .few-jumps, k .h-words-room, k .jumps-room, k .rates-room, k .t-words-room, k .fits)
 
 stage-columns-requires : tie.Need-stage-columns-requires
 stage-columns-requires c κs =
     let a = c .before .before .before .before .before .before .before .before .before .before .before .before .before .before .before .before .before .before .before .before .before .before .before .before .before .before .before .before .before .before .before .before .before .args in
     let t : Tables = tables (a .h-words .now) (a .h-coeffs .now) (a .jumps .now) (a .rates .now) (a .t-words .now) (a .t-numbers .now) in
     let q = c .before .before .before .before .before .before .before .before .before .before .before .before .before .index-model in
-    (model-ready (a .m) t (a .h-index .now) _ (a .j-index .now) _ (a .mask .now) (c .before .before .before .before .before .before .before .before .before .before .before .before .before .before .before .before .before .before .before .before .before .before .before .before .before .before .before .before .before .before .before .before .before .pre .0) (q .ensures t refl refl refl refl) (q .kept .0) (q .kept .1 .0), c .before .before .before .before .before .before .before .before .before .before .before .before .before .before .before .before .before .before .before .before .before .before .before .before .before .before .before .before .before .before .before .before .before .pre .1, sums-room (a .work-words .now) (a .work-sums .now) (c .before .before .before .before .before .before .before .before .smaller .ensures), c .before .before .before .before .before .before .before .before .before .before .before .before .before .before .before .before .before .before .before .before .before .before .before .before .before .before .before .before .before .before .before .before .before .pre .2)
+    ((λ w. model-ready (a .m) t (a .h-index .now) _ (a .j-index .now) _ (a .mask .now) (c .before .before .before .before .before .before .before .before .before .before .before .before .before .before .before .before .before .before .before .before .before .before .before .before .before .before .before .before .before .before .before .before .before .pre .0 w) (q .ensures w t refl refl refl refl) (q .kept .0) (q .kept .1 .0)), c .before .before .before .before .before .before .before .before .before .before .before .before .before .before .before .before .before .before .before .before .before .before .before .before .before .before .before .before .before .before .before .before .before .pre .1, sums-room (a .work-words .now) (a .work-sums .now) (c .before .before .before .before .before .before .before .before .smaller .ensures), c .before .before .before .before .before .before .before .before .before .before .before .before .before .before .before .before .before .before .before .before .before .before .before .before .before .before .before .before .before .before .before .before .before .pre .2)
 
 same-length : tie.Need-same-length
 same-length c = c .before .before .before .before .before .before .before .before .before .before .before .before .before .before .before .before .before .before .clear-lanes .kept .0 ∙ c .before .before .before .before .before .before .before .before .before .before .before .before .before .before .before .before .before .before .before .before .before .before .before .before .before .before .before .before .before .before .before .before .before .before .before .before .before .before .before .before .before .before .before .before .before .before .index-model .kept .0

@@ -9,68 +9,98 @@ use borrow.Author.Needs.{needs}
 use Rattle.leakage.proofs.check.check_work.Statement.{statement}
 use Rattle.leakage.proofs.check.check_work.Tie as tie
 
-mul-rows : tie.Need-mul-rows
-mul-rows c = omega (arith, c .pre)
+mul-where-any : tie.Need-mul-where-any
+mul-where-any c = omega (arith, c .pre)
 
 returns : tie.Need-returns
 returns c =
-    let a = c .before .before .args in
+    let a = c .before .before .before .before .before .args in
+    let r1 = c .before .before .before .before .where-any in
+    let r2 = c .before .before .before .where-any2 in
+    let r3 = c .before .before .where-any3 in
     λ w eh ej ek eo ehe ene efh efn.
-    c .mismatch .ensures ∙ short-1 (a .n) (a .len) (a .count) (a .h-index) (a .j-index) (a .mask) (a .order) (a .heads) (a .nexts) (a .fixed-heads) (a .fixed-nexts) (c .before .if1 .taken) ∙ work-is (a .n) (a .len) (a .count) (a .h-index) (a .j-index) (a .mask) (a .order) (a .heads) (a .nexts) (a .fixed-heads) (a .fixed-nexts) w eh ej ek eo ehe ene efh efn
+    c .mismatch .ensures ∙ short-1 (r1 .result) (r2 .result) (a .len) (r3 .result) (a .h-index) (a .j-index) (a .mask) (a .order) (a .heads) (a .nexts) (a .fixed-heads) (a .fixed-nexts) (c .before .if1 .taken) ∙ work-is (a .n) (a .len) (a .count) (r1 .ensures) (r2 .ensures) (r3 .ensures) (a .h-index) (a .j-index) (a .mask) (a .order) (a .heads) (a .nexts) (a .fixed-heads) (a .fixed-nexts) w eh ej ek eo ehe ene efh efn
 
 returns-2 : tie.Need-returns-2
 returns-2 c =
-    let a = c .before .before .before .args in
+    let a = c .before .before .before .before .before .before .args in
+    let r1 = c .before .before .before .before .before .where-any in
+    let r2 = c .before .before .before .before .where-any2 in
+    let r3 = c .before .before .before .where-any3 in
     λ w eh ej ek eo ehe ene efh efn.
-    c .mismatch2 .ensures ∙ short-2 (a .n) (a .len) (a .count) (a .h-index) (a .j-index) (a .mask) (a .order) (a .heads) (a .nexts) (a .fixed-heads) (a .fixed-nexts) (c .before .before .if1 .left) (c .before .if2 .taken) ∙ work-is (a .n) (a .len) (a .count) (a .h-index) (a .j-index) (a .mask) (a .order) (a .heads) (a .nexts) (a .fixed-heads) (a .fixed-nexts) w eh ej ek eo ehe ene efh efn
+    c .mismatch2 .ensures ∙ short-2 (r1 .result) (r2 .result) (a .len) (r3 .result) (a .h-index) (a .j-index) (a .mask) (a .order) (a .heads) (a .nexts) (a .fixed-heads) (a .fixed-nexts) (c .before .before .if1 .left) (c .before .if2 .taken) ∙ work-is (a .n) (a .len) (a .count) (r1 .ensures) (r2 .ensures) (r3 .ensures) (a .h-index) (a .j-index) (a .mask) (a .order) (a .heads) (a .nexts) (a .fixed-heads) (a .fixed-nexts) w eh ej ek eo ehe ene efh efn
 
 returns-3 : tie.Need-returns-3
 returns-3 c =
-    let a = c .before .before .before .before .args in
+    let a = c .before .before .before .before .before .before .before .args in
+    let r1 = c .before .before .before .before .before .before .where-any in
+    let r2 = c .before .before .before .before .before .where-any2 in
+    let r3 = c .before .before .before .before .where-any3 in
     λ w eh ej ek eo ehe ene efh efn.
-    c .mismatch3 .ensures ∙ short-3 (a .n) (a .len) (a .count) (a .h-index) (a .j-index) (a .mask) (a .order) (a .heads) (a .nexts) (a .fixed-heads) (a .fixed-nexts) (c .before .before .before .if1 .left) (c .before .before .if2 .left) (c .before .if3 .taken) ∙ work-is (a .n) (a .len) (a .count) (a .h-index) (a .j-index) (a .mask) (a .order) (a .heads) (a .nexts) (a .fixed-heads) (a .fixed-nexts) w eh ej ek eo ehe ene efh efn
+    c .mismatch3 .ensures ∙ short-3 (r1 .result) (r2 .result) (a .len) (r3 .result) (a .h-index) (a .j-index) (a .mask) (a .order) (a .heads) (a .nexts) (a .fixed-heads) (a .fixed-nexts) (c .before .before .before .if1 .left) (c .before .before .if2 .left) (c .before .if3 .taken) ∙ work-is (a .n) (a .len) (a .count) (r1 .ensures) (r2 .ensures) (r3 .ensures) (a .h-index) (a .j-index) (a .mask) (a .order) (a .heads) (a .nexts) (a .fixed-heads) (a .fixed-nexts) w eh ej ek eo ehe ene efh efn
 
 returns-4 : tie.Need-returns-4
 returns-4 c =
-    let a = c .before .before .before .before .before .args in
+    let a = c .before .before .before .before .before .before .before .before .args in
+    let r1 = c .before .before .before .before .before .before .before .where-any in
+    let r2 = c .before .before .before .before .before .before .where-any2 in
+    let r3 = c .before .before .before .before .before .where-any3 in
     λ w eh ej ek eo ehe ene efh efn.
-    c .mismatch4 .ensures ∙ short-4 (a .n) (a .len) (a .count) (a .h-index) (a .j-index) (a .mask) (a .order) (a .heads) (a .nexts) (a .fixed-heads) (a .fixed-nexts) (c .before .before .before .before .if1 .left) (c .before .before .before .if2 .left) (c .before .before .if3 .left) (c .before .if4 .taken) ∙ work-is (a .n) (a .len) (a .count) (a .h-index) (a .j-index) (a .mask) (a .order) (a .heads) (a .nexts) (a .fixed-heads) (a .fixed-nexts) w eh ej ek eo ehe ene efh efn
+    c .mismatch4 .ensures ∙ short-4 (r1 .result) (r2 .result) (a .len) (r3 .result) (a .h-index) (a .j-index) (a .mask) (a .order) (a .heads) (a .nexts) (a .fixed-heads) (a .fixed-nexts) (c .before .before .before .before .if1 .left) (c .before .before .before .if2 .left) (c .before .before .if3 .left) (c .before .if4 .taken) ∙ work-is (a .n) (a .len) (a .count) (r1 .ensures) (r2 .ensures) (r3 .ensures) (a .h-index) (a .j-index) (a .mask) (a .order) (a .heads) (a .nexts) (a .fixed-heads) (a .fixed-nexts) w eh ej ek eo ehe ene efh efn
 
 returns-5 : tie.Need-returns-5
 returns-5 c =
-    let a = c .before .before .before .before .before .before .args in
+    let a = c .before .before .before .before .before .before .before .before .before .args in
+    let r1 = c .before .before .before .before .before .before .before .before .where-any in
+    let r2 = c .before .before .before .before .before .before .before .where-any2 in
+    let r3 = c .before .before .before .before .before .before .where-any3 in
     λ w eh ej ek eo ehe ene efh efn.
-    c .mismatch5 .ensures ∙ short-5 (a .n) (a .len) (a .count) (a .h-index) (a .j-index) (a .mask) (a .order) (a .heads) (a .nexts) (a .fixed-heads) (a .fixed-nexts) (c .before .before .before .before .before .if1 .left) (c .before .before .before .before .if2 .left) (c .before .before .before .if3 .left) (c .before .before .if4 .left) (c .before .if5 .taken) ∙ work-is (a .n) (a .len) (a .count) (a .h-index) (a .j-index) (a .mask) (a .order) (a .heads) (a .nexts) (a .fixed-heads) (a .fixed-nexts) w eh ej ek eo ehe ene efh efn
+    c .mismatch5 .ensures ∙ short-5 (r1 .result) (r2 .result) (a .len) (r3 .result) (a .h-index) (a .j-index) (a .mask) (a .order) (a .heads) (a .nexts) (a .fixed-heads) (a .fixed-nexts) (c .before .before .before .before .before .if1 .left) (c .before .before .before .before .if2 .left) (c .before .before .before .if3 .left) (c .before .before .if4 .left) (c .before .if5 .taken) ∙ work-is (a .n) (a .len) (a .count) (r1 .ensures) (r2 .ensures) (r3 .ensures) (a .h-index) (a .j-index) (a .mask) (a .order) (a .heads) (a .nexts) (a .fixed-heads) (a .fixed-nexts) w eh ej ek eo ehe ene efh efn
 
 returns-6 : tie.Need-returns-6
 returns-6 c =
-    let a = c .before .before .before .before .before .before .before .args in
+    let a = c .before .before .before .before .before .before .before .before .before .before .args in
+    let r1 = c .before .before .before .before .before .before .before .before .before .where-any in
+    let r2 = c .before .before .before .before .before .before .before .before .where-any2 in
+    let r3 = c .before .before .before .before .before .before .before .where-any3 in
     λ w eh ej ek eo ehe ene efh efn.
-    c .mismatch6 .ensures ∙ short-6 (a .n) (a .len) (a .count) (a .h-index) (a .j-index) (a .mask) (a .order) (a .heads) (a .nexts) (a .fixed-heads) (a .fixed-nexts) (c .before .before .before .before .before .before .if1 .left) (c .before .before .before .before .before .if2 .left) (c .before .before .before .before .if3 .left) (c .before .before .before .if4 .left) (c .before .before .if5 .left) (c .before .if6 .taken) ∙ work-is (a .n) (a .len) (a .count) (a .h-index) (a .j-index) (a .mask) (a .order) (a .heads) (a .nexts) (a .fixed-heads) (a .fixed-nexts) w eh ej ek eo ehe ene efh efn
+    c .mismatch6 .ensures ∙ short-6 (r1 .result) (r2 .result) (a .len) (r3 .result) (a .h-index) (a .j-index) (a .mask) (a .order) (a .heads) (a .nexts) (a .fixed-heads) (a .fixed-nexts) (c .before .before .before .before .before .before .if1 .left) (c .before .before .before .before .before .if2 .left) (c .before .before .before .before .if3 .left) (c .before .before .before .if4 .left) (c .before .before .if5 .left) (c .before .if6 .taken) ∙ work-is (a .n) (a .len) (a .count) (r1 .ensures) (r2 .ensures) (r3 .ensures) (a .h-index) (a .j-index) (a .mask) (a .order) (a .heads) (a .nexts) (a .fixed-heads) (a .fixed-nexts) w eh ej ek eo ehe ene efh efn
 
 returns-7 : tie.Need-returns-7
 returns-7 c =
-    let a = c .before .before .before .before .before .before .before .before .args in
+    let a = c .before .before .before .before .before .before .before .before .before .before .before .args in
+    let r1 = c .before .before .before .before .before .before .before .before .before .before .where-any in
+    let r2 = c .before .before .before .before .before .before .before .before .before .where-any2 in
+    let r3 = c .before .before .before .before .before .before .before .before .where-any3 in
     λ w eh ej ek eo ehe ene efh efn.
-    c .mismatch7 .ensures ∙ short-7 (a .n) (a .len) (a .count) (a .h-index) (a .j-index) (a .mask) (a .order) (a .heads) (a .nexts) (a .fixed-heads) (a .fixed-nexts) (c .before .before .before .before .before .before .before .if1 .left) (c .before .before .before .before .before .before .if2 .left) (c .before .before .before .before .before .if3 .left) (c .before .before .before .before .if4 .left) (c .before .before .before .if5 .left) (c .before .before .if6 .left) (c .before .if7 .taken) ∙ work-is (a .n) (a .len) (a .count) (a .h-index) (a .j-index) (a .mask) (a .order) (a .heads) (a .nexts) (a .fixed-heads) (a .fixed-nexts) w eh ej ek eo ehe ene efh efn
+    c .mismatch7 .ensures ∙ short-7 (r1 .result) (r2 .result) (a .len) (r3 .result) (a .h-index) (a .j-index) (a .mask) (a .order) (a .heads) (a .nexts) (a .fixed-heads) (a .fixed-nexts) (c .before .before .before .before .before .before .before .if1 .left) (c .before .before .before .before .before .before .if2 .left) (c .before .before .before .before .before .if3 .left) (c .before .before .before .before .if4 .left) (c .before .before .before .if5 .left) (c .before .before .if6 .left) (c .before .if7 .taken) ∙ work-is (a .n) (a .len) (a .count) (r1 .ensures) (r2 .ensures) (r3 .ensures) (a .h-index) (a .j-index) (a .mask) (a .order) (a .heads) (a .nexts) (a .fixed-heads) (a .fixed-nexts) w eh ej ek eo ehe ene efh efn
 
 returns-8 : tie.Need-returns-8
 returns-8 c =
-    let a = c .before .before .before .before .before .before .before .before .before .args in
+    let a = c .before .before .before .before .before .before .before .before .before .before .before .before .args in
+    let r1 = c .before .before .before .before .before .before .before .before .before .before .before .where-any in
+    let r2 = c .before .before .before .before .before .before .before .before .before .before .where-any2 in
+    let r3 = c .before .before .before .before .before .before .before .before .before .where-any3 in
     λ w eh ej ek eo ehe ene efh efn.
-    c .mismatch8 .ensures ∙ short-8 (a .n) (a .len) (a .count) (a .h-index) (a .j-index) (a .mask) (a .order) (a .heads) (a .nexts) (a .fixed-heads) (a .fixed-nexts) (c .before .before .before .before .before .before .before .before .if1 .left) (c .before .before .before .before .before .before .before .if2 .left) (c .before .before .before .before .before .before .if3 .left) (c .before .before .before .before .before .if4 .left) (c .before .before .before .before .if5 .left) (c .before .before .before .if6 .left) (c .before .before .if7 .left) (c .before .if8 .taken) ∙ work-is (a .n) (a .len) (a .count) (a .h-index) (a .j-index) (a .mask) (a .order) (a .heads) (a .nexts) (a .fixed-heads) (a .fixed-nexts) w eh ej ek eo ehe ene efh efn
+    c .mismatch8 .ensures ∙ short-8 (r1 .result) (r2 .result) (a .len) (r3 .result) (a .h-index) (a .j-index) (a .mask) (a .order) (a .heads) (a .nexts) (a .fixed-heads) (a .fixed-nexts) (c .before .before .before .before .before .before .before .before .if1 .left) (c .before .before .before .before .before .before .before .if2 .left) (c .before .before .before .before .before .before .if3 .left) (c .before .before .before .before .before .if4 .left) (c .before .before .before .before .if5 .left) (c .before .before .before .if6 .left) (c .before .before .if7 .left) (c .before .if8 .taken) ∙ work-is (a .n) (a .len) (a .count) (r1 .ensures) (r2 .ensures) (r3 .ensures) (a .h-index) (a .j-index) (a .mask) (a .order) (a .heads) (a .nexts) (a .fixed-heads) (a .fixed-nexts) w eh ej ek eo ehe ene efh efn
 
 returns-9 : tie.Need-returns-9
 returns-9 c =
-    let a = c .before .before .before .before .before .before .before .before .args in
+    let a = c .before .before .before .before .before .before .before .before .before .before .before .args in
+    let r1 = c .before .before .before .before .before .before .before .before .before .before .where-any in
+    let r2 = c .before .before .before .before .before .before .before .before .before .where-any2 in
+    let r3 = c .before .before .before .before .before .before .before .before .where-any3 in
     λ w eh ej ek eo ehe ene efh efn.
-    long-enough (a .n) (a .len) (a .count) (a .h-index) (a .j-index) (a .mask) (a .order) (a .heads) (a .nexts) (a .fixed-heads) (a .fixed-nexts) (c .before .before .before .before .before .before .before .if1 .left) (c .before .before .before .before .before .before .if2 .left) (c .before .before .before .before .before .if3 .left) (c .before .before .before .before .if4 .left) (c .before .before .before .if5 .left) (c .before .before .if6 .left) (c .before .if7 .left) (c .if8 .left) ∙ work-is (a .n) (a .len) (a .count) (a .h-index) (a .j-index) (a .mask) (a .order) (a .heads) (a .nexts) (a .fixed-heads) (a .fixed-nexts) w eh ej ek eo ehe ene efh efn
+    long-enough (r1 .result) (r2 .result) (a .len) (r3 .result) (a .h-index) (a .j-index) (a .mask) (a .order) (a .heads) (a .nexts) (a .fixed-heads) (a .fixed-nexts) (c .before .before .before .before .before .before .before .if1 .left) (c .before .before .before .before .before .before .if2 .left) (c .before .before .before .before .before .if3 .left) (c .before .before .before .before .if4 .left) (c .before .before .before .if5 .left) (c .before .before .if6 .left) (c .before .if7 .left) (c .if8 .left) ∙ work-is (a .n) (a .len) (a .count) (r1 .ensures) (r2 .ensures) (r3 .ensures) (a .h-index) (a .j-index) (a .mask) (a .order) (a .heads) (a .nexts) (a .fixed-heads) (a .fixed-nexts) w eh ej ek eo ehe ene efh efn
 
 pub check-work-spec : {M : Type 1} → statement M
 check-work-spec =
     tie.close
     (tie.spec
-    mul-rows
+    mul-where-any
+    (λ c κs. search needs)
+    (λ c κs. search needs)
+    (λ c κs. search needs)
     (λ c κs. search needs)
     returns
     (λ c κs. search needs)

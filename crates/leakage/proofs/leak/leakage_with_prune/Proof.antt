@@ -3,9 +3,10 @@
 
 -- `leak::leakage_with_prune` meets its contract: what passed the tests is what is asked before the passes and by them. Assumes nothing.
 use mathlib.Core.Path.{_≡_, refl, sym, ap, _∙_}
-use Prim.Native.Nat.{ℕ, _*_, _/_, _≤_}
+use mathlib.Core.List.{List}
+use Prim.Native.Nat.{ℕ, _*_, _≤_, _<_}
 use native.Mathlib.Omega.{arith}
-use lib.ListN.{length, replicate}
+use lib.ListN.{length, take, replicate}
 use lib.Seq.{length-take-le}
 use Rattle.number.specs.Floats.{float0}
 use Rattle.model.specs.Stored.{Tables, tables}
@@ -14,7 +15,7 @@ use Rattle.passes.specs.Leaks.{Took}
 use Rattle.leakage.specs.Leakages.{Basis, basisOf, Work, workOf, candidatePlaces, leakTests, leakCourse}
 use Rattle.refusal.specs.declared.Answer.the-variants.{Accepted}
 use Rattle.leakage.proofs.GatherLaws.{Passed, leak-passed, basis-lent, fixed-lent, candidate-room}
-use Rattle.leakage.proofs.LeakLaws.{model-ready, basis-ready, order-below, gathered}
+use Rattle.leakage.proofs.LeakLaws.{some-word, model-ready, basis-ready, order-below, gathered}
 use Rattle.leakage.proofs.OutLaws.{took-rows, took-inside, leak-refused, leak-accepted, all-zero}
 use borrow.Author.Needs.{needs}
 use Rattle.leakage.proofs.leak.leakage_with_prune.Statement.{statement}
@@ -42,7 +43,7 @@ passed c = let s = start-of c in leak-passed (s .args .m) (stored s) (lent s) (s
 
 -- ---- what the passes left
 abbrev told-of : tie.After-run-and-clear → tie.After-enum-told
-told-of c = c .before .before .before .before .before .before .before .before .before .before .before .before .before .before .before .before .before .before .before .before .before .before .before .before .before .before .before .before .before .before .before .before .before .before .before .before .before .before .before .before .before .before .before .before .before .before
+told-of c = c .before .before .before .before .before .before .before .before .before .before .before .before .before .before .before .before .before .before .before .before .before .before .before .before .before .before .before .before .before .before .before .before .before .before .before .before .before .before .before .before .before .before .before .before .before .before .before
 
 abbrev laid-of : tie.After-run-and-clear → tie.After-lay-basis
 laid-of c = c .before .before .before .before .before .before .before .before .before .before .before .before .before .before .before .before .before .before .before .before .before .before .before .before .before .before .before .before .before .before .before .before
@@ -52,7 +53,7 @@ took : (c : tie.After-run-and-clear) → let s = start-of (told-of c) in
 took c =
     let s = start-of (told-of c) in
     let l = laid-of c .lay-basis in
-    gathered (s .args .m) (stored s) (lent s) (work s) (passed (told-of c)) _ _ _ _ _ (l .ensures) (s .args .limits) (l .kept .1 .1 .1 .1 .0) (c .before .before .before .before .before .before .before .before .before .before .before .before .before .before .before .before .before .before .before .before .before .before .before .before .before .before .before .before .before .before .before .before .before .before .before .before .before .before .before .before .before .before .before .before .before .word-room .ensures) _ _ _ (c .run-and-clear .ensures .0)
+    gathered (s .args .m) (stored s) (lent s) (work s) (passed (told-of c)) _ _ _ _ _ (l .ensures) (s .args .limits) (l .kept .1 .1 .1 .1 .0) (c .before .before .before .before .before .before .before .before .before .before .before .before .before .before .before .before .before .before .before .before .before .before .before .before .before .before .before .before .before .before .before .before .before .before .before .before .before .before .before .before .before .before .before .before .before .before .word-room .ensures) _ _ _ (c .run-and-clear .ensures .0)
 
 returns : tie.Need-returns
 returns c =
@@ -61,78 +62,79 @@ returns c =
 
 index-model-requires : tie.Need-index-model-requires
 index-model-requires c κs =
-    let s = start-of (c .before .before .before) in
+    let s = start-of (c .before .before .before .before) in
     let a = s .args in
-    let p = passed (c .before .before .before) in
+    let p = passed (c .before .before .before .before) in
     let k = tested-stands (a .m) (stored s) (p .model) in
-    (p .h-long, p .j-long, k .few-reals, k .few-jumps, k .h-words-room, k .jumps-room, k .rates-room, k .t-words-room, k .fits)
+    λ w. (p .h-long w, p .j-long w, k .few-reals, k .few-jumps, k .h-words-room, k .jumps-room, k .rates-room, k .t-words-room, k .fits)
 
 lay-basis-requires : tie.Need-lay-basis-requires
 lay-basis-requires c κs =
-    let s = start-of (c .before .before .before .before .before .before .before .before .before .before .before .before .before) in
+    let s = start-of (c .before .before .before .before .before .before .before .before .before .before .before .before .before .before) in
     let a = s .args in
-    let p = passed (c .before .before .before .before .before .before .before .before .before .before .before .before .before) in
-    (basis-lent (a .m) (stored s) (lent s) (work s) p, fixed-lent (a .m) (stored s) (lent s) (work s) p)
+    let p = passed (c .before .before .before .before .before .before .before .before .before .before .before .before .before .before) in
+    λ w. (basis-lent (a .m) (stored s) (lent s) (work s) p, fixed-lent (a .m) (stored s) (lent s) (work s) p w)
 
 mul-run-and-clear : tie.Need-mul-run-and-clear
 mul-run-and-clear c =
-    let s = start-of (c .before .before .before .before .before .before .before .before .before .before .before .before .before .before .before .before .before .before .before .before .before .before .before .before .before .before .before .before .before) in
+    let s = start-of (c .before .before .before .before .before .before .before .before .before .before .before .before .before .before .before .before .before .before .before .before .before .before .before .before .before .before .before .before .before .before) in
     let a = s .args in
-    let p = passed (c .before .before .before .before .before .before .before .before .before .before .before .before .before .before .before .before .before .before .before .before .before .before .before .before .before .before .before .before .before) in
+    let p = passed (c .before .before .before .before .before .before .before .before .before .before .before .before .before .before .before .before .before .before .before .before .before .before .before .before .before .before .before .before .before .before) in
     let h : 4 * a .len ≤ length (a .words .now) = omega (arith, p .words-long) in
     search (h, s .good .1 .1 .1 .1 .1 .1 .1 .0, needs)
 
 slice-aggregate-run-and-clear : tie.Need-slice-aggregate-run-and-clear
 slice-aggregate-run-and-clear c =
-    let s = start-of (c .before .before .before .before .before .before .before .before .before .before .before .before .before .before .before .before .before .before .before .before .before .before .before .before .before .before .before .before .before .before) in
+    let s = start-of (c .before .before .before .before .before .before .before .before .before .before .before .before .before .before .before .before .before .before .before .before .before .before .before .before .before .before .before .before .before .before .before) in
     let a = s .args in
-    sym (length-take-le (a .len * 4) (a .words .now) (omega (arith, passed (c .before .before .before .before .before .before .before .before .before .before .before .before .before .before .before .before .before .before .before .before .before .before .before .before .before .before .before .before .before .before) .words-long)))
+    sym (length-take-le (a .len * 4) (a .words .now) (omega (arith, passed (c .before .before .before .before .before .before .before .before .before .before .before .before .before .before .before .before .before .before .before .before .before .before .before .before .before .before .before .before .before .before .before) .words-long)))
 
 slice-aggregate-run-and-clear-2 : tie.Need-slice-aggregate-run-and-clear-2
 slice-aggregate-run-and-clear-2 c =
-    let s = start-of (c .before .before .before .before .before .before .before .before .before .before .before .before .before .before .before .before .before .before .before .before .before .before .before .before .before .before .before .before .before .before .before) in
+    let s = start-of (c .before .before .before .before .before .before .before .before .before .before .before .before .before .before .before .before .before .before .before .before .before .before .before .before .before .before .before .before .before .before .before .before) in
     let a = s .args in
-    sym (length-take-le (a .len) (a .coeffs .now) (passed (c .before .before .before .before .before .before .before .before .before .before .before .before .before .before .before .before .before .before .before .before .before .before .before .before .before .before .before .before .before .before .before) .coeffs-long))
+    sym (length-take-le (a .len) (a .coeffs .now) (passed (c .before .before .before .before .before .before .before .before .before .before .before .before .before .before .before .before .before .before .before .before .before .before .before .before .before .before .before .before .before .before .before .before) .coeffs-long))
 
 slice-reshare-prefix-run-and-clear : tie.Need-slice-reshare-prefix-run-and-clear
 slice-reshare-prefix-run-and-clear c =
-    omega (arith, passed (c .before .before .before .before .before .before .before .before .before .before .before .before .before .before .before .before .before .before .before .before .before .before .before .before .before .before .before .before .before .before .before .before) .nexts-long, (c .before .before .before .before .before .before .before .before .before .before .before .before .before .before .before .before .before .before .lay-basis .kept .1 .1 .1 .1 .1 .1 .0))
+    omega (arith, passed (c .before .before .before .before .before .before .before .before .before .before .before .before .before .before .before .before .before .before .before .before .before .before .before .before .before .before .before .before .before .before .before .before .before) .nexts-long, (c .before .before .before .before .before .before .before .before .before .before .before .before .before .before .before .before .before .before .lay-basis .kept .1 .1 .1 .1 .1 .1 .0))
 
 slice-aggregate-run-and-clear-3 : tie.Need-slice-aggregate-run-and-clear-3
 slice-aggregate-run-and-clear-3 c =
-    let s = start-of (c .before .before .before .before .before .before .before .before .before .before .before .before .before .before .before .before .before .before .before .before .before .before .before .before .before .before .before .before .before .before .before .before .before) in
+    let s = start-of (c .before .before .before .before .before .before .before .before .before .before .before .before .before .before .before .before .before .before .before .before .before .before .before .before .before .before .before .before .before .before .before .before .before .before) in
     let a = s .args in
-    sym (length-take-le (a .len) (c .before .before .before .before .before .before .before .before .before .before .before .before .before .before .before .before .before .before .before .lay-basis .last .1 .1 .1 .1 .1 .1 .0) (omega (arith, passed (c .before .before .before .before .before .before .before .before .before .before .before .before .before .before .before .before .before .before .before .before .before .before .before .before .before .before .before .before .before .before .before .before .before) .nexts-long, (c .before .before .before .before .before .before .before .before .before .before .before .before .before .before .before .before .before .before .before .lay-basis .kept .1 .1 .1 .1 .1 .1 .0))))
+    sym (length-take-le (a .len) (c .before .before .before .before .before .before .before .before .before .before .before .before .before .before .before .before .before .before .before .lay-basis .last .1 .1 .1 .1 .1 .1 .0) (omega (arith, passed (c .before .before .before .before .before .before .before .before .before .before .before .before .before .before .before .before .before .before .before .before .before .before .before .before .before .before .before .before .before .before .before .before .before .before) .nexts-long, (c .before .before .before .before .before .before .before .before .before .before .before .before .before .before .before .before .before .before .before .lay-basis .kept .1 .1 .1 .1 .1 .1 .0))))
 
 slice-reshare-prefix-run-and-clear-2 : tie.Need-slice-reshare-prefix-run-and-clear-2
 slice-reshare-prefix-run-and-clear-2 c =
-    omega (arith, passed (c .before .before .before .before .before .before .before .before .before .before .before .before .before .before .before .before .before .before .before .before .before .before .before .before .before .before .before .before .before .before .before .before .before .before) .fixed-nexts-long, (c .before .before .before .before .before .before .before .before .before .before .before .before .before .before .before .before .before .before .before .before .lay-basis .kept .1 .1 .1 .1 .1 .1 .1 .1 .0))
+    omega (arith, c .before .before .before .before .before .before .before .before .before .before .before .before .before .before .before .before .before .before .before .before .before .before .before .before .before .before .before .before .before .before .before .before .before .where-any .ensures, passed (c .before .before .before .before .before .before .before .before .before .before .before .before .before .before .before .before .before .before .before .before .before .before .before .before .before .before .before .before .before .before .before .before .before .before .before) .fixed-nexts-long, (c .before .before .before .before .before .before .before .before .before .before .before .before .before .before .before .before .before .before .before .before .lay-basis .kept .1 .1 .1 .1 .1 .1 .1 .1 .0))
 
 slice-aggregate-run-and-clear-4 : tie.Need-slice-aggregate-run-and-clear-4
 slice-aggregate-run-and-clear-4 c =
-    let s = start-of (c .before .before .before .before .before .before .before .before .before .before .before .before .before .before .before .before .before .before .before .before .before .before .before .before .before .before .before .before .before .before .before .before .before .before .before) in
-    let a = s .args in
-    sym (length-take-le (length (a .protected .now) / 4) (c .before .before .before .before .before .before .before .before .before .before .before .before .before .before .before .before .before .before .before .before .before .lay-basis .last .1 .1 .1 .1 .1 .1 .1 .1 .0) (omega (arith, passed (c .before .before .before .before .before .before .before .before .before .before .before .before .before .before .before .before .before .before .before .before .before .before .before .before .before .before .before .before .before .before .before .before .before .before .before) .fixed-nexts-long, (c .before .before .before .before .before .before .before .before .before .before .before .before .before .before .before .before .before .before .before .before .before .lay-basis .kept .1 .1 .1 .1 .1 .1 .1 .1 .0))))
+    sym (length-take-le (c .before .before .before .before .before .before .before .before .before .before .before .before .before .before .before .before .before .before .before .before .before .before .before .before .before .before .before .before .before .before .before .before .before .before .where-any .result) (c .before .before .before .before .before .before .before .before .before .before .before .before .before .before .before .before .before .before .before .before .before .lay-basis .last .1 .1 .1 .1 .1 .1 .1 .1 .0) (omega (arith, c .before .before .before .before .before .before .before .before .before .before .before .before .before .before .before .before .before .before .before .before .before .before .before .before .before .before .before .before .before .before .before .before .before .before .where-any .ensures, passed (c .before .before .before .before .before .before .before .before .before .before .before .before .before .before .before .before .before .before .before .before .before .before .before .before .before .before .before .before .before .before .before .before .before .before .before .before) .fixed-nexts-long, (c .before .before .before .before .before .before .before .before .before .before .before .before .before .before .before .before .before .before .before .before .before .lay-basis .kept .1 .1 .1 .1 .1 .1 .1 .1 .0))))
 
 slice-reshare-prefix-run-and-clear-3 : tie.Need-slice-reshare-prefix-run-and-clear-3
 slice-reshare-prefix-run-and-clear-3 c =
-    omega (arith, passed (c .before .before .before .before .before .before .before .before .before .before .before .before .before .before .before .before .before .before .before .before .before .before .before .before .before .before .before .before .before .before .before .before .before .before .before) .order-long, (c .before .before .before .before .before .before .before .before .before .before .before .before .before .before .before .before .before .before .before .before .before .lay-basis .kept .1 .1 .1 .1 .0))
+    omega (arith, passed (c .before .before .before .before .before .before .before .before .before .before .before .before .before .before .before .before .before .before .before .before .before .before .before .before .before .before .before .before .before .before .before .before .before .before .before .before) .order-long, (c .before .before .before .before .before .before .before .before .before .before .before .before .before .before .before .before .before .before .before .before .before .lay-basis .kept .1 .1 .1 .1 .0))
 
 slice-aggregate-run-and-clear-5 : tie.Need-slice-aggregate-run-and-clear-5
 slice-aggregate-run-and-clear-5 c =
-    let s = start-of (c .before .before .before .before .before .before .before .before .before .before .before .before .before .before .before .before .before .before .before .before .before .before .before .before .before .before .before .before .before .before .before .before .before .before .before .before) in
+    let s = start-of (c .before .before .before .before .before .before .before .before .before .before .before .before .before .before .before .before .before .before .before .before .before .before .before .before .before .before .before .before .before .before .before .before .before .before .before .before .before) in
     let a = s .args in
-    sym (length-take-le (a .len) (c .before .before .before .before .before .before .before .before .before .before .before .before .before .before .before .before .before .before .before .before .before .before .lay-basis .last .1 .1 .1 .1 .0) (omega (arith, passed (c .before .before .before .before .before .before .before .before .before .before .before .before .before .before .before .before .before .before .before .before .before .before .before .before .before .before .before .before .before .before .before .before .before .before .before .before) .order-long, (c .before .before .before .before .before .before .before .before .before .before .before .before .before .before .before .before .before .before .before .before .before .before .lay-basis .kept .1 .1 .1 .1 .0))))
+    sym (length-take-le (a .len) (c .before .before .before .before .before .before .before .before .before .before .before .before .before .before .before .before .before .before .before .before .before .before .lay-basis .last .1 .1 .1 .1 .0) (omega (arith, passed (c .before .before .before .before .before .before .before .before .before .before .before .before .before .before .before .before .before .before .before .before .before .before .before .before .before .before .before .before .before .before .before .before .before .before .before .before .before) .order-long, (c .before .before .before .before .before .before .before .before .before .before .before .before .before .before .before .before .before .before .before .before .before .before .lay-basis .kept .1 .1 .1 .1 .0))))
 
 run-and-clear-requires : tie.Need-run-and-clear-requires
 run-and-clear-requires c κs =
-    let s = start-of (c .before .before .before .before .before .before .before .before .before .before .before .before .before .before .before .before .before .before .before .before .before .before .before .before .before .before .before .before .before .before .before .before .before .before .before .before .before .before .before .before .before .before .before .before .before) in
+    let s = start-of (c .before .before .before .before .before .before .before .before .before .before .before .before .before .before .before .before .before .before .before .before .before .before .before .before .before .before .before .before .before .before .before .before .before .before .before .before .before .before .before .before .before .before .before .before .before .before) in
     let a = s .args in
-    let p = passed (c .before .before .before .before .before .before .before .before .before .before .before .before .before .before .before .before .before .before .before .before .before .before .before .before .before .before .before .before .before .before .before .before .before .before .before .before .before .before .before .before .before .before .before .before .before) in
+    let p = passed (c .before .before .before .before .before .before .before .before .before .before .before .before .before .before .before .before .before .before .before .before .before .before .before .before .before .before .before .before .before .before .before .before .before .before .before .before .before .before .before .before .before .before .before .before .before .before) in
     let q = c .before .before .before .before .before .before .before .before .before .before .before .before .before .before .before .before .before .before .before .before .before .before .before .before .before .before .before .before .before .before .before .before .before .before .before .before .before .before .before .before .before .index-model in
-    let l = c .before .before .before .before .before .before .before .before .before .before .before .before .before .before .before .before .before .before .before .before .before .before .before .before .before .before .before .before .before .before .before .lay-basis .ensures in (
-      model-ready (a .m) (stored s) (lent s) (work s) p _ _ (q .ensures (stored s) refl refl refl refl) (q .kept .0) (q .kept .1 .0),
-      (basis-ready (a .m) (stored s) (lent s) (work s) p _ _ _ _ _ l, order-below (a .m) (stored s) (lent s) (work s) p _ _ _ _ _ l),
+    let l = c .before .before .before .before .before .before .before .before .before .before .before .before .before .before .before .before .before .before .before .before .before .before .before .before .before .before .before .before .before .before .before .lay-basis .ensures in
+    let e = c .before .before .before .before .before .before .before .before .before .before .before .before .before .before .before .before .before .before .before .before .before .before .before .before .before .before .before .before .before .before .before .before .before .before .before .before .before .before .before .before .before .before .before .before .where-any .ensures in
+    let order : List ℕ = c .before .before .before .before .before .before .before .before .before .before .before .before .before .before .before .before .before .before .before .before .before .before .before .before .before .before .before .before .before .before .before .lay-basis .last .1 .1 .1 .1 .0 in
+    let word-of : 0 < length (take (a .len) order) → 0 < a .len = some-word (a .len) order in (
+      (λ h. let w = word-of h in model-ready (a .m) (stored s) (lent s) (work s) p w _ _ (q .ensures w (stored s) refl refl refl refl) (q .kept .0) (q .kept .1 .0)),
+      (λ h. let w = word-of h in (basis-ready (a .m) (stored s) (lent s) (work s) p _ _ _ _ _ l w e, order-below (a .m) (stored s) (lent s) (work s) p _ _ _ _ _ l w)),
     )
 
 list-candidates-requires : tie.Need-list-candidates-requires
@@ -250,6 +252,7 @@ leakage-with-prune-spec =
     (λ c. search needs)
     returns
     (λ c. search needs)
+    (λ c κs. search needs)
     (λ c κs. search needs)
     index-model-requires
     lay-basis-requires

@@ -3,7 +3,7 @@
 
 -- `columns::fill_columns` meets its contract: before each word, raws and diagonals of those before it. Assumes nothing.
 use mathlib.Core.Path.{_≡_, refl, ap, _∙_}
-use Prim.Native.Nat.{_-_}
+use Prim.Native.Nat.{_-_, _<_}
 use native.Mathlib.Omega.{arith}
 use lib.ListN.{length, take, length-set}
 use Rattle.word.specs.Flat.{words}
@@ -38,13 +38,14 @@ put-rules-near-requires c κs =
     let s = c .before .before .before .before .before .before .before .before .before .before .before .before .before .before .before .before .before .before .before .before in
     let a = s .args in
     let l = c .before .before .before .before .before .loop in
-    let h = s .pre in (
+    let h = s .pre in
+    let w : 0 < a .len = omega (arith, c .before .before .before .before .loop-test .taken) in (
       empty-room (a .room) (l .work-words) (l .work-sums) (omega (arith, h .work-words, l .inv .2)) (omega (arith, h .work-sums, l .inv .3)),
       h .tested,
-      h .indexed,
-      h .h-rows,
-      h .j-rows,
-      omega (arith, h .row, l .inv .1),
+      h .indexed w,
+      h .h-rows w,
+      h .j-rows w,
+      omega (arith, h .row w, l .inv .1),
       word-inside (a .words .now) (a .m .qubits) (a .len) (h .inside) (l .k) (c .before .before .before .before .loop-test .taken) (c .before .before .before .word-at .ensures),
     )
 

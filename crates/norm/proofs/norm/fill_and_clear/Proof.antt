@@ -23,7 +23,7 @@ index-model-requires c κs =
     let t : Tables = tables (a .h-words .now) (a .h-coeffs .now) (a .jumps .now) (a .rates .now) (a .t-words .now) (a .t-numbers .now) in
     let h = norm-passed (a .m) t (a .words .now) (a .len) (length (a .h-index .now)) (length (a .j-index .now)) (length (a .mask .now)) (length (a .raws .now)) (length (a .diags .now)) (s .pre) in
     let k = tested-stands (a .m) t (h .model) in
-    (h .h-long, h .j-long, k .few-reals, k .few-jumps, k .h-words-room, k .jumps-room, k .rates-room, k .t-words-room, k .fits)
+    λ w. (h .h-long w, h .j-long w, k .few-reals, k .few-jumps, k .h-words-room, k .jumps-room, k .rates-room, k .t-words-room, k .fits)
 
 fill-columns-requires : tie.Need-fill-columns-requires
 fill-columns-requires c κs =
@@ -35,9 +35,9 @@ fill-columns-requires c κs =
     let e = c .before .before .before .before .before .before .before .smaller .ensures in
     record {
       tested = h .model;
-      indexed = q .ensures t refl refl refl refl;
-      h-rows = omega (arith, h .h-long, q .kept .0);
-      j-rows = omega (arith, h .j-long, q .kept .1 .0);
+      indexed = λ w. q .ensures w t refl refl refl refl;
+      h-rows = λ w. omega (arith, h .h-long w, q .kept .0);
+      j-rows = λ w. omega (arith, h .j-long w, q .kept .1 .0);
       row = h .mask-long;
       work-words = omega (arith, e);
       work-sums = omega (arith, e);

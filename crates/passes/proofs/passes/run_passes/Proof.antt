@@ -75,10 +75,11 @@ take-pass-requires c κs =
     let s = start-of (c .before .before .before .before .before .before .before .before .before .before .before .before .before .before) in
     let a = s .args in
     let l = c .before .before .before .before .before .before .before .before .before .before .before .before .before .before .loop in
-    let i = l .inv in (
-      ready-still (a .m) (tables (a .h-words .now) (a .h-coeffs .now) (a .jumps .now) (a .rates .now) (a .t-words .now) (a .t-numbers .now)) (a .h-index .now) (a .j-index .now) (a .mask .now) (l .mask) (s .pre .0) (i .2),
+    let i = l .inv in
+    let w : 0 < length (a .positions .now) = omega (arith, c .before .before .before .before .before .before .before .before .before .before .before .before .before .loop-test .taken) in (
+      ready-still (a .m) (tables (a .h-words .now) (a .h-coeffs .now) (a .jumps .now) (a .rates .now) (a .t-words .now) (a .t-numbers .now)) (a .h-index .now) (a .j-index .now) (a .mask .now) (l .mask) (s .pre .0 w) (i .2),
       (
-        (s .pre .1 .0 .0, all-take (λ x. x < length (a .coeffs .now)) (c .before .before .before .before .before .before .before .before .before .before .before .before .smaller .result - l .from) (drop (l .from) (a .positions .now)) (all-drop (λ x. x < length (a .coeffs .now)) (l .from) (a .positions .now) (s .pre .1 .0 .1))),
+        (s .pre .1 .0 w .0, all-take (λ x. x < length (a .coeffs .now)) (c .before .before .before .before .before .before .before .before .before .before .before .before .smaller .result - l .from) (drop (l .from) (a .positions .now)) (all-drop (λ x. x < length (a .coeffs .now)) (l .from) (a .positions .now) (s .pre .1 .0 w .1))),
         (
           action-room-still (a .sum-room) (a .work-words .now) (l .work-words) (a .work-sums .now) (l .work-sums) (a .log-words .now) (l .log-words) (a .log-values .now) (l .log-values) (a .order .now) (l .order) (a .work .now) (l .work) (s .pre .1 .1 .0) (i .3) (i .4) (i .5) (i .6) (i .9) (i .10),
           (
