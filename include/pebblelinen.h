@@ -115,8 +115,15 @@ bool pebblelinen_same_word(pebblelinen_word p, pebblelinen_word q);
 /* Whether some qubit has a letter other than I in both words. */
 bool pebblelinen_shares_qubit(pebblelinen_word p, pebblelinen_word q);
 
-/* Whether the word has no letter other than I at or above qubit n_qubits. Any n_qubits is taken. */
-bool pebblelinen_fits_register(pebblelinen_word word, size_t n_qubits);
+/* Whether a word fits a register. Where the status is a refusal, fits is false. */
+typedef struct {
+    pebblelinen_status status;
+    bool fits;
+} pebblelinen_fitting;
+
+/* Whether the word has no letter other than I at or above qubit n_qubits.
+ * Refusals: 1. */
+pebblelinen_fitting pebblelinen_fits_register(pebblelinen_word word, size_t n_qubits);
 
 /* ---- Models ----
  *
@@ -704,15 +711,28 @@ pebblelinen_listed pebblelinen_build_csr(
     uint32_t *columns, size_t columns_len, double *values, size_t values_len);
 
 /* Where a row's entries stand in the columns and values of a matrix by rows: from start to before
- * end. */
+ * end. Where the status is a refusal, both are 0. */
 typedef struct {
+    pebblelinen_status status;
     size_t start;
     size_t end;
 } pebblelinen_row;
 
-/* The places of a row, start and end from the offsets; start = end = 0 where there is no such row, or
- * where its offsets do not lie inside so many columns. Nothing is refused. */
-pebblelinen_row pebblelinen_csr_row(const uint64_t *offsets, size_t offsets_len,
+/* The places of a row of a matrix by rows, start and end from the offsets.
+ *
+ *   rows              the number of rows and of columns
+ *   offsets, columns  the matrix; offsets of rows + 1 places
+ *
+ * Refusals, in this order:
+ *
+ *    8  (rows): more than 65,536 rows
+ *    9  (rows + 1, places of offsets) where the two are not equal
+ *    7  (place): in offsets, then in columns, as pebblelinen_dot has it; (row) where row is not below
+ *       rows
+ *
+ * All offsets and columns are tested in every call. Where they were accepted once and stay as they
+ * are, row r stands from offsets[r] to before offsets[r + 1]. */
+pebblelinen_row pebblelinen_csr_row(size_t rows, const uint64_t *offsets, size_t offsets_len,
                                     const uint32_t *columns, size_t columns_len, size_t row);
 
 /* The product of a matrix by rows with a vector. The sum of row r starts at 0 and adds, entry by

@@ -326,12 +326,13 @@ static void call_algebra(void) {
         pebblelinen_compare_words(p, q) != -pebblelinen_compare_words(q, p) ||
         (!pebblelinen_shares_qubit(p, q) && odd))
         wrong("words do not agree with each other", 0);
-    (void)pebblelinen_fits_register(p, odd_count());
     (void)pebblelinen_model_sizes(odd_count(), odd_count(), odd_count());
     (void)pebblelinen_matrix_sizes(odd_count(), odd_count());
     (void)pebblelinen_basis_sizes(odd_count(), odd_count(), odd_count());
     (void)pebblelinen_leakage_sizes(odd_count(), odd_count(), odd_count(), odd_count(), odd_count());
-    check((pebblelinen_status){0, 0, 0});
+    pebblelinen_fitting fitting = pebblelinen_fits_register(p, odd_count());
+    if (fitting.status.refusal && fitting.fits) wrong("a word fits a register that was refused", 0);
+    check(fitting.status);
 }
 
 static void call_build(void) {
@@ -507,8 +508,9 @@ static void call_dot(void) {
     Slice input = some_numbers(rows, READ), output = some_numbers(rows, CHANGED), work = make(rows, 8, WORK);
     lend(&o), lend(&c), lend(&v), lend(&input), lend(&output), lend(&work);
     damage((size_t *[]){&rows}, 1, NULL, 0);
-    pebblelinen_row row = pebblelinen_csr_row(P(o), P(c), chance(50) ? below(rows + 2) : odd_count());
+    pebblelinen_row row = pebblelinen_csr_row(rows, P(o), P(c), chance(50) ? below(rows + 2) : odd_count());
     if (row.start > row.end || row.end > c.len) wrong("a row is outside the columns", 0);
+    if (row.status.refusal && row.end) wrong("a row that was refused has places", 0);
     check(pebblelinen_dot(rows, P(o), P(c), P(v), P(input), chance(50), P(output), P(work)));
 }
 

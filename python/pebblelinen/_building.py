@@ -52,13 +52,13 @@ def jumps_of(given, n, path=("jumps",)):
 
 
 def matrices_of(given, n, path=("matrices",)):
-    """(operators, K) of each matrix; K is flat."""
+    """(operators, K, lengths of K's rows) of each matrix; K is flat."""
     found = []
     for i, (operators, k) in enumerate(_given.pairs(_listed_only(given, "matrices", path), "matrix", path)):
         where = (*path, i, "operators")
         listed = _given.listed(_listed_only(operators, "operators", where), "operators", where)
         terms = [operator_of(operator, n, (*where, j)) for j, operator in enumerate(listed)]
-        found.append((terms, entries_of(k, len(terms), (*path, i, "k"))))
+        found.append((terms, *entries_of(k, len(terms), (*path, i, "k"))))
     return found
 
 
@@ -87,8 +87,8 @@ def operator_of(given, n, path):
 
 
 def entries_of(given, k, path):
-    """The entries of K, row by row. As many rows as operators are asked for, of as many entries each: the
-    library sees only how many entries there are, and judges that."""
+    """The entries of K, row by row, and how many each row has. As many rows as operators are asked for, of as
+    many entries each: the library sees only how many entries there are, and judges that."""
     if isinstance(given, np.ndarray) and given.dtype.kind in "fciu":
         given = given.tolist()
     rows = [_given.listed(row, "a row of K", (*path, i)) for i, row in enumerate(_given.listed(given, "K", path))]
@@ -97,10 +97,19 @@ def entries_of(given, k, path):
         for i, row in enumerate(rows)
         for j, x in enumerate(row)
     ]
-    if len(entries) == k * k and any(len(row) != k for row in rows):
-        lengths = ", ".join(str(len(row)) for row in rows)
-        raise InputError(f"K has rows of {lengths} entries: {k} rows of {k} are needed", path)
-    return entries
+    lengths = [len(row) for row in rows]
+    if len(entries) == k * k and lengths != [k] * k:
+        raise InputError(f"K has {_rows_said(lengths)}: {k} rows of {k} are needed", path)
+    return entries, lengths
+
+
+def _rows_said(lengths):
+    """The rows of K, in few words, however many they are."""
+    if len(set(lengths)) < 2:
+        each = f" of {lengths[0]}" if lengths else ""
+        return _given.counted(len(lengths), "row") + each
+    more = ", .." if len(lengths) > 8 else ""
+    return f"rows of {', '.join(map(str, lengths[:8]))}{more}"
 
 
 def flat(operators):
@@ -184,11 +193,16 @@ def trimmed(tables, counts):
 # ---- refusals ----
 
 
-def model_refusal(status, n, hamiltonian, jumps):
+def model_refusal(status, n, hamiltonian, jumps, tables):
     """The refusal of building."""
     number, first = status.refusal, status.first
     if number == 1:
         return words.text_refusal(status, "", n, ("n",))
+    if number == 9:
+        longest = max((len(terms) for _, terms in jumps), default=0)
+        sizes = _library.call("model_sizes", len(hamiltonian), len(jumps), longest)
+        needs = dict(h_words=len(hamiltonian), h_coeffs=len(hamiltonian), jumps=len(jumps), rates=len(jumps))
+        return _short_table(status, "the model", needs, tables, sizes, {}, ())
     if number == 8:
         for what, items in ("hamiltonian", hamiltonian), ("jumps", jumps):
             if len(items) > _LIMITS[what]:
@@ -220,14 +234,20 @@ def _jump_refusal(status, n, i, rate, terms):
     return _operator_refusal(status, n, what, terms, values, (*path, "operator"))
 
 
-def matrix_refusal(status, n, i, operators, entries):
-    """The refusal of matrix i."""
+def matrix_refusal(status, n, i, before, operators, entries, rows, tables):
+    """The refusal of matrix i, which was added to `before` jumps and pairs."""
     number, first, second = status.refusal, status.first, status.second
     what, values, path = f"matrix {i}", {"matrix": i}, ("matrices", i)
     k = len(operators)
+    if number == 9 and len(entries) != k * k:
+        given = f"{_given.counted(second, 'entry', 'entries')} in K ({_rows_said(rows)})"
+        needed = f"{first} for {_given.counted(k, 'operator')} ({_rows_said([k] * k)})"
+        values |= {"needed": first, "given": second}
+        return Refusal(9, f"{what} has {given}, in place of {needed}", values, (*path, "k"))
     if number == 9:
-        said = f"{what} has {second} entries in K, and its {k} operators need {first}"
-        return Refusal(9, said, values | {"needed": first, "given": second}, (*path, "k"))
+        sizes = _library.call("matrix_sizes", k, max((len(terms) for terms in operators), default=0))
+        needs = dict.fromkeys(("jumps", "rates"), min(_LIMITS["jumps"], before + k * (k + 1) // 2))
+        return _short_table(status, what, needs, tables, sizes, values, path)
     if number == 10:
         said = f"{what}: K[{first}][{second}] is not the conjugate of K[{second}][{first}]"
         return Refusal(10, said, values | {"row": first, "column": second}, (*path, "k", first, second))
@@ -273,6 +293,19 @@ def _operator_refusal(status, n, what, terms, values, path):
 def _text_refusal(status, word, n, what, values, path):
     found = words.text_refusal(status, word, n, path)
     return Refusal(found.number, f"{what}: {found.said}", values | found.values, path)
+
+
+def _short_table(status, what, needs, tables, sizes, values, path):
+    """A table that was lent too short: nothing that was given is to blame. Tables with a place for each item
+    are tested in the order of TABLES, then the work tables, whose needs the library alone knows."""
+    first, second = status.first, status.second
+    lent = [(name, len(tables[name]) // _EACH[name]) for name, need in needs.items() if need == first]
+    work = dict(work_words=sizes.work_words // 4, work_numbers=sizes.work_numbers // 2)
+    lent += [(name, places) for name, places in work.items() if places < first]
+    name = next((name for name, places in lent if places == second), "a table")
+    lent = f"{_given.counted(second, 'place')} in {name}, in place of {first}"
+    said = f"{what} was lent {lent}: nothing that was given is to blame"
+    return Refusal(9, said, values | {"needed": first, "given": second}, path)
 
 
 def _count(count, what, of, values, path):

@@ -24,6 +24,7 @@ def _sizes(name, fields):
 Status = _struct("Status", refusal=c_uint64, first=c_uint64, second=c_uint64)
 Word = _struct("Word", x=c_uint64 * 2, z=c_uint64 * 2)
 Parsed = _struct("Parsed", status=Status, word=Word)
+Fitting = _struct("Fitting", status=Status, fits=c_bool)
 Phased = _struct("Phased", word=Word, phase=c_uint32)
 Commutator = _struct("Commutator", word=Word, eps=c_double)
 Model = _sizes("Model", "qubits hamiltonian jumps terms")
@@ -51,7 +52,7 @@ GeneratorLengths = _sizes(
     "GeneratorLengths",
     "h_index j_index mask heads nexts work_words work_sums stage_rows stage_columns stage_values",
 )
-Row = _sizes("Row", "start end")
+Row = _struct("Row", status=Status, start=c_size_t, end=c_size_t)
 Degree = _struct("Degree", m=c_uint32, s=c_uint32)
 Normed = _struct("Normed", status=Status, mu=c_double, norm=c_double)
 Partition = _struct(
@@ -76,7 +77,7 @@ _FUNCTIONS = {
     "comm_product": (Commutator, [Word, Word]),
     "compare_words": (c_int32, [Word, Word]),
     "shares_qubit": (c_bool, [Word, Word]),
-    "fits_register": (c_bool, [Word, c_size_t]),
+    "fits_register": (Fitting, [Word, c_size_t]),
     "model_sizes": (Sizes, [c_size_t] * 3),
     "matrix_sizes": (Sizes, [c_size_t] * 2),
     "build_model": (Built, [*slices(6), c_size_t, *slices(8)]),
@@ -97,7 +98,7 @@ _FUNCTIONS = {
     "generator_sizes": (GeneratorLengths, [c_size_t] * 4),
     "generator": (Listed, [*_LENT_MODEL, *slices(1), c_size_t, *slices(10), *slices(3)]),
     "build_csr": (Listed, [*_LENT_MODEL, *slices(1), c_size_t, *slices(10), *slices(3)]),
-    "csr_row": (Row, [*slices(2), c_size_t]),
+    "csr_row": (Row, [c_size_t, *slices(2), c_size_t]),
     "dot": (Status, [c_size_t, *slices(4), c_bool, *slices(2)]),
     "select_ms": (Degree, [c_double, c_double]),
     "norm": (Normed, [*_LENT_MODEL, *slices(1), c_size_t, *slices(7)]),

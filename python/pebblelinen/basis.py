@@ -311,7 +311,7 @@ def _outside(place, basis, others):
     that was found."""
     if place < len(basis):
         word = basis.entry(position=place).word
-        if not _library.call("fits_register", word.struct(), basis.n):
+        if not _library.call("fits_register", word.struct(), basis.n).fits:
             said = f"basis word at position {place} has a bit at or above qubit {basis.n}: {word.by_site}"
             return Refusal(11, said, {"position": Position(place), "qubits": basis.n})
     said = f"the {others} word in place {place} has a bit at or above qubit {basis.n}"

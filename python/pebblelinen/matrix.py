@@ -4,6 +4,7 @@
 
 Columns and values of a matrix are the arrays that the library wrote; scipy counts with sign, and every
 place here is below 2^31, so the same bytes serve both."""
+import weakref
 from typing import NamedTuple
 
 import numpy as np
@@ -67,13 +68,56 @@ def product(matrix, vector, *, out: np.ndarray | None = None, add: bool = False)
 
 def row(matrix, *, position: Position | int) -> tuple[np.ndarray, np.ndarray]:
     """The row of a CSR matrix at a position: its columns, which are positions, and its values, as parts
-    of the matrix' arrays."""
+    of the matrix' arrays. The matrix is tested whole where its first row is read, and then row by row."""
     p = int(Position(position))
-    offsets, columns, values = _parts(matrix)
-    if p >= matrix.shape[0]:
-        raise InputError(f"position {p} is outside the matrix of {matrix.shape[0]} rows")
-    found = _library.call("csr_row", offsets, columns, p)
-    return columns[found.start : found.end], values[found.start : found.end]
+    _check_matrix(matrix)
+    places = _row_of_accepted(matrix, p)
+    if places is None:
+        places = _row(matrix, p)
+    start, end = places
+    columns, values = matrix.indices[start:end], matrix.data[start:end]
+    return _columns(columns), _given.numbers(values, "the values of the matrix")
+
+
+def _row(matrix, p):
+    """Where a row stands, as the library says."""
+    rows = matrix.shape[0]
+    offsets, columns, _ = _parts(matrix)
+    found = _library.call("csr_row", rows, offsets, columns, p)
+    if found.status.refusal:
+        raise _row_refusal(found.status, rows, offsets, columns, p)
+    _accept(matrix)
+    return found.start, found.end
+
+
+def _row_of_accepted(matrix, p):
+    """The same for a row of a matrix that the library accepted: the library would test all its columns for each
+    row. A row that was changed since is left to the library."""
+    rows, indptr, indices = matrix.shape[0], matrix.indptr, matrix.indices
+    if p >= rows or not _is_accepted(matrix):
+        return None
+    start, end = int(indptr[p]), int(indptr[p + 1])
+    if not 0 <= start <= end <= len(indices):
+        return None
+    columns = indices[start:end]
+    if columns.size and (columns[0] < 0 or columns[-1] >= rows or (columns[1:] <= columns[:-1]).any()):
+        return None
+    return start, end
+
+
+# Of each matrix that was accepted: its arrays and its rows, by the columns, and no longer than these are there.
+_accepted = {}
+
+
+def _accept(matrix):
+    key = id(matrix.indices)
+    columns = weakref.ref(matrix.indices, lambda _: _accepted.pop(key, None))
+    _accepted[key] = columns, weakref.ref(matrix.indptr), matrix.shape[0]
+
+
+def _is_accepted(matrix):
+    columns, offsets, rows = _accepted.get(id(matrix.indices), (lambda: None, lambda: None, 0))
+    return columns() is matrix.indices and offsets() is matrix.indptr and rows == matrix.shape[0]
 
 
 def select_ms(t: float, drop_tol: float = 0.0) -> Choice:
@@ -82,9 +126,7 @@ def select_ms(t: float, drop_tol: float = 0.0) -> Choice:
     return Choice(degree.m, degree.s)
 
 
-def _parts(matrix):
-    """Offsets, columns and values of a CSR matrix as the library takes them. What it cannot count, it is
-    given as what it refuses."""
+def _check_matrix(matrix):
     from scipy.sparse import isspmatrix_csr
 
     if not isspmatrix_csr(matrix):
@@ -94,14 +136,22 @@ def _parts(matrix):
     for places in matrix.indptr, matrix.indices:
         if not isinstance(places, np.ndarray) or places.dtype.kind not in "iu" or places.ndim != 1:
             raise InputError("indptr and indices of the matrix are to be lists of whole numbers")
-    columns = np.require(matrix.indices, requirements=["C", "A"])
-    if columns.dtype == np.int32:
-        columns = columns.view(np.uint32)
-    else:
-        outside = (columns < 0) | (columns > _NO_COLUMN)
-        columns = np.where(outside, _NO_COLUMN, columns).astype(np.uint32)
+
+
+def _parts(matrix):
+    """Offsets, columns and values of a CSR matrix as the library takes them. What it cannot count, it is
+    given as what it refuses."""
+    _check_matrix(matrix)
     offsets = matrix.indptr.astype(np.int64).view(np.uint64)
-    return offsets, columns, _given.numbers(matrix.data, "the values of the matrix")
+    return offsets, _columns(matrix.indices), _given.numbers(matrix.data, "the values of the matrix")
+
+
+def _columns(indices):
+    columns = np.require(indices, requirements=["C", "A"])
+    if columns.dtype == np.int32:
+        return columns.view(np.uint32)
+    outside = (columns < 0) | (columns > _NO_COLUMN)
+    return np.where(outside, _NO_COLUMN, columns).astype(np.uint32)
 
 
 def _check_out(out, read):
@@ -117,30 +167,46 @@ def _check_out(out, read):
 
 
 def _product_refusal(status, rows, offsets, columns, values, vector, out, add):
+    if status.refusal == 14:
+        said = f"the product's sum at position {status.first} is not finite"
+        return Refusal(14, said, {"position": Position(status.first)})
+    lengths = {
+        "offsets": (rows + 1, len(offsets)),
+        "values": (len(columns), len(values)),
+        "entries of the vector": (rows, len(vector)),
+        "places in out": (rows, len(out)),
+    }
+    tables = _wrong_table(rows, offsets, columns), _not_finite(values, vector)
+    return _matrix_refusal(status, lengths, next(filter(None, tables), "out"))
+
+
+def _row_refusal(status, rows, offsets, columns, p):
+    table = _wrong_table(rows, offsets, columns)
+    if status.refusal == 7 and table is None:
+        said = f"position {p} is outside the matrix of {_given.counted(rows, 'row')}"
+        return Refusal(7, said, {"position": Position(p)})
+    return _matrix_refusal(status, {"offsets": (rows + 1, len(offsets))}, table)
+
+
+def _matrix_refusal(status, lengths, table):
+    """Of a matrix with other tables: lengths are those that the library compares, needed and given, and table is
+    the first one that holds what it must not."""
     number, first, second = status.refusal, status.first, status.second
     if number == 8:
         said = f"the matrix has {first} rows: at most {_MAX_ROWS}"
         return Refusal(8, said, {"count": first, "limit": _MAX_ROWS})
     if number == 9:
-        lengths = {
-            "offsets": (rows + 1, len(offsets)),
-            "values": (len(columns), len(values)),
-            "entries of the vector": (rows, len(vector)),
-            "places in out": (rows, len(out)),
-        }
         what = next((what for what, pair in lengths.items() if pair == (first, second)), "places")
         return Refusal(9, f"{second} {what}: {first} are needed", {"needed": first, "given": second})
-    if number == 7:
-        table = _table_at(first, rows, offsets, columns, values, vector)
-        said = f"place {first} of the {table} holds what it must not"
-        return Refusal(7, said, {"table": table, "place": first})
-    said = f"the product's sum at position {first} is not finite"
-    return Refusal(number, said, {"position": Position(first)})
+    said = f"place {first} of the {table} holds what it must not"
+    return Refusal(number, said, {"table": table, "place": first})
 
 
-def _table_at(place, rows, offsets, columns, values, vector):
-    """The table that a number out of range is in: tables are tested one after another."""
+def _wrong_table(rows, offsets, columns):
+    """Offsets or columns, where a number in them is out of range: offsets are tested first."""
     ends = offsets.view(np.int64)
+    if len(ends) != rows + 1:
+        return None
     if ends[0] != 0 or (np.diff(ends) < 0).any() or ends[-1] != len(columns):
         return "offsets"
     starts = np.zeros(len(columns) + 1, bool)
@@ -148,7 +214,12 @@ def _table_at(place, rows, offsets, columns, values, vector):
     rising = np.diff(columns.astype(np.int64)) > 0
     if (columns >= rows).any() or not (rising | starts[1 : len(columns)]).all():
         return "columns"
+    return None
+
+
+def _not_finite(values, vector):
+    """The first of the two with a number that is not finite."""
     for table, what in (values, "values"), (vector, "vector"):
         if not np.isfinite(table).all():
             return what
-    return "out"
+    return None

@@ -51,12 +51,13 @@ class Model:
 
         built, tables = _building.build(n, hamiltonian, jumps)
         if built.status.refusal:
-            raise _building.model_refusal(built.status, n, hamiltonian, jumps)
+            raise _building.model_refusal(built.status, n, hamiltonian, jumps, tables)
         counts = built.model
-        for i, (operators, entries) in enumerate(matrices):
+        for i, (operators, entries, rows) in enumerate(matrices):
             added, tables = _building.add_matrix(counts, tables, operators, entries)
             if added.status.refusal:
-                raise _building.matrix_refusal(added.status, n, i, operators, entries)
+                before = counts.jumps
+                raise _building.matrix_refusal(added.status, n, i, before, operators, entries, rows, tables)
             counts = added.model
 
         self.n = n

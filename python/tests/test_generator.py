@@ -143,7 +143,6 @@ class Products(unittest.TestCase):
             lambda: product(self.csr, self.vector, out=self.vector),
             lambda: product(self.csr, self.vector, out=self.vector[::-1]),
             lambda: product(same, self.vector, out=same.data[:30]),
-            lambda: row(self.csr, position=30),
             lambda: row(self.csr, position=-1),
             lambda: row(self.csr.tocoo(), position=0),
         ]:

@@ -137,7 +137,7 @@ class Models(Case):
             return lambda: Model(2, [], [], [(PAIR, [[1, 0], [0, 1]]), (operators, k)])
 
         path = ("matrices", 1)
-        said = "matrix 1 has 3 entries in K, and its 2 operators need 4"
+        said = "matrix 1 has 3 entries in K (1 row of 3), in place of 4 for 2 operators (2 rows of 2)"
         values = {"matrix": 1, "needed": 4, "given": 3}
         self.refused(9, values, said, model(PAIR, [[1, 2, 3]]), (*path, "k"))
         said = "matrix 1: K[0][1] is not the conjugate of K[1][0]"

@@ -17,7 +17,7 @@ use Rattle.model_laws.proofs.StandsLaws.{any-one}
 use Rattle.model.specs.Tested.{firstTo}
 use Rattle.model.proofs.Firsts.{NoneBefore, first-before, first-passes, first-here, first-none}
 use Rattle.csr.specs.Rows.{partOf}
-use Rattle.csr.specs.Products.{rowStarts, badColumn}
+use Rattle.csr.specs.Lent.{rowStarts, badColumn}
 use Rattle.csr.specs.Walks.{leastAt, misplaced, badPlace}
 use Rattle.csr.specs.declared.rows.Row.{Row}
 use Rattle.csr.proofs.RowLaws.{part-length, part-at}

@@ -36,7 +36,7 @@ beside-columns (c ∷ cs) [] e = absurd (omega arith)
 beside-columns (c ∷ cs) (v ∷ vs) e = ap (λ (t : List ℕ). c ∷ t) (beside-columns cs vs (omega arith))
 
 -- ---- rows
-module _ (rows : ℕ) (offsets columns : List ℕ) (values : List Float) (sized : length offsets ≡ rows + 1) (same : length values ≡ length columns) (R : Rising rows (length columns) offsets) where
+module _ (rows : ℕ) (offsets columns : List ℕ) (sized : length offsets ≡ rows + 1) (R : Rising rows (length columns) offsets) where
   abbrev offset : ℕ → ℕ
   offset k = getD offsets k 0
 
@@ -67,27 +67,28 @@ module _ (rows : ℕ) (offsets columns : List ℕ) (values : List Float) (sized 
     pub row-column : (k : ℕ) → k < wide → getD (rowOf offsets columns r) k 0 ≡ getD columns (offset r + k) 0
     row-column k m = ap (λ (l : List ℕ). getD l k 0) columns-are ∙ part-at here columns ordered within k 0 m
 
-    values-long : length (partOf (rowAt offsets (length columns) r) values) ≡ length (rowOf offsets columns r)
-    values-long =
-        let w = within in
-        ap (λ (w : Row). length (partOf w values)) row-stands ∙ part-length here values ordered (omega arith) ∙ sym row-length
+    module _ (values : List Float) (same : length values ≡ length columns) where
+      values-long : length (partOf (rowAt offsets (length columns) r) values) ≡ length (rowOf offsets columns r)
+      values-long =
+          let w = within in
+          ap (λ (w : Row). length (partOf w values)) row-stands ∙ part-length here values ordered (omega arith) ∙ sym row-length
 
-    -- its entries
-    pub entries-length : length (rowEntries offsets columns values r) ≡ wide
-    unfolding rowEntries
-    entries-length = beside-length (rowOf offsets columns r) (partOf (rowAt offsets (length columns) r) values) values-long ∙ row-length
+      -- its entries
+      pub entries-length : length (rowEntries offsets columns values r) ≡ wide
+      unfolding rowEntries
+      entries-length = beside-length (rowOf offsets columns r) (partOf (rowAt offsets (length columns) r) values) values-long ∙ row-length
 
-    pub entry-is : (k : ℕ) (d : RowEntry) → k < wide → getD (rowEntries offsets columns values r) k d ≡ record { column = getD columns (offset r + k) 0; value = getD values (offset r + k) nan }
-    unfolding rowEntries
-    entry-is k d m =
-        let l = row-length in
-        let w = within in
-        beside-at (rowOf offsets columns r) (partOf (rowAt offsets (length columns) r) values) k d values-long (omega arith)
-        ∙ rw (row-column k m, row-stands, part-at here values ordered (omega arith) k nan m)
+      pub entry-is : (k : ℕ) (d : RowEntry) → k < wide → getD (rowEntries offsets columns values r) k d ≡ record { column = getD columns (offset r + k) 0; value = getD values (offset r + k) nan }
+      unfolding rowEntries
+      entry-is k d m =
+          let l = row-length in
+          let w = within in
+          beside-at (rowOf offsets columns r) (partOf (rowAt offsets (length columns) r) values) k d values-long (omega arith)
+          ∙ rw (row-column k m, row-stands, part-at here values ordered (omega arith) k nan m)
 
-    pub entries-columns : map (λ (e : RowEntry). e .column) (rowEntries offsets columns values r) ≡ rowOf offsets columns r
-    unfolding rowEntries
-    entries-columns = beside-columns (rowOf offsets columns r) (partOf (rowAt offsets (length columns) r) values) values-long
+      pub entries-columns : map (λ (e : RowEntry). e .column) (rowEntries offsets columns values r) ≡ rowOf offsets columns r
+      unfolding rowEntries
+      entries-columns = beside-columns (rowOf offsets columns r) (partOf (rowAt offsets (length columns) r) values) values-long
 
   -- each entry stands in a row
   pub record InRow (e : ℕ) : Type 0 where

@@ -13,3 +13,4 @@ pub mod ColumnLaws
 pub mod PassLaws
 pub mod AnswerLaws
 pub mod CsrLaws
+pub mod ReadLaws

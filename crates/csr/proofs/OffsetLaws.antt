@@ -12,7 +12,7 @@ use borrow.Author.Tests.{eq-eqb, ne-eqb, lt-ltb, le-ltb, ltb-false, eqb-true, eq
 use lib.Dec.{eqb, ltb}
 use lib.ListN.{getD}
 use Rattle.model.proofs.Firsts.{NoneBefore}
-use Rattle.csr.specs.Products.{offsetFails, badOffset}
+use Rattle.csr.specs.Lent.{offsetFails, badOffset}
 
 -- ---- one offset, test by test
 module _ (rows count k before here : ℕ) where

@@ -20,7 +20,8 @@ use Rattle.rules.specs.Adds.{upTo}
 use Rattle.kernel.proofs.IndexLaws.{items-length, items-at}
 use Rattle.basis.specs.Tests.{notFinite}
 use Rattle.csr.specs.Rows.{partOf}
-use Rattle.csr.specs.Products.{beside, rowEntries, storedAt, product, badColumn}
+use Rattle.csr.specs.Lent.{badColumn}
+use Rattle.csr.specs.Products.{beside, rowEntries, storedAt, product}
 use Rattle.csr.specs.Walks.{badPlace, fullSum, notClear, Ready, rowPasses, fullAt, fullProduct, rowStops}
 use Rattle.csr.specs.declared.rows.Row.{Row}
 use Rattle.csr.proofs.RowLaws.{part-length, part-at}

@@ -2,6 +2,7 @@
 -- SPDX-License-Identifier: Apache-2.0
 
 -- What a lent matrix by rows means, and its product with a vector.
+pub mod Lent
 pub mod Rows
 pub mod Products
 pub mod Walks

@@ -2,23 +2,22 @@
 -- SPDX-License-Identifier: Apache-2.0
 
 -- The product of a lent matrix by rows with a vector: refusals in their order, the answer, and every lent table afterwards.
-use Prim.Native.Nat.{ℕ, _+_, _-_}
-use mathlib.Core.Bool.{Bool, not, _&&_, _||_, cond}
+use Prim.Native.Nat.{ℕ}
+use mathlib.Core.Bool.{Bool, cond}
 use mathlib.Core.List.{List, [], _∷_, map}
-use lib.Dec.{eqb, ltb, leb}
+use lib.Dec.{ltb}
 use lib.Ieee.{Float, nan, binary64, add, mul, eq}
 use lib.ListN.{getD, length, replicate}
 use Rattle.refusal.specs.declared.Refusal.{Refusal}
 use Rattle.refusal.specs.declared.Refusal.the-variants.{SumNotFinite}
 use Rattle.refusal.specs.declared.Answer.{Answer}
 use Rattle.refusal.specs.declared.Answer.the-variants.{Accepted, Refused}
-use Rattle.word.specs.Count.{anyTo}
 use Rattle.number.specs.Floats.{float0}
-use Rattle.model.specs.Tested.{counted, lent, firstTo, entries}
+use Rattle.model.specs.Tested.{lent, firstTo, entries}
 use Rattle.model.specs.Built.{equal}
 use Rattle.rules.specs.Adds.{upTo}
-use Rattle.action.specs.Counts.{maxWords}
 use Rattle.basis.specs.Tests.{notFinite}
+use Rattle.csr.specs.Lent.{rowsTests, placesTests}
 use Rattle.csr.specs.Rows.{rowAt, partOf, rowOf}
 
 -- ---- the sum of a row
@@ -50,22 +49,6 @@ module _ (input : List Float) where
   abbrev pub rowSum : List RowEntry → Float
   rowSum es = addEntries float0 es
 
--- ---- 7: what may stand in the tables
--- offsets: the first 0, none below the one before it, the last the count of entries
-unfoldable pub offsetFails : ℕ → ℕ → ℕ → ℕ → ℕ → Bool
-offsetFails rows count k before here = (eqb k 0 && ltb 0 here) || (ltb here before || (eqb k rows && not (eqb here count)))
-
-unfoldable pub badOffset : ℕ → ℕ → List ℕ → ℕ → Bool
-badOffset rows count offsets k = offsetFails rows count k (getD offsets (k - 1) 0) (getD offsets k 0)
-
--- does a row start at place k
-unfoldable pub rowStarts : List ℕ → ℕ → Bool
-rowStarts offsets k = anyTo (length offsets) (λ r. eqb (getD offsets r 0) k)
-
--- columns: below the count of rows, and above the one before it, unless a row starts there
-unfoldable pub badColumn : ℕ → List ℕ → List ℕ → ℕ → Bool
-badColumn rows offsets columns k = leb rows (getD columns k 0) || (leb (getD columns k 0) (getD columns (k - 1) 0) && not (rowStarts offsets k))
-
 -- ---- what a call answers, and the lent tables afterwards
 pub record Multiplying : Type 0 where
   pub answer : Answer
@@ -75,23 +58,21 @@ pub record Multiplying : Type 0 where
 -- 8, 9
 abbrev pub lengthTests : ℕ → List ℕ → List ℕ → List Float → List Float → List Float → List Float → Answer → Answer
 lengthTests rows offsets columns values input output work after =
-    counted maxWords rows
-    (equal (rows + 1) (length offsets)
+    rowsTests rows offsets
     (equal (length columns) (length values)
     (equal rows (length input)
     (equal rows (length output)
     (lent rows (length work)
-    after)))))
+    after))))
 
 module _ (rows : ℕ) (offsets columns : List ℕ) (values input : List Float) (overwrite : Bool) (output : List Float) where
   -- 7
   abbrev pub tableTests : Answer → Answer
   tableTests after =
-      entries (rows + 1) (badOffset rows (length columns) offsets)
-      (entries (length columns) (badColumn rows offsets columns)
+      placesTests rows offsets columns
       (entries (length values) (notFinite values)
       (entries rows (notFinite input)
-      (cond overwrite after (entries rows (notFinite output) after)))))
+      (cond overwrite after (entries rows (notFinite output) after))))
 
   -- what is to be stored at row r: its sum, or the sum added to what stands there
   unfoldable pub storedAt : ℕ → Float

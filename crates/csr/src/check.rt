@@ -1,13 +1,15 @@
 // SPDX-FileCopyrightText: 2026 The PPVM Authors
 // SPDX-License-Identifier: Apache-2.0
 
-// What a product asks of what it is lent: 8 and 9, and 7 with the place in its own table.
+// What a lent matrix by rows is asked, and what a product asks of all that it is lent: 8 and 9, and 7 with the
+// place in its own table.
 ghost use mathlib.Core.Path.{_≡_};
 ghost use Prim.Native.Nat.{_+_};
 ghost use lib.ListN.{length};
 ghost use Rattle.refusal.specs.declared.Answer.the-variants.{Accepted};
 ghost use Rattle.model.specs.Tested.{firstTo};
-ghost use Rattle.csr.specs.Products.{offsetFails, badOffset, badColumn, lengthTests, tableTests};
+ghost use Rattle.csr.specs.Lent.{offsetFails, badOffset, badColumn, rowsTests, placesTests};
+ghost use Rattle.csr.specs.Products.{lengthTests, tableTests};
 ghost use Rattle.csr.specs.Walks.{badPlace};
 use crate::rows::wide;
 use crate::sums::is_misplaced;
@@ -16,6 +18,19 @@ use basis::tests::first_not_finite;
 use model::lengths::mismatch;
 use refusal::Answer;
 use refusal::Refusal;
+
+// 8 and 9 of a lent matrix.
+pub fn check_rows(rows: usize, offsets: &[u64]) -> Answer
+    ensures { λ r. ⌜ r ≡ rowsTests rows (now (offsets .entry)) Accepted ⌝ }
+{
+    if MAX_WORDS < rows {
+        return Answer::Refused(Refusal::CountAboveLimit { count: rows });
+    }
+    if offsets.len() != rows + 1 {
+        return mismatch(rows + 1, offsets.len());
+    }
+    Answer::Accepted
+}
 
 pub fn check_lengths(
     rows: usize,
@@ -28,12 +43,10 @@ pub fn check_lengths(
 ) -> Answer
     ensures { λ r. ⌜ r ≡ lengthTests rows (now (offsets .entry)) (now (columns .entry)) (now (values .entry)) (now (input .entry)) (now (output .entry)) (now (work .entry)) Accepted ⌝ }
 {
-    if MAX_WORDS < rows {
-        return Answer::Refused(Refusal::CountAboveLimit { count: rows });
-    }
-    if offsets.len() != rows + 1 {
-        return mismatch(rows + 1, offsets.len());
-    }
+    let answer = check_rows(rows, offsets);
+    let Answer::Accepted = answer else {
+        return answer;
+    };
     if values.len() != columns.len() {
         return mismatch(columns.len(), values.len());
     }
@@ -117,6 +130,22 @@ fn first_bad_column(offsets: &[u64], columns: &[u32], rows: usize) -> usize
     columns.len()
 }
 
+// 7 of a lent matrix.
+pub fn check_places(rows: usize, offsets: &[u64], columns: &[u32]) -> Answer
+    requires { ⌜ length (now offsets) ≡ rows + 1 ⌝ }
+    ensures { λ r. ⌜ r ≡ placesTests rows (now (offsets .entry)) (now (columns .entry)) Accepted ⌝ }
+{
+    let offset = first_bad_offset(offsets, rows, columns.len());
+    if offset < rows + 1 {
+        return Answer::Refused(Refusal::NumberOutOfRange { index: offset });
+    }
+    let column = first_bad_column(offsets, columns, rows);
+    if column < columns.len() {
+        return Answer::Refused(Refusal::NumberOutOfRange { index: column });
+    }
+    Answer::Accepted
+}
+
 pub fn check_tables(
     rows: usize,
     offsets: &[u64],
@@ -129,14 +158,10 @@ pub fn check_tables(
     requires { ⌜ (length (now offsets) ≡ rows + 1) × (length (now input) ≡ rows) × (length (now output) ≡ rows) ⌝ }
     ensures { λ r. ⌜ r ≡ tableTests rows (now (offsets .entry)) (now (columns .entry)) (now (values .entry)) (now (input .entry)) overwrite (now (output .entry)) Accepted ⌝ }
 {
-    let offset = first_bad_offset(offsets, rows, columns.len());
-    if offset < rows + 1 {
-        return Answer::Refused(Refusal::NumberOutOfRange { index: offset });
-    }
-    let column = first_bad_column(offsets, columns, rows);
-    if column < columns.len() {
-        return Answer::Refused(Refusal::NumberOutOfRange { index: column });
-    }
+    let answer = check_places(rows, offsets, columns);
+    let Answer::Accepted = answer else {
+        return answer;
+    };
     let value = first_not_finite(values, values.len());
     if value < values.len() {
         return Answer::Refused(Refusal::NumberOutOfRange { index: value });

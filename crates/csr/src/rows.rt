@@ -6,7 +6,6 @@ ghost use mathlib.Core.Path.{_≡_};
 ghost use Rattle.csr.specs.Rows.{rowAt, rowOf};
 
 // Places of the columns and of the values, from start to before end.
-#[repr(C)]
 pub struct Row {
     pub start: usize,
     pub end: usize,

@@ -190,7 +190,7 @@ fn print_columns(columns: &[u32]) {
 
 // The columns of a row, as a part of all of them.
 fn print_row(offsets: &[u64], columns: &[u32], row: usize) {
-    let at = pebblelinen::products::pebblelinen_csr_row(offsets, columns, row);
+    let at = pebblelinen::products::pebblelinen_csr_row(4, offsets, columns, row);
     let start = at.start;
     let end = at.end;
     print::text(b"row ");

@@ -4,19 +4,24 @@
 -- Answers about words in plain numbers.
 use Prim.Native.Nat.{ℕ}
 use mathlib.Core.Path.{_≡_}
+use mathlib.Core.Bool.{false, not, cond}
 use mathlib.Core.List.{List}
+use lib.Dec.{ltb}
 use lib.IntN.{ℤ, pos, negsuc}
 use Rattle.refusal.specs.Cause.{statusOf, answerStatus}
+use Rattle.refusal.specs.declared.Refusal.the-variants.{TooManyQubits}
 use Rattle.refusal.specs.declared.Answer.the-variants.{Accepted}
 use Rattle.refusal.specs.declared.Status.{Status}
-use Rattle.word.specs.Word.{identity, unpack}
+use Rattle.word.specs.Word.{maxQubits, identity, unpack}
 use Rattle.word.specs.Codes.{writeAnswer, written}
+use Rattle.word.specs.Register.{reaches}
 use Rattle.word.specs.declared.word.Word.{Word}
 use Rattle.word.specs.declared.word.ParsedWord.{ParsedWord}
 use Rattle.word.specs.declared.word.ParsedWord.the-variants.{Parsed, Refused}
 use Rattle.word.specs.declared.word.Ordering.{Ordering}
 use Rattle.word.specs.declared.word.Ordering.the-variants.{Less, Equal, Greater}
 use Rattle.pebblelinen.specs.declared.words.Parsed as Answers
+use Rattle.pebblelinen.specs.declared.words.Fitting.{Fitting}
 
 -- the word that was read, or the refusal and the identity
 abbrev pub parsedOf : ParsedWord → Answers.Parsed
@@ -33,3 +38,9 @@ abbrev pub signOf : Ordering → ℤ
 signOf Less = negsuc 0
 signOf Equal = pos 0
 signOf Greater = pos 1
+
+-- 1; else whether the word has no bit at or above n
+unfoldable pub fittingOf : Word → ℕ → Fitting
+fittingOf w n =
+    cond (ltb maxQubits n) (record { status = statusOf (TooManyQubits n maxQubits); fits = false })
+    (record { status = answerStatus Accepted; fits = not (reaches w n) })

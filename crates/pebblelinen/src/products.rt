@@ -3,18 +3,51 @@
 
 // A lent matrix by rows: where a row stands, and its product with a vector.
 ghost use mathlib.Core.Path.{_≡_};
-ghost use lib.ListN.{length};
-ghost use Rattle.csr.specs.Rows.{rowAt};
+ghost use Rattle.csr.specs.Rows.{readRow};
 ghost use Rattle.csr.specs.Products.{multiply};
-ghost use Rattle.pebblelinen.specs.Products.{LeavesProduct};
-use csr::rows::Row;
+ghost use Rattle.pebblelinen.specs.Products.{foundOf, LeavesProduct};
+use csr::reader::RowRead;
 use refusal::Status;
 
-#[no_mangle]
-pub extern "C" fn pebblelinen_csr_row(offsets: &[u64], columns: &[u32], row: usize) -> Row
-    ensures { λ r. ⌜ r ≡ rowAt (now (offsets .entry)) (length (now (columns .entry))) row ⌝ }
+// Where a row stands; 0 and 0 where the status is a refusal.
+#[repr(C)]
+pub struct FoundRow {
+    pub status: Status,
+    pub start: usize,
+    pub end: usize,
+}
+
+fn found_of(answer: RowRead) -> FoundRow
+    ensures { λ r. ⌜ r ≡ foundOf answer ⌝ }
 {
-    csr::rows::row_bounds(offsets, columns.len(), row)
+    match answer {
+        RowRead::At(row) => FoundRow {
+            status: Status {
+                refusal: 0,
+                first: 0,
+                second: 0,
+            },
+            start: row.start,
+            end: row.end,
+        },
+        RowRead::Refused(refusal) => FoundRow {
+            status: refusal::status_of(refusal),
+            start: 0,
+            end: 0,
+        },
+    }
+}
+
+#[no_mangle]
+pub extern "C" fn pebblelinen_csr_row(
+    rows: usize,
+    offsets: &[u64],
+    columns: &[u32],
+    row: usize,
+) -> FoundRow
+    ensures { λ r. ⌜ r ≡ foundOf (readRow rows (now (offsets .entry)) (now (columns .entry)) row) ⌝ }
+{
+    found_of(csr::reader::read_row(rows, offsets, columns, row))
 }
 
 #[no_mangle]

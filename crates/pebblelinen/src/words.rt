@@ -3,18 +3,18 @@
 
 // Pauli words: texts, codes, products and order.
 ghost use mathlib.Core.Path.{_≡_};
-ghost use mathlib.Core.Bool.{not};
 ghost use Rattle.refusal.specs.Cause.{answerStatus};
 ghost use Rattle.word.specs.Text.{parse};
 ghost use Rattle.word.specs.Codes.{readCodes, writeAnswer, written};
 ghost use Rattle.word.specs.Product.{product, antiCommute, commutator};
 ghost use Rattle.word.specs.Order.{compare, same};
-ghost use Rattle.word.specs.Register.{reaches, share};
-ghost use Rattle.pebblelinen.specs.Words.{parsedOf, Writes, signOf};
+ghost use Rattle.word.specs.Register.{share};
+ghost use Rattle.pebblelinen.specs.Words.{parsedOf, Writes, signOf, fittingOf};
 use refusal::Refusal;
 use refusal::Status;
 use word::algebra::CommProduct;
 use word::algebra::Phased;
+use word::word::MAX_QUBITS;
 use word::word::Ordering;
 use word::word::ParsedWord;
 use word::word::Word;
@@ -113,9 +113,32 @@ pub extern "C" fn pebblelinen_shares_qubit(p: Word, q: Word) -> bool
     word::word::shares_qubit(p, q)
 }
 
+// Whether a word has no letter other than I at or above qubit n; false where the status is a refusal.
+#[repr(C)]
+pub struct Fitting {
+    pub status: Status,
+    pub fits: bool,
+}
+
 #[no_mangle]
-pub extern "C" fn pebblelinen_fits_register(word: Word, n_qubits: usize) -> bool
-    ensures { λ r. ⌜ r ≡ not (reaches word «n_qubits») ⌝ }
+pub extern "C" fn pebblelinen_fits_register(word: Word, n_qubits: usize) -> Fitting
+    ensures { λ r. ⌜ r ≡ fittingOf word «n_qubits» ⌝ }
 {
-    !word::word::reaches_beyond(word, n_qubits)
+    if MAX_QUBITS < n_qubits {
+        return Fitting {
+            status: refusal::status_of(Refusal::TooManyQubits {
+                got: n_qubits,
+                max: MAX_QUBITS,
+            }),
+            fits: false,
+        };
+    }
+    Fitting {
+        status: Status {
+            refusal: 0,
+            first: 0,
+            second: 0,
+        },
+        fits: !word::word::reaches_beyond(word, n_qubits),
+    }
 }

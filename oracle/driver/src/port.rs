@@ -62,6 +62,13 @@ pub struct Parsed {
 }
 
 #[repr(C)]
+#[derive(Clone, Copy, Debug, Default, PartialEq, Eq)]
+pub struct Fitting {
+    pub status: Status,
+    pub fits: bool,
+}
+
+#[repr(C)]
 #[derive(Clone, Copy, Debug, PartialEq, Eq)]
 pub struct Phased {
     pub word: Word,
@@ -98,7 +105,7 @@ unsafe extern "C" {
     safe fn pebblelinen_compare_words(p: Word, q: Word) -> i32;
     safe fn pebblelinen_same_word(p: Word, q: Word) -> bool;
     safe fn pebblelinen_shares_qubit(p: Word, q: Word) -> bool;
-    safe fn pebblelinen_fits_register(word: Word, n_qubits: usize) -> bool;
+    safe fn pebblelinen_fits_register(word: Word, n_qubits: usize) -> Fitting;
 }
 
 pub fn parse_pauli_string(text: &[u8], n_qubits: usize) -> Parsed {
@@ -141,6 +148,6 @@ pub fn shares_qubit(p: Word, q: Word) -> bool {
     pebblelinen_shares_qubit(p, q)
 }
 
-pub fn fits_register(word: Word, n_qubits: usize) -> bool {
+pub fn fits_register(word: Word, n_qubits: usize) -> Fitting {
     pebblelinen_fits_register(word, n_qubits)
 }

@@ -16,7 +16,7 @@ pub mod models;
 pub mod norms;
 pub mod products;
 
-use crate::port::{Commutator, Parsed, Phased, Status, Word};
+use crate::port::{Commutator, Fitting, Parsed, Phased, Status, Word};
 use std::cmp::Ordering;
 
 pub const MAX_QUBITS: usize = 128;
@@ -183,4 +183,17 @@ pub fn fits_register(word: Word, n_qubits: usize) -> bool {
         .iter()
         .skip(n_qubits)
         .all(|&letter| letter == b'I')
+}
+
+pub fn fitting(word: Word, n_qubits: usize) -> Fitting {
+    if n_qubits > MAX_QUBITS {
+        return Fitting {
+            status: refusal(1, n_qubits, MAX_QUBITS),
+            fits: false,
+        };
+    }
+    Fitting {
+        status: Status::default(),
+        fits: fits_register(word, n_qubits),
+    }
 }

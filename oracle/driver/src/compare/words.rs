@@ -8,7 +8,7 @@
 
 use super::{Answers, Tally};
 use crate::inputs::{self, Rng};
-use crate::port::{self, Status, Word};
+use crate::port::{self, Fitting, Status, Word};
 use crate::published::{self, RustWord, rust_word};
 use crate::rules::{self, MAX_QUBITS};
 use ppvm_lindblad::open;
@@ -190,8 +190,8 @@ fn pairs<A: PartialEq + Debug>(
     tally
 }
 
-/// Whether a word fits a register: whether the Rust finds all its qubits below the register. Words
-/// have the register of the next case, so that many miss by one qubit.
+/// Whether a word fits a register: whether the Rust, which refuses no register here, finds all its
+/// qubits below it. Words have the register of the next case, so that many miss by one qubit.
 fn registers(rng: &mut Rng, cases: usize) -> Tally {
     let mut tally = Tally::new("register");
     for case in 0..cases {
@@ -199,10 +199,14 @@ fn registers(rng: &mut Rng, cases: usize) -> Tally {
         let letters_below = inputs::register(rng, case + 1).min(MAX_QUBITS);
         let word = inputs::word(rng, letters_below);
         let support = open::word_support(&rust_word(MAX_QUBITS, word));
+        let fits = support.iter().all(|&qubit| (qubit as usize) < n_qubits);
         let answers = Answers {
-            rust: Some(support.iter().all(|&qubit| (qubit as usize) < n_qubits)),
+            rust: (n_qubits <= MAX_QUBITS).then_some(Fitting {
+                status: Status::default(),
+                fits,
+            }),
             port: port::fits_register(word, n_qubits),
-            rules: rules::fits_register(word, n_qubits),
+            rules: rules::fitting(word, n_qubits),
             listed: false,
         };
         let input = || format!("{} at n = {n_qubits}", show(word));

@@ -29,15 +29,18 @@ impl PartialEq for ProductRoom {
     }
 }
 
+/// Where a row stands.
 #[repr(C)]
-#[derive(Clone, Copy, Debug, PartialEq, Eq)]
+#[derive(Clone, Copy, Debug, Default, PartialEq, Eq)]
 pub struct Row {
+    pub status: Status,
     pub start: usize,
     pub end: usize,
 }
 
 unsafe extern "C" {
     fn pebblelinen_csr_row(
+        rows: usize,
         offsets: *const u64,
         offsets_len: usize,
         columns: *const u32,
@@ -69,6 +72,7 @@ pub fn csr_row(csr: &Csr, row: usize) -> Row {
     // SAFETY: pointers and lengths are those of slices that outlive the call.
     unsafe {
         pebblelinen_csr_row(
+            csr.rows,
             offsets.as_ptr(),
             offsets.len(),
             columns.as_ptr(),

@@ -8,15 +8,11 @@ use super::bases::finite;
 use super::models::{Answer, at_most, equal, lent_places, refuse};
 use crate::port::Status;
 use crate::port::products::{Csr, ProductRoom, Row};
+use std::ops::Range;
 
-/// From its own offset to the next one; nowhere where there is no such row, or no such entries.
-pub fn csr_row(csr: &Csr, row: usize) -> Row {
-    let offset = |row: usize| csr.offsets.get(row).map(|&offset| offset as usize);
-    let next = row.checked_add(1).and_then(offset);
-    match (offset(row), next) {
-        (Some(start), Some(end)) if start <= end && end <= csr.columns.len() => Row { start, end },
-        _ => Row { start: 0, end: 0 },
-    }
+/// From its own offset to before the next one, the offsets being right.
+fn places(csr: &Csr, row: usize) -> Range<usize> {
+    csr.offsets[row] as usize..csr.offsets[row + 1] as usize
 }
 
 /// The first place at which an offset is wrong.
@@ -34,8 +30,9 @@ fn wrong_offset(csr: &Csr) -> Option<usize> {
 /// The first place at which a column is wrong, the offsets being right.
 fn wrong_column(csr: &Csr) -> Option<usize> {
     (0..csr.rows).find_map(|row| {
-        let Row { start, end } = csr_row(csr, row);
-        (start..end).find(|&place| {
+        let mut places = places(csr, row);
+        let start = places.start;
+        places.find(|&place| {
             let column = csr.columns[place];
             let rises = place == start || csr.columns[place - 1] < column;
             !rises || column as usize >= csr.rows
@@ -48,6 +45,32 @@ fn right(wrong: Option<usize>) -> Answer<()> {
     match wrong {
         Some(place) => refuse(7, place, 0),
         None => Ok(()),
+    }
+}
+
+/// The matrix, then the row.
+fn row_tested(csr: &Csr, row: usize) -> Answer<()> {
+    at_most(MAX_WORDS, csr.rows)?;
+    equal(csr.rows + 1, csr.offsets.len())?;
+    right(wrong_offset(csr))?;
+    right(wrong_column(csr))?;
+    right((csr.rows <= row).then_some(row))
+}
+
+pub fn csr_row(csr: &Csr, row: usize) -> Row {
+    match row_tested(csr, row) {
+        Err(status) => Row {
+            status,
+            ..Row::default()
+        },
+        Ok(()) => {
+            let Range { start, end } = places(csr, row);
+            Row {
+                status: Status::default(),
+                start,
+                end,
+            }
+        }
     }
 }
 
@@ -70,8 +93,8 @@ fn product_tested(csr: &Csr, input: &[f64], overwrite: bool, room: &ProductRoom)
 
 /// The sum of a row, from 0.
 fn row_sum(csr: &Csr, input: &[f64], row: usize) -> f64 {
-    let Row { start, end } = csr_row(csr, row);
-    let entries = csr.columns[start..end].iter().zip(&csr.values[start..end]);
+    let places = places(csr, row);
+    let entries = csr.columns[places.clone()].iter().zip(&csr.values[places]);
     let factors = entries.map(|(&column, value)| (value, input[column as usize]));
     let used = factors.filter(|(_, x)| *x != 0.0);
     used.fold(0.0, |sum, (value, x)| sum + value * x)

@@ -7,7 +7,7 @@ use native.Mathlib.Omega.{arith}
 use lib.ListN.{getD, length}
 use Rattle.model.proofs.Firsts.{NoneBefore, first-before}
 use Rattle.csr.specs.Rows.{partOf}
-use Rattle.csr.specs.Products.{badOffset, badColumn}
+use Rattle.csr.specs.Lent.{badOffset, badColumn}
 use Rattle.csr.proofs.OffsetLaws.{Rising, rising}
 use Rattle.csr.proofs.ColumnLaws.{ordered, within, fails-here, none-fails, none-yet, none-at-all}
 use borrow.Author.Needs.{needs}

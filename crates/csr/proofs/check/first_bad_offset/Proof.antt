@@ -7,7 +7,7 @@ use Prim.Native.Nat.{ℕ, _+_, _-_, _≤_}
 use native.Mathlib.Omega.{arith}
 use lib.ListN.{getD, length}
 use Rattle.model.proofs.Firsts.{NoneBefore, none-start, stops-here, goes-on, stops-last}
-use Rattle.csr.specs.Products.{offsetFails, badOffset}
+use Rattle.csr.specs.Lent.{offsetFails, badOffset}
 use borrow.Author.Needs.{needs}
 use Rattle.csr.proofs.check.first_bad_offset.Statement.{statement}
 use Rattle.csr.proofs.check.first_bad_offset.Tie as tie
