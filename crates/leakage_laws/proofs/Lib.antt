@@ -3,9 +3,9 @@
 
 -- Laws about what leakage lists.
 pub mod BelowZero
-pub mod MadeWords
 pub mod KeepLaws
 pub mod CourseLaws
 pub mod ReadLaws
 pub mod ReachLaws
+pub mod AlikeLaws
 pub mod CallLaws
