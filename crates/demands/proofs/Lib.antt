@@ -1,0 +1,6 @@
+-- SPDX-FileCopyrightText: 2026 The PPVM Authors
+-- SPDX-License-Identifier: Apache-2.0
+
+-- The theorems that carry the demands.
+pub mod OneAnswer
+pub mod Refusals
