@@ -1,23 +1,24 @@
 -- SPDX-FileCopyrightText: 2026 The PPVM Authors
 -- SPDX-License-Identifier: Apache-2.0
 
--- Every finite sum is above a threshold that is below 0. Assumes nothing.
-use mathlib.Core.Path.{_≡_, refl, ap, _∙_}
-use mathlib.Core.Bool.{Bool, true, false}
+-- Every finite sum is above a threshold that is below 0, and above any other exactly if its key is. Assumes nothing.
+use mathlib.Core.Path.{_≡_, refl, sym, ap, _∙_}
+use mathlib.Core.Bool.{Bool, true, false, not}
 use mathlib.Core.List.{[], _∷_}
 use Prim.Native.Nat.{ℕ, zero, suc, _+_, _*_, _<_}
 use native.Mathlib.Nat.{zero-mul, mul-pos}
 use native.Mathlib.Omega.{arith}
-use borrow.Author.Tests.{ltb-true, lt-ltb}
+use borrow.Author.Tests.{ltb-true, ltb-false, lt-ltb, eqb-false}
 use denote.Floats.{passes as holds}
 use lib.IntN.{ℤ, pos}
-use lib.Dec.{T, eqb→eq}
-use lib.Ieee.{Float, nan, inf, fin, lt, ofBits, up, down}
+use lib.Dec.{T, ltb, eqb, eqb→eq}
+use lib.Ieee.{Float, nan, inf, fin, binary64, fits, lt, isNan, ofBits, up, down}
 use lib.Ieee.Fits.{up-pos, down-pos}
 use lib.ListN.{length, getD}
 use Rattle.number.specs.Floats.{float0, magnitude, isFinite}
-use Rattle.number.specs.Key.{nonneg}
-use Rattle.number.proofs.KeyLaws.{magnitude-nonneg}
+use Rattle.number.specs.Key.{key, nonneg}
+use Rattle.number.proofs.KeyLaws.{lt-key, magnitude-nonneg, magnitude-fits, magnitude-key}
+use Rattle.truncate.proofs.PruneLaws.{Number}
 use Rattle.basis.proofs.ThresholdLaws.{finite-number}
 use Rattle.candidates.specs.Log.{Rows}
 use Rattle.passes.specs.Leaks.{sumsOf, above, isAbove}
@@ -63,10 +64,32 @@ below : (x y : Float) → lt x float0 ≡ true → T (nonneg y) → lt x y ≡ t
 unfolding ofBits exponent
 below x y e k = below-nought (exponent float0) x y e k
 
-negative-below : (tau : Float) → lt tau float0 ≡ true → (x : Float) → isFinite x ≡ true → isAbove tau x ≡ true
+pub negative-below : (tau : Float) → lt tau float0 ≡ true → (x : Float) → isFinite x ≡ true → isAbove tau x ≡ true
 negative-below tau e x h = below tau (magnitude x) e (magnitude-nonneg x (finite-number x h))
 
 pub all-above : (tau : Float) → lt tau float0 ≡ true → (R : Rows) → ((i : ℕ) → i < length R → isFinite (getD (sumsOf R) i nan) ≡ true) → above tau R ≡ R
 unfolding above
 all-above tau e [] h = refl
 all-above tau e (r ∷ R) h = rw (negative-below tau e (r .sum) (h 0 (omega arith))) (ap (λ (t : Rows). r ∷ t) (all-above tau e R (λ i l. h (suc i) (omega arith))))
+
+-- ---- a threshold that is not below 0
+not-negative-from : (c : ℤ) (x : Float) → T (not (isNan x)) → lt x (fin false 0 c) ≡ false → T (nonneg x)
+unfolding lt isNan
+not-negative-from c nan n e = absurd n
+not-negative-from c (inf false) n e = tt
+not-negative-from c (inf true) n e = absurd (holds false (sym e))
+not-negative-from c (fin false m d) n e = tt
+not-negative-from c (fin true m d) n e = go (eqb m 0) refl
+  where
+    go : (z : Bool) → eqb m 0 ≡ z → T z
+    go true h = tt
+    go false h = absurd (omega (arith, size-pos m d c (eqb-false m 0 h), ltb-false 0 (m * up d * down c + 0 * up c * down d) e))
+
+not-negative : (x : Float) → T (not (isNan x)) → lt x float0 ≡ false → T (nonneg x)
+unfolding ofBits exponent
+not-negative x n e = not-negative-from (exponent float0) x n e
+
+pub above-by-key : (tau : Float) → Number tau → lt tau float0 ≡ false → (x : Float) → T (fits binary64 x) → isFinite x ≡ true → isAbove tau x ≡ ltb (key binary64 tau) (key binary64 x)
+above-by-key tau n e x f h =
+    lt-key binary64 tau (magnitude x) (n .fits-f64) (magnitude-fits binary64 x f) (not-negative tau (n .no-nan) e) (magnitude-nonneg x (finite-number x h))
+    ∙ ap (ltb (key binary64 tau)) (magnitude-key binary64 x)

@@ -1,16 +1,16 @@
 -- SPDX-FileCopyrightText: 2026 The PPVM Authors
 -- SPDX-License-Identifier: Apache-2.0
 
--- Leakage as a call: what an accepted call lists, that its passes keep the largest, that looser limits lose nobody, and which words
--- are listed. Assumes nothing.
+-- Leakage as a call: what an accepted call lists, that its passes keep the largest and tau_add lists the largest of those, that looser
+-- limits lose nobody, and which words are listed. Assumes nothing.
 use mathlib.Core.Path.{_≡_, refl, sym, ap, ap₂, subst, _∙_}
 use mathlib.Core.Bool.{Bool, true, false, cond}
 use mathlib.Core.List.{List}
 use Prim.Native.Nat.{ℕ, zero, suc, _*_, _/_, _≤_, _<_}
 use native.Mathlib.Omega.{arith}
-use borrow.Author.Tests.{ltb-false}
-use lib.Dec.{ltb, eqb}
-use lib.Ieee.{Float, nan, binary64, isNan, ofBits}
+use borrow.Author.Tests.{ltb-true, ltb-false}
+use lib.Dec.{T, ltb, eqb}
+use lib.Ieee.{Float, nan, binary64, fits, lt, isNan, ofBits}
 use lib.Ieee.Bits.{ofBits-fits}
 use lib.ListN.{length, getD, set}
 use lib.Seq.{length-take-le}
@@ -23,7 +23,9 @@ use Rattle.word.specs.Flat.{words, layWord}
 use Rattle.word.proofs.FlatLaws.{words-high}
 use Rattle.word.specs.declared.word.Word.{Word}
 use Rattle.number.specs.Floats.{float0, isFinite}
+use Rattle.number.specs.Key.{key}
 use Rattle.truncate.proofs.PruneLaws.{Number}
+use Rattle.candidates.specs.Sums.{Row}
 use Rattle.candidates.specs.Log.{Rows, table}
 use Rattle.model.specs.Stored.{Tables}
 use Rattle.model.specs.Given.{Read, got, refused}
@@ -31,23 +33,25 @@ use Rattle.model.specs.Laid.{laid}
 use Rattle.model.specs.Tested.{testModel}
 use Rattle.model.specs.declared.tables.Model.{Model}
 use Rattle.model.proofs.BuildLaws.{both, equal-passed, lent-passed, counted-passed}
+use Rattle.in_use.specs.InUse.{SameModel}
 use Rattle.action.specs.Acts.{listPlaces}
 use Rattle.action.specs.Counts.{maxWords}
 use Rattle.action.specs.declared.act.Acted.the-variants.{Listed, Refused}
 use Rattle.model_laws.specs.Every.{Every}
 use Rattle.basis.specs.Tests.{finiteThreshold}
 use Rattle.basis.proofs.ThresholdLaws.{finite-number}
-use Rattle.passes.specs.Leaks.{wordsOf, sumsOf, passSize, passCount, above}
+use Rattle.passes.specs.Leaks.{wordsOf, sumsOf, passSize, passCount, above, isAbove}
 use Rattle.leakage.specs.Leakages.{Basis, Work, Out, Leaking, tauOf, limitTests, tauTests, workTests, entryTests, leakTests, listing, leakCourse, sumPlaces, candidatePlaces, leak, tested}
 use Rattle.leakage.specs.declared.limits.Limits.{Limits}
 use Rattle.leakage.proofs.GatherLaws.{leak-passed}
 use Rattle.leakage_laws.specs.Members.{Member, Has}
-use Rattle.leakage_laws.specs.Calls.{basisWords, basisCoeffs, roomOf, stayAfter, heldIn, listOf, RoomForAll, listedBy, LargestStay, Looser, TauFits, TauBelowZero, LosesNobody, Reached, ListsReached}
+use Rattle.leakage_laws.specs.Calls.{basisWords, basisCoeffs, roomOf, stayAfter, heldIn, listOf, RoomForAll, listedBy, LargestStay, LargerListed, SameBasis, Looser, TauFits, TauBelowZero, LosesNobody, Reached, ListsReached}
 use Rattle.leakage_laws.proofs.KeepLaws.{member-fits, member-finite, largest-more, largest-in, above-of, above-in, above-lower, ended-finite}
 use Rattle.leakage_laws.proofs.CourseLaws.{Ends, course-passes, keeps-largest, held-fits}
 use Rattle.leakage_laws.proofs.ReadLaws.{read-back, list-sound}
-use Rattle.leakage_laws.proofs.ReachLaws.{HasRow, above-has, stay-reached, stay-all, reached-stays}
-use Rattle.leakage_laws.proofs.BelowZero.{all-above}
+use Rattle.leakage_laws.proofs.ReachLaws.{HasRow, NoneDropped, above-has, stay-reached, stay-all, reached-stays, none-dropped}
+use Rattle.leakage_laws.proofs.BelowZero.{negative-below, all-above, above-by-key}
+use Rattle.leakage_laws.proofs.AlikeLaws.{list-alike}
 
 -- ---- an accepted call
 refused-lists : (q : Refusal) (n : ℕ) → Refused q ≡ Listed n → ⊥
@@ -94,6 +98,11 @@ module _ (outWords : List ℕ) (outValues : List Float) (w : Work) (m : Model) (
     abbrev call : Leaking
     call = leak outWords outValues w m t b l
 
+    -- the model passes its test
+    pub leakage-model : testModel m t ≡ Tests.Accepted
+    unfolding leakTests
+    leakage-model = both (testModel m t) _ (accepts answers .tests) .0
+
     coeffs-long : length (basisCoeffs b) ≡ b .len
     coeffs-long = length-take-le (b .len) (b .coeffs) (leak-passed m t b l w (accepts answers .tests) .coeffs-long)
 
@@ -131,15 +140,24 @@ module _ (outWords : List ℕ) (outValues : List Float) (w : Work) (m : Model) (
     leakage-only-reached u h =
         stay-reached u m t b l coeffs-long (passCount (b .len)) (above-has u (tauOf l) (stayAfter m t b l (passCount (b .len))) (subst (HasRow u) leakage-lists h))
 
-    stay-finite : RoomForAll m t b l → (k : ℕ) → k ≤ passCount (b .len) → (i : ℕ) → i < length (stayAfter m t b l k) → isFinite (getD (sumsOf (stayAfter m t b l k)) i nan) ≡ true
+    stay-finite : NoneDropped m t b l → (k : ℕ) → k ≤ passCount (b .len) → (i : ℕ) → i < length (stayAfter m t b l k) → isFinite (getD (sumsOf (stayAfter m t b l k)) i nan) ≡ true
     unfolding stayAfter
     stay-finite enough zero h = λ i x. absurd (omega arith)
     stay-finite enough (suc k) h =
         subst (λ (R : Rows). (i : ℕ) → i < length R → isFinite (getD (sumsOf R) i nan) ≡ true) (sym (stay-all identity m t b l coeffs-long enough k (omega arith))) (leakage-finite k (omega arith))
 
+    stayed : (k : ℕ) → k ≤ passCount (b .len) → (r : Row Word Float) → Member r (stayAfter m t b l k) → T (fits binary64 (r .sum)) × (isFinite (r .sum) ≡ true)
+    unfolding stayAfter Member
+    stayed zero h r x = absurd x
+    stayed (suc k) h r x =
+        let R : Rows = heldIn m t b l k in
+        let held : Member r R = largest-in r (roomOf b l) R x in
+        (member-fits r R (held-fits m t b l k) held, member-finite r R (leakage-finite k (omega arith)) held)
+
     -- with room for all and tau_add below 0 the words listed are the reached ones
     pub leakage-reaches : RoomForAll m t b l → TauBelowZero l → ListsReached m t b (listedBy call n)
-    leakage-reaches enough low =
+    leakage-reaches room low =
+        let enough = none-dropped m t b l coeffs-long room in
         let P : ℕ = passCount (b .len) in
         let all-listed : listedBy call n ≡ stayAfter m t b l P = leakage-lists ∙ all-above (tauOf l) low (stayAfter m t b l P) (stay-finite enough P (omega arith)) in
         record {
@@ -177,9 +195,49 @@ tau-number count l f e = go (eqb (l .«tau_given») 0) e
     go true x = zero-number
     go false x = given (isFinite (l .«tau_add»)) refl x
 
--- ---- of two accepted calls over at most 4,096 words, alike but for looser limits and whatever tables are lent, the second lists
--- every word that the first lists, with the same value
-module _ (m : Model) (t : Tables) (b : Basis) (few : b .len ≤ passSize) (l l′ : Limits) (looser : Looser l l′) (fit : TauFits l) (fit′ : TauFits l′) where
+-- ---- tau_add is a threshold: what is listed is larger than what stayed in the last pass and is not
+module _ (m : Model) (t : Tables) (b : Basis) (l : Limits) (fit : TauFits l) (outWords : List ℕ) (outValues : List Float) (w : Work) (n : ℕ) (answers : leak outWords outValues w m t b l .out .answer ≡ Listed n) where
+  pub leakage-larger : LargerListed (stayAfter m t b l (passCount (b .len))) (listedBy (leak outWords outValues w m t b l) n)
+  leakage-larger r s x y not-listed = go (lt tau float0) refl
+    where
+      tau : Float
+      tau = tauOf l
+
+      P : ℕ
+      P = passCount (b .len)
+
+      number : Number tau
+      number = tau-number (b .len) l fit (tau-tested m t b l w (accepts outWords outValues w m t b l n answers .tests))
+
+      lists : listedBy (leak outWords outValues w m t b l) n ≡ above tau (stayAfter m t b l P)
+      lists = leakage-lists outWords outValues w m t b l n answers
+
+      over : Member r (stayAfter m t b l P) × (isAbove tau (r .sum) ≡ true)
+      over = above-of r tau (stayAfter m t b l P) (subst (Member r) lists x)
+
+      not-over : isAbove tau (s .sum) ≡ true → ⊥
+      not-over e = not-listed (subst (Member s) (sym lists) (above-in s tau (stayAfter m t b l P) y e))
+
+      r-is : T (fits binary64 (r .sum)) × (isFinite (r .sum) ≡ true)
+      r-is = stayed outWords outValues w m t b l n answers P (omega arith) r (over .0)
+
+      s-is : T (fits binary64 (s .sum)) × (isFinite (s .sum) ≡ true)
+      s-is = stayed outWords outValues w m t b l n answers P (omega arith) s y
+
+      go : (c : Bool) → lt tau float0 ≡ c → key binary64 (s .sum) < key binary64 (r .sum)
+      go true e = absurd (not-over (negative-below tau e (s .sum) (s-is .1)))
+      go false e =
+          let high = ltb-true (key binary64 tau) (key binary64 (r .sum)) (sym (above-by-key tau number e (r .sum) (r-is .0) (r-is .1)) ∙ over .1) in
+          let low = not-above (ltb (key binary64 tau) (key binary64 (s .sum))) refl (λ z. not-over (above-by-key tau number e (s .sum) (s-is .0) (s-is .1) ∙ z)) in
+          omega (arith, high, low)
+        where
+          not-above : (c : Bool) → ltb (key binary64 tau) (key binary64 (s .sum)) ≡ c → (c ≡ true → ⊥) → key binary64 (s .sum) ≤ key binary64 tau
+          not-above true z h = absurd (h refl)
+          not-above false z h = ltb-false (key binary64 tau) (key binary64 (s .sum)) z
+
+-- ---- of two accepted calls over at most 4,096 words, alike but for looser limits and whatever places each was lent, the second
+-- lists every word that the first lists, with the same value
+module _ (m : Model) (t : Tables) (b : Basis) (l l′ : Limits) (looser : Looser l l′) where
   listed-stays : (k : ℕ) → k ≤ 1 → (k ≡ 1 → Ends m t b l 0) → Number (tauOf l) → Number (tauOf l′) → LosesNobody (above (tauOf l) (stayAfter m t b l k)) (above (tauOf l′) (stayAfter m t b l′ k))
   unfolding stayAfter above Member
   listed-stays zero h e n n′ r x = absurd x
@@ -192,13 +250,16 @@ module _ (m : Model) (t : Tables) (b : Basis) (few : b .len ≤ passSize) (l l�
       (largest-more r (roomOf b l) (roomOf b l′) R (omega (arith, looser .raised)) (kept .0))
       (above-lower (tauOf l) (tauOf l′) (r .sum) n n′ (looser .lowered) (member-fits r R (held-fits m t b l 0) given) (member-finite r R (ended-finite (roomOf b l) R (stayAfter m t b l 1) (e refl) .1) given) (kept .1))
 
+module _ (m : Model) (t t′ : Tables) (same : SameModel m t t′) (b b′ : Basis) (alike : SameBasis b b′) (few : b .len ≤ passSize) (l l′ : Limits) (looser : Looser l l′) (fit : TauFits l) (fit′ : TauFits l′) where
   pub leakage-loses-nobody : (outWords : List ℕ) (outValues : List Float) (w : Work) (n : ℕ) → leak outWords outValues w m t b l .out .answer ≡ Listed n
-      → (outWords′ : List ℕ) (outValues′ : List Float) (w′ : Work) (n′ : ℕ) → leak outWords′ outValues′ w′ m t b l′ .out .answer ≡ Listed n′
-      → LosesNobody (listedBy (leak outWords outValues w m t b l) n) (listedBy (leak outWords′ outValues′ w′ m t b l′) n′)
+      → (outWords′ : List ℕ) (outValues′ : List Float) (w′ : Work) (n′ : ℕ) → leak outWords′ outValues′ w′ m t′ b′ l′ .out .answer ≡ Listed n′
+      → LosesNobody (listedBy (leak outWords outValues w m t b l) n) (listedBy (leak outWords′ outValues′ w′ m t′ b′ l′) n′)
   leakage-loses-nobody outWords outValues w n e outWords′ outValues′ w′ n′ e′ r x =
       let P : ℕ = passCount (b .len) in
       let a = accepts outWords outValues w m t b l n e in
-      let a′ = accepts outWords′ outValues′ w′ m t b l′ n′ e′ in
-      subst (Member r) (sym (leakage-lists outWords′ outValues′ w′ m t b l′ n′ e′))
-      (listed-stays P (omega (arith, few)) (λ z. course-is outWords outValues w m t b l n e .1 0 (omega (arith, z))) (tau-number (b .len) l fit (tau-tested m t b l w (a .tests))) (tau-number (b .len) l′ fit′ (tau-tested m t b l′ w′ (a′ .tests))) r
+      let a′ = accepts outWords′ outValues′ w′ m t′ b′ l′ n′ e′ in
+      let others : listOf m t b l′ ≡ listedBy (leak outWords′ outValues′ w′ m t′ b′ l′) n′ =
+      list-alike m t t′ same (leakage-model outWords outValues w m t b l n e) b b′ alike l′ ∙ sym (leakage-lists outWords′ outValues′ w′ m t′ b′ l′ n′ e′) in
+      subst (Member r) others
+      (listed-stays m t b l l′ looser P (omega (arith, few)) (λ z. course-is outWords outValues w m t b l n e .1 0 (omega (arith, z))) (tau-number (b .len) l fit (tau-tested m t b l w (a .tests))) (tau-number (b′ .len) l′ fit′ (tau-tested m t′ b′ l′ w′ (a′ .tests))) r
       (subst (Member r) (leakage-lists outWords outValues w m t b l n e) x))

@@ -55,11 +55,14 @@ module _ (m : Model) (t : Tables) (b : Basis) (l : Limits) where
   stay-rising zero = tt
   stay-rising (suc k) = subst (Rising before) (sym (stay-largest k)) (largest-rising room (heldIn m t b l k) (gathered-rising (leaksOf m t b) (passOf b k) (stayAfter m t b l k) (stay-rising k)))
 
+  pub held-rising : (k : ℕ) → Rising before (heldIn m t b l k)
+  held-rising k = gathered-rising (leaksOf m t b) (passOf b k) (stayAfter m t b l k) (stay-rising k)
+
   pub keeps-largest : (k : ℕ) → Ends k → LargestStay room (heldIn m t b l k) (stayAfter m t b l (suc k))
   keeps-largest k e =
       let R : Rows = heldIn m t b l k in
       record {
-        rising = gathered-rising (leaksOf m t b) (passOf b k) (stayAfter m t b l k) (stay-rising k);
+        rising = held-rising k;
         flags = roomFlags room R;
         each = flags-each room R;
         stay-are = stay-largest k ∙ largest-flagged room R;

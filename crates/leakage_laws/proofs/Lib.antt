@@ -8,4 +8,5 @@ pub mod KeepLaws
 pub mod CourseLaws
 pub mod ReadLaws
 pub mod ReachLaws
+pub mod AlikeLaws
 pub mod CallLaws

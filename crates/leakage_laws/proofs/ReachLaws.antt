@@ -1,7 +1,8 @@
 -- SPDX-FileCopyrightText: 2026 The PPVM Authors
 -- SPDX-License-Identifier: Apache-2.0
 
--- Which words the candidates have: every one is reached, and with room for all every reached word stays to the end. Assumes nothing.
+-- Which words the candidates have: every one is reached, and with room for all no pass drops one, so that every reached word stays
+-- to the end. Assumes nothing.
 use mathlib.Core.Path.{_≡_, refl, sym, ap, subst, _∙_}
 use mathlib.Core.Bool.{Bool, true, false, cond}
 use mathlib.Core.List.{List, [], _∷_, map}
@@ -12,13 +13,13 @@ use borrow.Author.Tests.{eqb-true}
 use denote.Floats.{passes as holds}
 use lib.Dec.{eqb}
 use lib.Ieee.{Float, nan}
-use lib.ListN.{length, getD, drop, length-drop, length-take}
+use lib.ListN.{length, getD, drop, length-drop, length-take, length-map}
 use lib.Seq.{getD-take, getD-drop}
 use Rattle.word.specs.Order.{before}
 use Rattle.word.specs.Word.{identity}
 use Rattle.word.specs.Flat.{words}
 use Rattle.word.specs.declared.word.Word.{Word}
-use Rattle.word.proofs.OrderLaws.{trichotomy}
+use Rattle.word.proofs.OrderLaws.{before-self, trichotomy}
 use Rattle.number.specs.Floats.{floats}
 use Rattle.order.specs.Merge.{All, positions}
 use Rattle.order.specs.Magnitudes.{fallsBefore, byMagnitude}
@@ -27,20 +28,25 @@ use Rattle.order.proofs.Members.{all-sort, all-take, all-drop, all-more, positi
 use Rattle.truncate.specs.Retained.{pick}
 use Rattle.truncate.specs.Chosen.{occurrences}
 use Rattle.basis.proofs.OrderOnce.{magnitude-once}
-use Rattle.candidates.specs.Sums.{row, putOver, putAll}
+use Rattle.candidates.specs.Sums.{row, putOver, putAll, AllAfter, Rising}
 use Rattle.candidates.specs.Log.{Rows, putRow, putRows}
 use Rattle.model.specs.Stored.{Tables}
 use Rattle.model.specs.Given.{Term}
 use Rattle.model.specs.declared.tables.Model.{Model}
+use Rattle.model_laws.specs.Every.{Every}
 use Rattle.action.specs.Acts.{actionOf}
 use Rattle.passes.specs.Leaks.{outside, leaked, wordsOf, largest, passSize, passCount, above, isAbove}
 use Rattle.passes.proofs.RoomLaws.{largest-all}
 use Rattle.leakage.specs.Leakages.{Basis}
 use Rattle.leakage.specs.declared.limits.Limits.{Limits}
-use Rattle.leakage_laws.specs.Members.{Has}
-use Rattle.leakage_laws.specs.Calls.{gathered, basisWords, basisCoeffs, leaksOf, roomOf, passOf, stayAfter, heldIn, RoomForAll, Reached}
+use Rattle.leakage_laws.specs.Members.{Has, Differ}
+use Rattle.leakage_laws.specs.Calls.{gathered, basisWords, basisCoeffs, leaksOf, roomOf, passOf, stayAfter, heldIn, Reached, RoomForAll}
 use Rattle.leakage_laws.proofs.KeepLaws.{roomFlags}
-use Rattle.leakage_laws.proofs.CourseLaws.{stay-largest}
+use Rattle.leakage_laws.proofs.CourseLaws.{stay-largest, held-rising}
+
+-- no pass drops a candidate
+abbrev pub NoneDropped : Model → Tables → Basis → Limits → Type 0
+NoneDropped m t b l = (k : ℕ) → k < passCount (b .len) → length (heldIn m t b l k) ≤ roomOf b l
 
 module _ (u : Word) where
   abbrev pub HasRow : Rows → Type 0
@@ -208,17 +214,22 @@ module _ (u : Word) where
           (all-sort (λ x. x < n) (fallsBefore (basisCoeffs b)) (length (positions n)) (positions n) (positions-below n))
 
       -- every candidate's word is reached
+      from-stay : (k : ℕ) → (HasRow (stayAfter m t b l k) → Reached m t b u) → HasRow (heldIn m t b l k) → Reached m t b u
+      from-stay k rest =
+          gathered-only (leaksOf m t b) (Reached m t b u) (passOf b k) (stayAfter m t b l k)
+          (all-more (λ p. p < b .len) (λ p. HasRow (leaksOf m t b p) → Reached m t b u) leaks-reached (passOf b k) (all-take (λ p. p < b .len) passSize (drop (k * passSize) order) (all-drop (λ p. p < b .len) (k * passSize) order order-below)))
+          rest
+
       pub stay-reached : (k : ℕ) → HasRow (stayAfter m t b l k) → Reached m t b u
       unfolding stayAfter Has
       stay-reached zero h = absurd h
-      stay-reached (suc k) h =
-          gathered-only (leaksOf m t b) (Reached m t b u) (passOf b k) (stayAfter m t b l k)
-          (all-more (λ p. p < b .len) (λ p. HasRow (leaksOf m t b p) → Reached m t b u) leaks-reached (passOf b k) (all-take (λ p. p < b .len) passSize (drop (k * passSize) order) (all-drop (λ p. p < b .len) (k * passSize) order order-below)))
-          (stay-reached k)
-          (largest-has (roomOf b l) (heldIn m t b l k) h)
+      stay-reached (suc k) h = from-stay k (stay-reached k) (largest-has (roomOf b l) (heldIn m t b l k) h)
+
+      pub held-reached : (k : ℕ) → HasRow (heldIn m t b l k) → Reached m t b u
+      held-reached k = from-stay k (stay-reached k)
 
       -- ---- with room for all
-      module _ (enough : RoomForAll m t b l) where
+      module _ (enough : NoneDropped m t b l) where
         pub stay-all : (k : ℕ) → k < passCount (b .len) → stayAfter m t b l (suc k) ≡ heldIn m t b l k
         stay-all k h = stay-largest m t b l k ∙ largest-all (roomOf b l) (heldIn m t b l k) (enough k h)
 
@@ -263,3 +274,27 @@ module _ (u : Word) where
             let x : HasRow (leaksOf m t b (r .position)) = leaked-in (outside (basisWords b) (words (b .protected))) (getD (basisCoeffs b) (r .position) nan) (actionOf m t (getD (basisWords b) (r .position) identity)) (r .by-action) (r .is-outside) in
             place-of (r .position) order (magnitude-once (basisCoeffs b) .once (r .position) (omega (arith, r .in-basis, coeffs-long))) (HasRow (stayAfter m t b l (passCount (b .len))))
             (λ i h e. at-place i h (subst (λ (p : ℕ). HasRow (leaksOf m t b p)) (sym e) x))
+
+-- ---- room for all: what a pass holds are reached words that differ, so no pass drops one
+rising-differ : (R : Rows) → Rising before R → Differ (wordsOf R)
+unfolding Rising Differ AllAfter Has
+rising-differ [] h = tt
+rising-differ (r ∷ R) h = (not-later (r .word) R (h .0), rising-differ R (h .1))
+  where
+    not-later : (w : Word) (R : Rows) → AllAfter before w R → Has w (wordsOf R) → ⊥
+    not-later w [] a h = h
+    not-later w (s ∷ R) a (inl e) = holds false (sym (before-self w) ∙ ap (before w) e ∙ a .0)
+    not-later w (s ∷ R) a (inr h) = not-later w R (a .1) h
+
+every-has : (P : Word → Type 0) (ws : List Word) → ((w : Word) → Has w ws → P w) → Every P ws
+unfolding Has
+every-has P [] h = tt
+every-has P (w ∷ ws) h = (h w (inl refl), every-has P ws (λ v k. h v (inr k)))
+
+module _ (m : Model) (t : Tables) (b : Basis) (l : Limits) (coeffs-long : length (basisCoeffs b) ≡ b .len) where
+  pub none-dropped : RoomForAll m t b l → NoneDropped m t b l
+  none-dropped enough k h =
+      let R : Rows = heldIn m t b l k in
+      let long : length (wordsOf R) ≡ length R = length-map R (λ r. r .word) in
+      let room = enough (wordsOf R) (rising-differ R (held-rising m t b l k)) (every-has (Reached m t b) (wordsOf R) (λ w x. held-reached w m t b l coeffs-long k x)) in
+      omega (arith, long, room)

@@ -1,8 +1,8 @@
 -- SPDX-FileCopyrightText: 2026 The PPVM Authors
 -- SPDX-License-Identifier: Apache-2.0
 
--- A call of leakage, pass by pass: which candidates are held and which stay, what is listed, what a looser limit means, and which
--- words a model reaches from a basis. No work table and no place shows in it.
+-- A call of leakage, pass by pass: which candidates are held and which stay, what is listed, when two calls are alike, what a looser
+-- limit means, and which words a model reaches from a basis. No work table and no place shows in it.
 use Prim.Native.Nat.{ℕ, zero, suc, _-_, _*_, _≤_, _<_, min}
 use mathlib.Core.Path.{_≡_}
 use mathlib.Core.Bool.{true}
@@ -15,6 +15,7 @@ use Rattle.word.specs.Flat.{words}
 use Rattle.word.specs.Word.{identity}
 use Rattle.word.specs.declared.word.Word.{Word}
 use Rattle.number.specs.Floats.{float0}
+use Rattle.number.specs.Key.{key}
 use Rattle.order.specs.Magnitudes.{byMagnitude, keyAt}
 use Rattle.truncate.specs.Retained.{pick}
 use Rattle.candidates.specs.Sums.{Row, Rising}
@@ -22,11 +23,12 @@ use Rattle.candidates.specs.Log.{Rows, table, putRows}
 use Rattle.model.specs.Stored.{Tables}
 use Rattle.model.specs.Given.{Term}
 use Rattle.model.specs.declared.tables.Model.{Model}
+use Rattle.model_laws.specs.Every.{Every}
 use Rattle.action.specs.Acts.{actionOf}
 use Rattle.passes.specs.Leaks.{outside, sumsOf, wordsOf, largest, passSize, passCount, above, leaksAt}
 use Rattle.leakage.specs.Leakages.{Basis, Leaking, limitOf, tauOf}
 use Rattle.leakage.specs.declared.limits.Limits.{Limits}
-use Rattle.leakage_laws.specs.Members.{Member, Has}
+use Rattle.leakage_laws.specs.Members.{Member, Has, Differ}
 
 -- ---- the passes
 -- positions one after another, each adding what it leaks
@@ -68,10 +70,6 @@ module _ (m : Model) (t : Tables) (b : Basis) (l : Limits) where
   abbrev pub listOf : Rows
   listOf = above (tauOf l) (stayAfter (passCount (b .len)))
 
-  -- no pass drops a candidate
-  abbrev pub RoomForAll : Type 0
-  RoomForAll = (k : ℕ) → k < passCount (b .len) → length (heldIn k) ≤ roomOf b l
-
 -- the first n words and values of the list, read from the lent tables afterwards
 abbrev pub listedBy : Leaking → ℕ → Rows
 listedBy k n = table n (k .out .outWords) (k .out .outValues)
@@ -86,6 +84,18 @@ pub record LargestStay (room : ℕ) (candidates stay : Rows) : Type 0 where
   pub count : length stay ≡ min room (length candidates)
   pub larger : (p q : ℕ) → p < length candidates → q < length candidates → (getD flags p 0 ≡ 0 → ⊥) → getD flags q 0 ≡ 0
       → (keyAt (sumsOf candidates) q ≤ keyAt (sumsOf candidates) p) × (keyAt (sumsOf candidates) q ≡ keyAt (sumsOf candidates) p → p < q)
+
+-- tau_add, a threshold: a candidate that is listed is larger than every one that stayed in the last pass and is not listed
+abbrev pub LargerListed : Rows → Rows → Type 0
+LargerListed stay list = (r s : Row Word Float) → Member r list → Member s stay → (Member s list → ⊥) → key binary64 (s .sum) < key binary64 (r .sum)
+
+-- ---- calls that are alike, whatever places each was lent
+-- one basis: the entries in use and the protected words
+pub record SameBasis (b b′ : Basis) : Type 0 where
+  pub same-len : b .len ≡ b′ .len
+  pub same-words : basisWords b ≡ basisWords b′
+  pub same-coeffs : basisCoeffs b ≡ basisCoeffs b′
+  pub same-protected : words (b .protected) ≡ words (b′ .protected)
 
 -- ---- looser limits
 -- a raised word limit, a lowered tau_add, or both, each given or absent
@@ -112,6 +122,10 @@ pub record Reached (m : Model) (t : Tables) (b : Basis) (w : Word) : Type 0 wher
   pub position : ℕ
   pub in-basis : position < b .len
   pub by-action : Has w (map (λ (c : Term). c .word) (actionOf m t (getD (basisWords b) position identity)))
+
+-- room for every word that leakage adds to: different words that are reached are never more than there is room for
+abbrev pub RoomForAll : Model → Tables → Basis → Limits → Type 0
+RoomForAll m t b l = (ws : List Word) → Differ ws → Every (Reached m t b) ws → length ws ≤ roomOf b l
 
 -- the words of a list are the reached ones
 pub record ListsReached (m : Model) (t : Tables) (b : Basis) (R : Rows) : Type 0 where

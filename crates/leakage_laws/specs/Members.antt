@@ -1,7 +1,7 @@
 -- SPDX-FileCopyrightText: 2026 The PPVM Authors
 -- SPDX-License-Identifier: Apache-2.0
 
--- That a row, a word with its sum, stands among candidates, and that a word stands in a list.
+-- That a row, a word with its sum, stands among candidates, that a word stands in a list, and that the words of a list differ.
 use mathlib.Core.Path.{_≡_}
 use mathlib.Core.List.{List, [], _∷_}
 use mathlib.Core.Logic.{_⊎_}
@@ -17,3 +17,8 @@ Member r (s ∷ R) = (r ≡ s) ⊎ Member r R
 unfoldable pub Has : Word → List Word → Type 0
 Has w [] = ⊥
 Has w (v ∷ ws) = (w ≡ v) ⊎ Has w ws
+
+-- no word twice
+unfoldable pub Differ : List Word → Type 0
+Differ [] = Unit {0}
+Differ (w ∷ ws) = (Has w ws → ⊥) × Differ ws
