@@ -4,3 +4,5 @@
 -- The theorems that carry the demands.
 pub mod OneAnswer
 pub mod Refusals
+pub mod Accepts
+pub mod Bases

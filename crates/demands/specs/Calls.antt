@@ -5,13 +5,14 @@
 -- which is what its contract says. A primed name is the table afterwards. Tables of numbers hold what an f64 can hold.
 use Prim.Native.Nat.{ℕ, _<_}
 use mathlib.Core.Path.{_≡_}
-use mathlib.Core.Bool.{Bool}
+use mathlib.Core.Bool.{Bool, true}
 use mathlib.Core.List.{List}
 use lib.Dec.{T}
 use lib.Ieee.{Float, nan, binary64, fits}
 use lib.ListN.{length, getD}
 use Rattle.refusal.specs.declared.Status.{Status}
 use Rattle.word.specs.declared.word.Word.{Word}
+use Rattle.number.specs.Floats.{isFinite}
 use Rattle.model.specs.Stored.{Tables}
 use Rattle.model.specs.Built as Building
 use Rattle.model.specs.declared.tables.Model.{Model}
@@ -47,6 +48,9 @@ Fit x = T (fits binary64 x)
 
 abbrev pub AllFit : List Float → Type 0
 AllFit l = (i : ℕ) → i < length l → Fit (getD l i nan)
+
+abbrev pub AllFinite : List Float → Type 0
+AllFinite l = (i : ℕ) → i < length l → isFinite (getD l i nan) ≡ true
 
 -- ---- pebblelinen_codes_from_word
 pub record WriteCall : Type 0 where

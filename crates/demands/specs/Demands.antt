@@ -3,9 +3,9 @@
 
 -- The three demands, sentence by sentence and in their order; a sentence in quotes is the demand's own. Each record is proved in
 -- proofs/ under the name that stands beside it. What "shown by runs of both" asks for is no theorem: docs/DIFFERENCES.md.
-use Prim.Native.Nat.{ℕ, suc, _+_, _-_, _*_, _/_, _≤_, _<_, min, max}
+use Prim.Native.Nat.{ℕ, suc, _+_, _-_, _≤_, _<_, min, max}
 use mathlib.Core.Path.{_≡_}
-use mathlib.Core.Bool.{true, false}
+use mathlib.Core.Bool.{Bool, true}
 use mathlib.Core.List.{List, _++_}
 use lib.Ieee.{Float, nan, le}
 use lib.ListN.{length, getD, take, replicate}
@@ -19,6 +19,7 @@ use Rattle.word.specs.declared.word.Word.{Word}
 use Rattle.number.specs.Floats.{float0, magnitude}
 use Rattle.model.specs.Stored.{Tables}
 use Rattle.model.specs.Built as Building
+use Rattle.model.specs.declared.tables.Model.{Model}
 use Rattle.model.specs.declared.spec.Built.the-variants as Built
 use Rattle.kossakowski.specs.Added as Adding
 use Rattle.truncate.specs.Retained.{pick, flagged}
@@ -28,9 +29,13 @@ use Rattle.basis.specs.Prunes.{Keeping, protectedFlags, prune, cap}
 use Rattle.basis.specs.Admissions.{Admitting, admitFlags, admit}
 use Rattle.basis.specs.declared.kept.Kept.the-variants as Kept
 use Rattle.leakage.specs.Leakages as Leakage
+use Rattle.passes.specs.Leaks.{passSize, passCount}
+use Rattle.candidates.specs.Sums.{Row}
+use Rattle.candidates.specs.Log.{Rows, table}
 use Rattle.generator.specs.Lent as Generator
+use Rattle.generator.specs.Lent.{basisOf}
 use Rattle.generator.specs.Generators.{Generating, CsrBuilding, generate, buildCsr}
-use Rattle.csr.specs.Products.{Multiplying, multiply}
+use Rattle.csr.specs.Products.{Multiplying, lengthTests, tableTests, multiply}
 use Rattle.pebblelinen.specs.Words.{Writes}
 use Rattle.pebblelinen.specs.Models.{Leaves}
 use Rattle.pebblelinen.specs.Actions.{LeavesList}
@@ -41,9 +46,14 @@ use Rattle.pebblelinen.specs.Products.{LeavesProduct}
 use Rattle.pebblelinen.specs.declared.actions.ListedWords.{ListedWords}
 use Rattle.pebblelinen.specs.declared.bases.KeptEntries.{KeptEntries}
 use Rattle.pebblelinen.specs.declared.models.BuiltModel.{BuiltModel}
-use Rattle.basis_laws.specs.Keeps.{prunedFlags, cappedFlags, Flagged, LosesNobody}
-use Rattle.leakage_laws.specs.Calls.{basisWords, basisCoeffs}
-use Rattle.demands.specs.Calls.{Accepted, Refused, WriteCall, BuildCall, AddCall, ActionCall, PruneCall, CapCall, AdmitCall, LeakCall, GeneratorCall, CsrCall, ProductCall}
+use Rattle.in_use.specs.InUse.{SameModel}
+use Rattle.basis_laws.specs.Keeps.{prunedFlags, cappedFlags, Flagged}
+use Rattle.basis_laws.specs.Keeps as Flags
+use Rattle.leakage_laws.specs.Members.{Member}
+use Rattle.leakage_laws.specs.Calls.{basisWords, basisCoeffs, roomOf, stayAfter, heldIn, listOf, SameBasis, Looser}
+use Rattle.leakage_laws.specs.Calls as Leak
+use Rattle.generator_laws.specs.Matrices.{Lists, InRow, Grown, Unchanged}
+use Rattle.demands.specs.Calls.{Accepted, Refused, AllFinite, WriteCall, BuildCall, AddCall, ActionCall, PruneCall, CapCall, AdmitCall, LeakCall, GeneratorCall, CsrCall, ProductCall}
 
 -- ==== 1
 -- "Every accepted call ends with the one answer that document 01 gives for its input."
@@ -105,3 +115,126 @@ pub record ChangesNothing : Type 0 where
       ((c .offsets′ ≡ c .offsets) × (c .columns′ ≡ c .columns) × (c .values′ ≡ c .values))
   pub multiplying : (c : ProductCall) → Refused (c .status)
       → Refuses (c .status) (λ q. multiply (c .rows) (c .offsets) (c .columns) (c .values) (c .input) (c .overwrite) (c .output) (c .work) .answer ≡ Tests.Refused q) (c .output′ ≡ c .output)
+
+-- ==== 3
+-- A model or a basis may be lent twice in tables of other lengths: it is the same if the places in use are
+pub record SameModelLent (m : Model) (t : Tables) (m′ : Model) (t′ : Tables) : Type 0 where
+  pub same-model : m ≡ m′
+  pub same-places : SameModel m t t′
+
+-- ---- which entries a call keeps
+-- prune and cap: a flag for each position before the call; admission: one for each listed word
+abbrev pub prunedBy : PruneCall → List ℕ
+prunedBy c = prunedFlags (c .basis .len) (c .basis .lanes) (c .basis .coeffs) (c .basis .protected) (c .dropTol)
+
+abbrev pub cappedBy : CapCall → List ℕ
+cappedBy c = cappedFlags (c .basis .len) (c .basis .lanes) (c .basis .coeffs) (c .basis .protected) (c .limit)
+
+abbrev pub admittedBy : AdmitCall → List ℕ
+admittedBy c = admitFlags (c .len) (c .values) (c .limit)
+
+-- the basis afterwards is the flagged entries, each word with the coefficient that it had, in order
+pub record Keeps (b : Leakage.Basis) (flags : List ℕ) (answer : KeptEntries) (lanes′ : List ℕ) (coeffs′ : List Float) : Type 0 where
+  pub each : length flags ≡ b .len
+  pub count : answer .entries ≡ flagged flags
+  pub words-kept : take (answer .entries) (words lanes′) ≡ pick flags (basisWords b)
+  pub coeffs-kept : take (answer .entries) coeffs′ ≡ pick flags (basisCoeffs b)
+
+-- the basis afterwards is the entries that stood, and behind them the flagged words of the list in its order, each with coefficient 0
+pub record Admits (c : AdmitCall) : Type 0 where
+  pub each : length (admittedBy c) ≡ length (c .values)
+  pub count : c .answer .entries ≡ c .len + flagged (admittedBy c)
+  pub words-are : take (c .answer .entries) (words (c .lanes′)) ≡ take (c .len) (words (c .lanes)) ++ pick (admittedBy c) (words (c .list))
+  pub coeffs-are : take (c .answer .entries) (c .coeffs′) ≡ take (c .len) (c .coeffs) ++ replicate (flagged (admittedBy c)) float0
+
+-- one basis, and one list, in two admissions
+pub record SameListed (c c′ : AdmitCall) : Type 0 where
+  pub same-len : c .len ≡ c′ .len
+  pub same-words : take (c .len) (words (c .lanes)) ≡ take (c′ .len) (words (c′ .lanes))
+  pub same-coeffs : take (c .len) (c .coeffs) ≡ take (c′ .len) (c′ .coeffs)
+  pub same-list : words (c .list) ≡ words (c′ .list)
+  pub same-values : c .values ≡ c′ .values
+
+-- the words that leakage lists, each with its value
+abbrev pub leakedBy : LeakCall → Rows
+leakedBy c = table (c .answer .count) (c .outWords′) (c .outValues′)
+
+-- "Of two accepted calls of leakage over at most 4,096 words, of admission, prune or cap, alike but for a raised word limit, a lowered
+-- threshold or both, whatever places each was lent, the second keeps every word that the first kept, with the same coefficient."
+pub record LosesNobody : Type 0 where
+  pub leakage : (c c′ : LeakCall) → Accepted (c .answer .status) → Accepted (c′ .answer .status)
+      → SameModelLent (c .model) (c .tables) (c′ .model) (c′ .tables) → SameBasis (c .basis) (c′ .basis) → c .basis .len ≤ passSize → Looser (c .limits) (c′ .limits)
+      → Leak.LosesNobody (leakedBy c) (leakedBy c′)
+  pub admission : (c c′ : AdmitCall) → Accepted (c .answer .status) → Accepted (c′ .answer .status) → SameListed c c′ → c .limit ≤ c′ .limit
+      → Admits c × Admits c′ × Flags.LosesNobody (admittedBy c) (admittedBy c′)
+  pub prune : (c c′ : PruneCall) → Accepted (c .answer .status) → Accepted (c′ .answer .status) → SameBasis (c .basis) (c′ .basis) → le (c′ .dropTol) (c .dropTol) ≡ true
+      → Keeps (c .basis) (prunedBy c) (c .answer) (c .lanes′) (c .coeffs′) × Keeps (c′ .basis) (prunedBy c′) (c′ .answer) (c′ .lanes′) (c′ .coeffs′) × Flags.LosesNobody (prunedBy c) (prunedBy c′)
+  pub cap : (c c′ : CapCall) → Accepted (c .answer .status) → Accepted (c′ .answer .status) → SameBasis (c .basis) (c′ .basis) → c .limit ≤ c′ .limit
+      → Keeps (c .basis) (cappedBy c) (c .answer) (c .lanes′) (c .coeffs′) × Keeps (c′ .basis) (cappedBy c′) (c′ .answer) (c′ .lanes′) (c′ .coeffs′) × Flags.LosesNobody (cappedBy c) (cappedBy c′)
+
+-- ---- the entries that a call of the generator, or of the matrix by rows, left in its tables
+abbrev pub generated : GeneratorCall → ℕ → ℕ → Float → Type 0
+generated c = Lists (record { answer = Acted.Listed (c .answer .count); rows = c .rows′; columns = c .columns′; values = c .values′ })
+
+abbrev pub byRows : CsrCall → ℕ → ℕ → Float → Type 0
+byRows c = InRow (record { answer = Acted.Listed (c .answer .count); offsets = c .offsets′; columns = c .columns′; values = c .values′ })
+
+-- "Whatever words a basis gains, wherever they stand, an accepted generator or CSR has, for every row and column whose words are old,
+-- the same entry as before, and none where there was none."
+pub record KeepsEntries : Type 0 where
+  pub generator : (c c′ : GeneratorCall) → Accepted (c .answer .status) → Accepted (c′ .answer .status)
+      → SameModelLent (c .model) (c .tables) (c′ .model) (c′ .tables) → Grown (basisOf (c .lanes) (c .len)) (basisOf (c′ .lanes) (c′ .len))
+      → Unchanged (basisOf (c .lanes) (c .len)) (generated c) (basisOf (c′ .lanes) (c′ .len)) (generated c′)
+  pub generator-to-csr : (c : GeneratorCall) (c′ : CsrCall) → Accepted (c .answer .status) → Accepted (c′ .answer .status)
+      → SameModelLent (c .model) (c .tables) (c′ .model) (c′ .tables) → Grown (basisOf (c .lanes) (c .len)) (basisOf (c′ .lanes) (c′ .len))
+      → Unchanged (basisOf (c .lanes) (c .len)) (generated c) (basisOf (c′ .lanes) (c′ .len)) (byRows c′)
+  pub csr-to-generator : (c : CsrCall) (c′ : GeneratorCall) → Accepted (c .answer .status) → Accepted (c′ .answer .status)
+      → SameModelLent (c .model) (c .tables) (c′ .model) (c′ .tables) → Grown (basisOf (c .lanes) (c .len)) (basisOf (c′ .lanes) (c′ .len))
+      → Unchanged (basisOf (c .lanes) (c .len)) (byRows c) (basisOf (c′ .lanes) (c′ .len)) (generated c′)
+  pub csr : (c c′ : CsrCall) → Accepted (c .answer .status) → Accepted (c′ .answer .status)
+      → SameModelLent (c .model) (c .tables) (c′ .model) (c′ .tables) → Grown (basisOf (c .lanes) (c .len)) (basisOf (c′ .lanes) (c′ .len))
+      → Unchanged (basisOf (c .lanes) (c .len)) (byRows c) (basisOf (c′ .lanes) (c′ .len)) (byRows c′)
+
+-- What the matrix by rows leaves passes the product's tests, with every input and output of as many finite numbers as there are rows
+pub record MakesProducts : Type 0 where
+  pub tests-passed : (c : CsrCall) → Accepted (c .answer .status) → (input : List Float) (overwrite : Bool) (output work : List Float)
+      → length input ≡ c .len → length output ≡ c .len → c .len ≤ length work → AllFinite input → AllFinite output
+      → let offsets : List ℕ = take (c .len + 1) (c .offsets′) in
+      let columns : List ℕ = take (c .answer .count) (c .columns′) in
+      let values : List Float = take (c .answer .count) (c .values′) in
+      lengthTests (c .len) offsets columns values input output work (tableTests (c .len) offsets columns values input overwrite output Tests.Accepted) ≡ Tests.Accepted
+
+-- "Each limit keeps exactly the number 01 states"
+pub record KeepsExactly : Type 0 where
+  -- after a pass min(room, candidates) stay; those above tau_add after the last one are listed
+  pub leakage-pass : (c : LeakCall) → Accepted (c .answer .status) → (k : ℕ) → k < passCount (c .basis .len)
+      → length (stayAfter (c .model) (c .tables) (c .basis) (c .limits) (suc k)) ≡ min (roomOf (c .basis) (c .limits)) (length (heldIn (c .model) (c .tables) (c .basis) (c .limits) k))
+  pub leakage-list : (c : LeakCall) → Accepted (c .answer .status) → leakedBy c ≡ listOf (c .model) (c .tables) (c .basis) (c .limits)
+  -- admission appends min(room, listed)
+  pub admission : (c : AdmitCall) → Accepted (c .answer .status) → c .answer .entries ≡ c .len + min (c .limit - c .len) (length (c .values))
+  -- cap: nothing at or under the limit; else exactly max(limit, protected positions)
+  pub cap-under : (c : CapCall) → Accepted (c .answer .status) → c .basis .len ≤ c .limit → c .answer .entries ≡ c .basis .len
+  pub cap-above : (c : CapCall) → Accepted (c .answer .status) → c .limit < c .basis .len
+      → c .answer .entries ≡ max (c .limit) (flagged (protectedFlags (c .basis .len) (c .basis .lanes) (c .basis .protected)))
+
+-- "and every unprotected word kept is at least as large as every unprotected word dropped, in leakage within each pass, in admission
+-- among the words listed."
+abbrev pub AtLeast : Float → Float → Type 0
+AtLeast x y = le (magnitude y) (magnitude x) ≡ true
+
+-- by flags: fixed for those that are protected, flags for those that are kept
+abbrev pub LargerKept : List Float → List ℕ → List ℕ → Type 0
+LargerKept values fixed flags =
+    (p q : ℕ) → p < length fixed → q < length fixed → getD fixed p 0 ≡ 0 → getD fixed q 0 ≡ 0 → Flagged flags p → getD flags q 0 ≡ 0 → AtLeast (getD values p nan) (getD values q nan)
+
+-- by rows: of those that were held, some are left
+abbrev pub LargerLeft : Rows → Rows → Type 0
+LargerLeft held left = (r s : Row Word Float) → Member r left → Member s held → (Member s left → ⊥) → AtLeast (r .sum) (s .sum)
+
+pub record KeepsLargest : Type 0 where
+  pub leakage-pass : (c : LeakCall) → Accepted (c .answer .status) → (k : ℕ) → k < passCount (c .basis .len)
+      → LargerLeft (heldIn (c .model) (c .tables) (c .basis) (c .limits) k) (stayAfter (c .model) (c .tables) (c .basis) (c .limits) (suc k))
+  pub leakage-list : (c : LeakCall) → Accepted (c .answer .status) → LargerLeft (stayAfter (c .model) (c .tables) (c .basis) (c .limits) (passCount (c .basis .len))) (leakedBy c)
+  pub admission : (c : AdmitCall) → Accepted (c .answer .status) → LargerKept (c .values) (replicate (length (c .values)) 0) (admittedBy c)
+  pub prune : (c : PruneCall) → Accepted (c .answer .status) → LargerKept (c .basis .coeffs) (protectedFlags (c .basis .len) (c .basis .lanes) (c .basis .protected)) (prunedBy c)
+  pub cap : (c : CapCall) → Accepted (c .answer .status) → LargerKept (c .basis .coeffs) (protectedFlags (c .basis .len) (c .basis .lanes) (c .basis .protected)) (cappedBy c)
