@@ -25,7 +25,7 @@ use Rattle.leakage.specs.Leakages.{Basis}
 use Rattle.leakage_laws.specs.Members.{Has}
 use Rattle.leakage_laws.specs.Calls as Leak
 use Rattle.generator_laws.specs.Matrices.{HasRow, Reached}
-use Rattle.accounting.specs.Homes.{ProtectedOutside, OnlyReached, Accounted}
+use Rattle.accounting.specs.Homes.{AtMostOne, ProtectedOutside, OnlyReached, Accounted, AccountedWithoutRoom}
 
 -- ---- a term of a list, and its word
 record TermOf (w : Word) (L : List Term) : Type 0 where
@@ -75,12 +75,38 @@ module _ (m : Model) (t : Tables) (b : Basis) (each : length (Leak.basisWords b)
   module _ (has : ℕ → ℕ → Float → Type 0)
       (row-reached : (w : Word) → HasRow (Leak.basisWords b) has w → (isAmong w (Leak.basisWords b) ≡ true) × Reached (actionOf m t) (Leak.basisWords b) w)
       (reached-row : (w : Word) → isAmong w (Leak.basisWords b) ≡ true → Reached (actionOf m t) (Leak.basisWords b) w → HasRow (Leak.basisWords b) has w) (R : Rows) where
-    pub only-reached : ((w : Word) → Has w (wordsOf R) → Leak.Reached m t b w) → OnlyReached (actionOf m t) (Leak.basisWords b) (words (b .protected)) has (wordsOf R)
+    only-reached : ((w : Word) → Has w (wordsOf R) → Leak.Reached m t b w) → OnlyReached (actionOf m t) (Leak.basisWords b) (words (b .protected)) has (wordsOf R)
     only-reached every = record {
       rows-reached = λ w h. row-reached w h .1;
       entries-reached = λ w h. leaked-reached w (every w h);
     }
 
+    -- ---- whatever the limits
+    module _ (every : (w : Word) → Has w (wordsOf R) → Leak.Reached m t b w) where
+      never-two : (w : Word) → AtMostOne (HasRow (Leak.basisWords b) has w) (ProtectedOutside (Leak.basisWords b) (words (b .protected)) w) (Has w (wordsOf R))
+      never-two w = record {
+        not-both = λ h p. false≢true (sym (p .0) ∙ row-reached w h .0);
+        not-first-last = λ h e. false≢true (sym (outside-parts w (every w e .is-outside) .0) ∙ row-reached w h .0);
+        not-later-both = λ p e. false≢true (sym (outside-parts w (every w e .is-outside) .1) ∙ p .1);
+      }
+
+      homeless : (w : Word) → Reached (actionOf m t) (Leak.basisWords b) w
+          → (HasRow (Leak.basisWords b) has w ⊎ (ProtectedOutside (Leak.basisWords b) (words (b .protected)) w ⊎ Has w (wordsOf R)) → ⊥)
+          → (a c : Bool) → isAmong w (Leak.basisWords b) ≡ a → isAmong w (words (b .protected)) ≡ c → (a ≡ false) × (c ≡ false)
+      homeless w r h true c e f = absurd (h (inl (reached-row w e r)))
+      homeless w r h false true e f = absurd (h (inr (inl (e, f))))
+      homeless w r h false false e f = (refl, refl)
+
+      pub accounted-without-room : AccountedWithoutRoom (actionOf m t) (Leak.basisWords b) (words (b .protected)) has (wordsOf R)
+      accounted-without-room = record {
+        basis-word = λ w r e. (reached-row w e r, never-two w .not-both (reached-row w e r), never-two w .not-first-last (reached-row w e r));
+        protected-word = λ w r p. (p, λ h. never-two w .not-both h p, never-two w .not-later-both p);
+        never-two = never-two;
+        none = λ w r h. homeless w r h (isAmong w (Leak.basisWords b)) (isAmong w (words (b .protected))) refl refl;
+        only = only-reached every;
+      }
+
+    -- ---- where leakage lists all that it reaches
     module _ (l : Leak.ListsReached m t b R) where
       stands : (w : Word) → Reached (actionOf m t) (Leak.basisWords b) w → (a c : Bool) → isAmong w (Leak.basisWords b) ≡ a → isAmong w (words (b .protected)) ≡ c
           → HasRow (Leak.basisWords b) has w ⊎ (ProtectedOutside (Leak.basisWords b) (words (b .protected)) w ⊎ Has w (wordsOf R))
@@ -90,11 +116,6 @@ module _ (m : Model) (t : Tables) (b : Basis) (each : length (Leak.basisWords b)
 
       pub accounted : Accounted (actionOf m t) (Leak.basisWords b) (words (b .protected)) has (wordsOf R)
       accounted = record {
-        home = λ w r. record {
-          some = stands w r (isAmong w (Leak.basisWords b)) (isAmong w (words (b .protected))) refl refl;
-          not-both = λ h p. false≢true (sym (p .0) ∙ row-reached w h .0);
-          not-first-last = λ h e. false≢true (sym (outside-parts w (l .every w e .is-outside) .0) ∙ row-reached w h .0);
-          not-later-both = λ p e. false≢true (sym (outside-parts w (l .every w e .is-outside) .1) ∙ p .1);
-        };
+        home = λ w r. record { some = stands w r (isAmong w (Leak.basisWords b)) (isAmong w (words (b .protected))) refl refl; one = never-two (l .every) w };
         only = only-reached (l .every);
       }

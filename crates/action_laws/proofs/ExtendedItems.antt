@@ -4,41 +4,33 @@
 -- A model with more laid after it: its Hamiltonian terms and entries are those that stood, then the new ones, and what stood
 -- adds what it added. Assumes nothing.
 use mathlib.Core.Path.{_≡_, refl, sym, ap, ap₂, _∙_}
-use mathlib.Core.Bool.{true, false, cond}
 use mathlib.Core.List.{List, [], _∷_, _++_, map, map-append, append-assoc}
-use Prim.Native.Nat.{ℕ, zero, suc, _+_, _*_, _%_, _≤_, _<_}
+use Prim.Native.Nat.{ℕ, zero, suc, _+_, _*_, _≤_, _<_}
 use native.Mathlib.Omega.{arith}
-use borrow.Author.Tests.{leb-true, ltb-true, not-false}
-use lib.Dec.{leb, ltb}
 use lib.Ieee.{Float, nan}
 use lib.ListN.{length, getD, length-map, List·getD-map}
 use Rattle.word.specs.Word.{identity, Sound}
 use Rattle.word.specs.Flat.{words}
-use Rattle.word.specs.Product.{phase}
-use Rattle.word.specs.Register.{share}
 use Rattle.word.specs.declared.word.Word.{Word}
 use Rattle.number.specs.Floats.{floats}
 use Rattle.gksl.specs.Model.{RealTerm}
-use Rattle.gksl.specs.Rules.{clashOver}
 use Rattle.gksl.specs.Words.{pauli}
 use Rattle.model.specs.Stored.{Tables, jumpAt}
-use Rattle.model.specs.Tested.{badJump, inside, width}
 use Rattle.model.specs.Given.{Term}
 use Rattle.model.specs.Product.{termsIn}
 use Rattle.model.specs.Compiled.{Compiled}
 use Rattle.model.specs.Built.{entriesFrom, ratesOf}
 use Rattle.model.specs.declared.tables.Model.{Model}
-use Rattle.model.specs.declared.tables.Range.{Range}
 use Rattle.model.specs.declared.tables.Jump.{Jump}
-use Rattle.model.specs.declared.tables.Jump.the-variants.{Pauli, General, Pair}
+use Rattle.model.specs.declared.tables.Jump.the-variants.{Pauli}
 use Rattle.model_laws.specs.Every.{Every}
 use Rattle.model_laws.specs.Stands.{Stands}
 use Rattle.model_laws.specs.Extended.{Additions, larger, extended}
 use Rattle.model_laws.proofs.Lists.{every-map}
 use Rattle.model_laws.proofs.LaidLaws.{set-other, set-here, words-other, words-here, entries-other, entries-here, jump-same}
-use Rattle.model_laws.proofs.JumpTests.{both}
 use Rattle.model_laws.proofs.CompiledLaws.{entries-length}
 use Rattle.rules.specs.Adds.{upTo, realAt, realsIn, jumpsIn, jumpAdds, pairAdds, gatherJumps}
+use Rattle.in_use.proofs.KeptItems.{read-same, jumps-kept, pairs-kept}
 use Rattle.action_laws.proofs.LaidTerms.{terms-kept, word-kept}
 
 -- ---- a list by its places
@@ -54,12 +46,6 @@ upTo-parted k (suc a) b =
     ap (upTo k) e ∙ ap (λ (l : List ℕ). k ∷ l) (upTo-parted (suc k) a b ∙ ap (λ (n : ℕ). upTo (suc k) a ++ upTo n b) f)
 
 module _ {A : Type 0} where
-  read-same : (f g : ℕ → A) (k n : ℕ) → ((i : ℕ) → k ≤ i → i < k + n → f i ≡ g i) → map f (upTo k n) ≡ map g (upTo k n)
-  unfolding upTo
-  read-same f g k zero h = refl
-  read-same f g k (suc n) h =
-      ap₂ (λ (a : A) (l : List A). a ∷ l) (h k (omega arith) (omega arith)) (read-same f g (suc k) n (λ i p q. h i (omega arith) (omega arith)))
-
   read-list : (f : ℕ → A) (k n : ℕ) (l : List A) (d : A) → n ≡ length l → ((i j : ℕ) → j ≡ k + i → i < length l → f j ≡ getD l i d) → map f (upTo k n) ≡ l
   unfolding upTo
   read-list f k zero [] d e h = refl
@@ -164,58 +150,12 @@ module _ (m : Model) (t : Tables) (a : Additions) (x : Laying m t a) where
         ∙ jumps-at at cs i (Pauli nan 0) new)
 
 -- ---- what stood adds what it added
-module _ (p : Word) (t u : Tables) (n : ℕ)
-    (terms : (s e : ℕ) → s ≤ e → e ≤ n → termsIn (u .tWords) (u .tNumbers) s e ≡ termsIn (t .tWords) (t .tNumbers) s e)
-    (word : (i : ℕ) → i < n → getD (words (u .tWords)) i identity ≡ getD (words (t .tWords)) i identity) where
-  range-kept : (r : Range) → inside n r ≡ true → termsIn (u .tWords) (u .tNumbers) (r .start) (r .end) ≡ termsIn (t .tWords) (t .tNumbers) (r .start) (r .end)
-  range-kept r h = let e = both (leb (r .start) (r .end)) h in terms (r .start) (r .end) (leb-true (r .start) (r .end) (e .0)) (leb-true (r .end) n (e .1))
-
-  jump-kept : (j : Jump) → badJump n j ≡ false → jumpAdds p u j ≡ jumpAdds p t j
-  unfolding badJump jumpAdds
-  jump-kept (Pauli rate place) h =
-      ap (λ (w : Word). cond (share w p) (clashOver floats pauli (phase w p % 2) rate p) []) (word place (ltb-true place n (both (ltb place n) (not-false _ h) .0)))
-  jump-kept (General rate op product) h =
-      let e = both (inside n op) (not-false _ h) in
-      rw (range-kept op (e .0), range-kept product (both (inside n product) (e .1) .0)) refl
-  jump-kept (Pair left right factors product) h = refl
-
-  pair-kept : (j : Jump) → badJump n j ≡ false → pairAdds p u j ≡ pairAdds p t j
-  unfolding badJump pairAdds
-  pair-kept (Pauli rate place) h = refl
-  pair-kept (General rate op product) h = refl
-  pair-kept (Pair left right factors product) h =
-      let e = both (inside n left) (not-false _ h) in
-      let f = both (inside n right) (e .1) in
-      let g = both (inside n product) (f .1) in
-      rw (
-        range-kept left (e .0),
-        range-kept right (f .0),
-        range-kept product (g .0),
-        terms factors (factors + width left * width right) (omega arith) (leb-true (factors + width left * width right) n (g .1)),
-      ) refl
-
-gathered-same : (f g : Jump → List Term) (P : Jump → Type 0) → ((j : Jump) → P j → f j ≡ g j) → (J : List Jump) → Every P J → gatherJumps f J ≡ gatherJumps g J
-unfolding gatherJumps
-gathered-same f g P h [] e = refl
-gathered-same f g P h (j ∷ J) e = ap₂ (λ (a b : List Term). a ++ b) (h j (e .0)) (gathered-same f g P h J (e .1))
-
 pub gathered-both : (f : Jump → List Term) (J K : List Jump) → gatherJumps f (J ++ K) ≡ gatherJumps f J ++ gatherJumps f K
 unfolding gatherJumps
 gathered-both f [] K = refl
 gathered-both f (j ∷ J) K = ap (λ (l : List Term). f j ++ l) (gathered-both f J K) ∙ sym (append-assoc (f j) (gatherJumps f J) (gatherJumps f K))
 
-every-upTo : (P : Jump → Type 0) (f : ℕ → Jump) (k n : ℕ) → ((i : ℕ) → k ≤ i → i < k + n → P (f i)) → Every P (map f (upTo k n))
-unfolding upTo
-every-upTo P f k zero h = tt
-every-upTo P f k (suc n) h = (h k (omega arith) (omega arith), every-upTo P f (suc k) n (λ i p q. h i (omega arith) (omega arith)))
-
 module _ (m : Model) (t : Tables) (a : Additions) (s : Stands m t) (x : Laying m t a) (p : Word) where
-  abbrev Fits : Jump → Type 0
-  Fits j = badJump (m .terms) j ≡ false
-
-  stood-fit : Every Fits (jumpsIn m t)
-  stood-fit = every-upTo Fits (jumpAt (t .jumps) (t .rates)) 0 (m .jumps) (λ i q l. s .fits i (omega arith))
-
   terms-stay : (b e : ℕ) → b ≤ e → e ≤ m .terms → termsIn (extended m t a .tWords) (extended m t a .tNumbers) b e ≡ termsIn (t .tWords) (t .tNumbers) b e
   unfolding extended
   terms-stay = terms-kept (m .terms) (a .terms) (t .tWords) (t .tNumbers) (x .terms) (x .t-words-room) (x .t-numbers-room)
@@ -225,7 +165,7 @@ module _ (m : Model) (t : Tables) (a : Additions) (s : Stands m t) (x : Laying m
   word-stays = word-kept (m .terms) (a .terms) (t .tWords) (t .tNumbers) (x .terms) (x .t-words-room) (x .t-numbers-room)
 
   pub jumps-stay : gatherJumps (jumpAdds p (extended m t a)) (jumpsIn m t) ≡ gatherJumps (jumpAdds p t) (jumpsIn m t)
-  jumps-stay = gathered-same _ _ Fits (jump-kept p t (extended m t a) (m .terms) terms-stay word-stays) (jumpsIn m t) stood-fit
+  jumps-stay = jumps-kept p m t (extended m t a) s terms-stay word-stays
 
   pub pairs-stay : gatherJumps (pairAdds p (extended m t a)) (jumpsIn m t) ≡ gatherJumps (pairAdds p t) (jumpsIn m t)
-  pairs-stay = gathered-same _ _ Fits (pair-kept p t (extended m t a) (m .terms) terms-stay word-stays) (jumpsIn m t) stood-fit
+  pairs-stay = pairs-kept p m t (extended m t a) s terms-stay word-stays

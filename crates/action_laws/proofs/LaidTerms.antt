@@ -8,7 +8,7 @@ use Prim.Native.Nat.{ℕ, zero, suc, _+_, _-_, _*_, _≤_, _<_}
 use native.Mathlib.Omega.{arith}
 use lib.Ieee.{Float}
 use lib.ListN.{length, getD, take, drop, set, length-append, length-map}
-use lib.Seq.{take-append-seam, drop-append-seam, take-set-le, take-take, take-add, drop-drop, getD-take}
+use lib.Seq.{take-append-seam, drop-append-seam, take-set-le, take-take, take-add, drop-drop}
 use Rattle.word.specs.Word.{identity, Sound}
 use Rattle.word.specs.Flat.{words, layWord}
 use Rattle.word.specs.declared.word.Word.{Word}
@@ -25,6 +25,7 @@ use Rattle.model.proofs.WorkLaws.{rows-length}
 use Rattle.model_laws.specs.Every.{Every}
 use Rattle.model_laws.proofs.Lists.{every-map}
 use Rattle.model_laws.proofs.LaidLaws.{word-length, number-length}
+use Rattle.in_use.proofs.Firsts.{same-at, same-part}
 
 -- ---- plain elements
 module _ {A : Type 0} where
@@ -38,7 +39,7 @@ module _ {A : Type 0} where
   laid-before k n [] l h = refl
   laid-before k n (b ∷ bs) l h = laid-before (suc k) n bs (set l k b) (omega arith) ∙ take-set-le n l k b h
 
-  laid-first : (bs l : List A) → length bs ≤ length l → take (length bs) (laid set 0 bs l) ≡ bs
+  pub laid-first : (bs l : List A) → length bs ≤ length l → take (length bs) (laid set 0 bs l) ≡ bs
   unfolding laid
   laid-first [] l h = refl
   laid-first (b ∷ bs) [] h = absurd (omega arith)
@@ -49,15 +50,8 @@ module _ {A : Type 0} where
   laid-here (suc k) bs [] h = absurd (omega arith)
   laid-here (suc k) bs (a ∷ l) h = ap (λ (r : List A). take (length bs) (drop (suc k) r)) (laid-past k bs l a) ∙ laid-here k bs l (omega arith)
 
-  -- a part of the first k
-  part-inside : (m n k : ℕ) (l : List A) → n + m ≤ k → take m (drop n (take k l)) ≡ take m (drop n l)
-  part-inside m zero k l h = take-take m k l (omega arith)
-  part-inside m (suc n) zero l h = absurd (omega arith)
-  part-inside m (suc n) (suc k) [] h = refl
-  part-inside m (suc n) (suc k) (a ∷ l) h = part-inside m n k l (omega arith)
-
 -- ---- words, numbers, and the rows that they make
-words-laid : (k : ℕ) (ws : List Word) (l : List ℕ) → Every Sound ws → 4 * (k + length ws) ≤ length l → words (laid layWord k ws l) ≡ laid set k ws (words l)
+pub words-laid : (k : ℕ) (ws : List Word) (l : List ℕ) → Every Sound ws → 4 * (k + length ws) ≤ length l → words (laid layWord k ws l) ≡ laid set k ws (words l)
 unfolding laid
 words-laid k [] l s h = refl
 words-laid k (w ∷ ws) l s h =
@@ -79,7 +73,7 @@ rows-set (suc i) (v ∷ ws) [] w z = refl
 rows-set zero (v ∷ ws) (y ∷ zs) w z = refl
 rows-set (suc i) (v ∷ ws) (y ∷ zs) w z = ap (λ (r : List Term). row v y ∷ r) (rows-set i ws zs w z)
 
-rows-laid : (k : ℕ) (T : List Term) (ws : List Word) (zs : List (Cx floats))
+pub rows-laid : (k : ℕ) (T : List Term) (ws : List Word) (zs : List (Cx floats))
     → rows (laid set k (map (λ (c : Term). c .word) T) ws) (laid set k (map (λ (c : Term). c .num) T) zs) ≡ laid set k T (rows ws zs)
 unfolding laid
 rows-laid k [] ws zs = refl
@@ -147,13 +141,9 @@ module _ (k : ℕ) (T : List Term) (lanes : List ℕ) (numbers : List Float) (so
   pub terms-kept : (s e : ℕ) → s ≤ e → e ≤ k → take (e - s) (drop s laidRows) ≡ take (e - s) (drop s (rows (words lanes) (complexes numbers)))
   terms-kept s e h l =
       let R : List Term = rows (words lanes) (complexes numbers) in
-      ap (λ (Q : List Term). take (e - s) (drop s Q)) rows-are
-      ∙ sym (part-inside (e - s) s k (laid set k T R) (omega arith)) ∙ ap (λ (Q : List Term). take (e - s) (drop s Q)) (laid-before k k T R (omega arith))
-      ∙ part-inside (e - s) s k R (omega arith)
+      ap (λ (Q : List Term). take (e - s) (drop s Q)) rows-are ∙ same-part k (laid set k T R) R (laid-before k k T R (omega arith)) s (e - s) (omega arith)
 
   pub word-kept : (i : ℕ) → i < k → getD (words laidWords) i identity ≡ getD (words lanes) i identity
   word-kept i h =
-      ap (λ (ws : List Word). getD ws i identity) words-are
-      ∙ sym (getD-take k (laid set k (map (λ (c : Term). c .word) T) (words lanes)) i identity h)
-      ∙ ap (λ (ws : List Word). getD ws i identity) (laid-before k k (map (λ (c : Term). c .word) T) (words lanes) (omega arith))
-      ∙ getD-take k (words lanes) i identity h
+      let ws : List Word = map (λ (c : Term). c .word) T in
+      ap (λ (vs : List Word). getD vs i identity) words-are ∙ same-at k (laid set k ws (words lanes)) (words lanes) (laid-before k k ws (words lanes) (omega arith)) i identity h

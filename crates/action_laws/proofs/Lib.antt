@@ -19,6 +19,8 @@ pub mod WholeMatrices
 pub mod WholeAction
 pub mod WholeListed
 pub mod MadeExact
+pub mod ListedWords
+pub mod CallExact
 pub mod Runs
 pub mod ReachedNothing
 pub mod ReachedNear

@@ -26,7 +26,7 @@ use Rattle.model_laws.specs.Exactly.{Exactly}
 use Rattle.model_laws.proofs.Lists.{every-weaken, every-append}
 use Rattle.model_laws.proofs.StandsLaws.{tested-stands}
 use Rattle.model_laws.proofs.ReadItems.{JumpGood, jump-read, each-every}
-use Rattle.action_laws.specs.Made.{Made, built, added}
+use Rattle.action_laws.specs.Made.{Made, built, added, lent}
 use Rattle.action_laws.specs.WholeModel.{Beside, WholeMatrix, WholeModel, pairCount, FewTerms, Limits}
 use Rattle.action_laws.proofs.MatrixRules.{counted-length}
 use Rattle.action_laws.proofs.OperatorsRead.{OperatorGood, operators-good, operators-counted}
@@ -84,6 +84,7 @@ made-parts _ _ _ (added g m t made i workWords workNumbers m′ As answer read) 
         tt,
       );
     }
+made-parts _ _ _ (lent g m t t′ made same) = made-parts g m t made
 
 -- ---- the limits
 pub made-limits : (g : ModelOver floats pauli) (m : Model) (t : Tables) → Made g m t → Limits g

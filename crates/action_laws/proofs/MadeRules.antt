@@ -1,8 +1,8 @@
 -- SPDX-FileCopyrightText: 2026 The PPVM Authors
 -- SPDX-License-Identifier: Apache-2.0
 
--- The rules over what is stored in the tables of a model that was built, with the matrices added to it, are the rules over what
--- was given, bit for bit. Assumes nothing.
+-- The rules over what is stored in the tables of a model that was built, with the matrices added to it, in whatever tables it is lent,
+-- are the rules over what was given, bit for bit. Assumes nothing.
 use mathlib.Core.Path.{_≡_, refl, sym, ap, ap₂, _∙_}
 use mathlib.Core.List.{List, [], _∷_, _++_, map, append-nil, append-assoc}
 use Prim.Native.Nat.{ℕ, _+_}
@@ -44,7 +44,8 @@ use Rattle.model_laws.proofs.CompiledLaws.{TermGood, CompiledGood, compiled-goo
 use Rattle.model_laws.proofs.BuiltLaws.{empty, built-passes}
 use Rattle.model_laws.proofs.AddedLaws.{added-passes}
 use Rattle.rules.specs.Adds.{upTo, realsIn, jumpsIn, jumpAdds, pairAdds, gatherJumps, rulesStored}
-use Rattle.action_laws.specs.Made.{Made, built, added, withMatrix}
+use Rattle.in_use.proofs.SameModels.{same-passes, same-rules}
+use Rattle.action_laws.specs.Made.{Made, built, added, lent, withMatrix}
 use Rattle.action_laws.proofs.LaidTerms.{holds-left, holds-right, laid-holds}
 use Rattle.action_laws.proofs.ExtendedItems.{Laying, jumpsFrom, reals-read, jumps-read, gathered-both, jumps-stay, pairs-stay}
 use Rattle.action_laws.proofs.JumpRules.{jumps-add, jumps-no-pairs}
@@ -56,6 +57,7 @@ use Rattle.action_laws.proofs.MadeParts.{built-is, added-is}
 pub made-passes : (g : ModelOver floats pauli) (m : Model) (t : Tables) → Made g m t → testModel m t ≡ Accepted
 made-passes _ _ _ (built n i t workWords workNumbers m hs js answer reals jumps) = built-passes n i t workWords workNumbers m answer
 made-passes _ _ _ (added g m t made i workWords workNumbers m′ As answer read) = added-passes m i t workWords workNumbers m′ answer
+made-passes _ _ _ (lent g m t t′ made same) = same-passes m t t′ same (made-passes g m t made)
 
 -- ---- there was room for what stands
 laying-of : (m : Model) (t : Tables) (a : Additions) → Stands (larger m a) (extended m t a) → length (a .rates) ≡ length (a .entries)
@@ -236,3 +238,4 @@ made-rules _ _ _ (added g m t made i workWords workNumbers m′ As answer read) 
     added-rules m t (made-passes g m t made) i workWords workNumbers m′ As answer read p
     ∙ ap (λ (l : List Term). l ++ matrixOver floats pauli (largestOver floats (matrix i)) (entryIn floats (length As) (matrix i)) (rowsOver floats pauli 0 As) p) (made-rules g m t made p)
     ∙ rules-with g (record { ops = As; entries = matrix i }) p
+made-rules _ _ _ (lent g m t t′ made same) p = sym (same-rules m t t′ same (made-passes g m t made) p) ∙ made-rules g m t made p

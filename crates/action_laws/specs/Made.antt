@@ -1,7 +1,8 @@
 -- SPDX-FileCopyrightText: 2026 The PPVM Authors
 -- SPDX-License-Identifier: Apache-2.0
 
--- A model that was built, with the matrices added to it: what was given, as it was read, and what stands in the lent tables.
+-- A model that was built, with the matrices added to it, in whatever tables it is lent: what was given, as it was read, and what stands
+-- in the places in use.
 use Prim.Native.Nat.{ℕ}
 use mathlib.Core.Path.{_≡_}
 use mathlib.Core.List.{List, [], _∷_, _++_}
@@ -15,6 +16,7 @@ use Rattle.model.specs.Built as Building
 use Rattle.model.specs.declared.tables.Model.{Model}
 use Rattle.model.specs.declared.spec.Built.the-variants as Answers
 use Rattle.kossakowski.specs.Added as Adding
+use Rattle.in_use.specs.InUse.{SameModel}
 
 -- with one more matrix
 abbrev pub withMatrix : ModelOver floats pauli → MatrixOver floats pauli → ModelOver floats pauli
@@ -32,3 +34,5 @@ pub data Made : ModelOver floats pauli → Model → Tables → Type 0 where
       → Adding.add m i t workWords workNumbers .answer ≡ Answers.Model m′
       → Adding.readOperators (m .qubits) i ≡ got As
       → Made (withMatrix g (record { ops = As; entries = Adding.matrix i })) m′ (Adding.add m i t workWords workNumbers .tables)
+  -- trimmed, or copied to other tables
+  lent : (g : ModelOver floats pauli) (m : Model) (t t′ : Tables) → Made g m t → SameModel m t t′ → Made g m t′

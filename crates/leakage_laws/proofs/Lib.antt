@@ -3,7 +3,6 @@
 
 -- Laws about what leakage lists.
 pub mod BelowZero
-pub mod MadeWords
 pub mod KeepLaws
 pub mod CourseLaws
 pub mod ReadLaws

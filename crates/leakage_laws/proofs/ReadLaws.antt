@@ -33,12 +33,12 @@ use Rattle.model.specs.declared.tables.Model.{Model}
 use Rattle.model_laws.specs.Every.{Every}
 use Rattle.model_laws.proofs.LaidLaws.{laid-length, word-length, set-here, words-here}
 use Rattle.action.specs.Acts.{actionOf, listPlaces}
+use Rattle.action_laws.proofs.ListedWords.{Formed, OfFormed, listed-formed}
 use Rattle.passes.specs.Leaks.{outside, leaked, sumsOf, wordsOf, largest, above, isAbove}
 use Rattle.leakage.specs.Leakages.{Basis}
 use Rattle.leakage.specs.declared.limits.Limits.{Limits}
 use Rattle.leakage_laws.specs.Calls.{gathered, basisWords, basisCoeffs, leaksOf, roomOf, passOf, stayAfter}
 use Rattle.leakage_laws.proofs.KeepLaws.{roomFlags}
-use Rattle.leakage_laws.proofs.MadeWords.{Made, OfMade, listed-made}
 
 -- ---- read back
 row-at : (R : Rows) (i : ℕ) → i < length R → row (getD (wordsOf R) i identity) (getD (sumsOf R) i nan) ≡ getD R i noRow
@@ -112,17 +112,17 @@ above-sound tau (r ∷ R) h = go (isAbove tau (r .sum)) (above-sound tau R (h .1
     go true rest = (h .0, rest)
     go false rest = rest
 
-leaked-sound : (out : Word → Bool) (p : Word) → (out p ≡ true → Sound p) → (c : Float) (L : List Term) → Every (OfMade p) L → Sounds (leaked out c L)
+leaked-sound : (out : Word → Bool) (p : Word) → (out p ≡ true → Sound p) → (c : Float) (L : List Term) → Every (OfFormed p) L → Sounds (leaked out c L)
 unfolding leaked
 leaked-sound out p own c [] h = tt
 leaked-sound out p own c (x ∷ L) h = go (out (x .word)) refl (leaked-sound out p own c L (h .1))
   where
-    made : Made p (x .word) → out (x .word) ≡ true → Sound (x .word)
-    made (inl s) e = s
-    made (inr z) e = subst Sound (sym z) (own (ap out (sym z) ∙ e))
+    formed : Formed p (x .word) → out (x .word) ≡ true → Sound (x .word)
+    formed (inl s) e = s
+    formed (inr z) e = subst Sound (sym z) (own (ap out (sym z) ∙ e))
 
     go : (b : Bool) → out (x .word) ≡ b → Sounds (leaked out c L) → Sounds (cond b (row (x .word) (floats .times c (x .num .re)) ∷ leaked out c L) (leaked out c L))
-    go true e rest = (made (h .0) e, rest)
+    go true e rest = (formed (h .0) e, rest)
     go false e rest = rest
 
 -- a basis word is not outside the basis
@@ -142,7 +142,7 @@ not-outside basis protected i h = ap (λ (b : Bool). not b && not (isAmong (getD
 
 leaks-sound : (m : Model) (t : Tables) (b : Basis) (p : ℕ) → Sounds (leaksOf m t b p)
 leaks-sound m t b p =
-    leaked-sound (outside (basisWords b) (words (b .protected))) (getD (basisWords b) p identity) (own (ltb p (length (basisWords b))) refl) (getD (basisCoeffs b) p nan) (actionOf m t (getD (basisWords b) p identity)) (listed-made (getD (basisWords b) p identity) m t)
+    leaked-sound (outside (basisWords b) (words (b .protected))) (getD (basisWords b) p identity) (own (ltb p (length (basisWords b))) refl) (getD (basisCoeffs b) p nan) (actionOf m t (getD (basisWords b) p identity)) (listed-formed (getD (basisWords b) p identity) m t)
   where
     own : (a : Bool) → ltb p (length (basisWords b)) ≡ a → outside (basisWords b) (words (b .protected)) (getD (basisWords b) p identity) ≡ true → Sound (getD (basisWords b) p identity)
     own true h e = absurd (holds false (sym (not-outside (basisWords b) (words (b .protected)) p (ltb-true p (length (basisWords b)) h)) ∙ e))
