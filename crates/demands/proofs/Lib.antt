@@ -6,3 +6,6 @@ pub mod OneAnswer
 pub mod Refusals
 pub mod Accepts
 pub mod Bases
+pub mod Exact
+pub mod Leaks
+pub mod Matrices

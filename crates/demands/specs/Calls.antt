@@ -2,7 +2,8 @@
 -- SPDX-License-Identifier: Apache-2.0
 
 -- The exported calls that are lent tables to write: what each was lent, what it answered, and what the lent tables hold afterwards,
--- which is what its contract says. A primed name is the table afterwards. Tables of numbers hold what an f64 can hold.
+-- which is what its contract says. A primed name is the table afterwards. A number that is given is one that an f64 can hold, and a
+-- word has two lanes of 64 bits for x and two for z.
 use Prim.Native.Nat.{ℕ, _<_}
 use mathlib.Core.Path.{_≡_}
 use mathlib.Core.Bool.{Bool, true}
@@ -11,6 +12,7 @@ use lib.Dec.{T}
 use lib.Ieee.{Float, nan, binary64, fits}
 use lib.ListN.{length, getD}
 use Rattle.refusal.specs.declared.Status.{Status}
+use Rattle.word.specs.Word.{Sound}
 use Rattle.word.specs.declared.word.Word.{Word}
 use Rattle.number.specs.Floats.{isFinite}
 use Rattle.model.specs.Stored.{Tables}
@@ -102,6 +104,7 @@ pub record ActionCall : Type 0 where
   pub workWords′ : List ℕ
   pub workSums′ : List Float
   pub leaves : LeavesList (act outWords outValues workWords workSums model tables word) answer outWords′ outValues′ workWords′ workSums′
+  pub word-sound : Sound word
 
 -- ---- pebblelinen_prune_basis
 pub record PruneCall : Type 0 where

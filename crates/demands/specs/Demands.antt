@@ -3,9 +3,9 @@
 
 -- The three demands, sentence by sentence and in their order; a sentence in quotes is the demand's own. Each record is proved in
 -- proofs/ under the name that stands beside it. What "shown by runs of both" asks for is no theorem: docs/DIFFERENCES.md.
-use Prim.Native.Nat.{ℕ, suc, _+_, _-_, _≤_, _<_, min, max}
+use Prim.Native.Nat.{ℕ, suc, _+_, _-_, _%_, _≤_, _<_, min, max}
 use mathlib.Core.Path.{_≡_}
-use mathlib.Core.Bool.{Bool, true}
+use mathlib.Core.Bool.{Bool, true, false}
 use mathlib.Core.List.{List, _++_}
 use lib.Ieee.{Float, nan, le}
 use lib.ListN.{length, getD, take, replicate}
@@ -13,23 +13,31 @@ use Rattle.refusal.specs.Cause.{statusOf}
 use Rattle.refusal.specs.declared.Refusal.{Refusal}
 use Rattle.refusal.specs.declared.Answer.the-variants as Tests
 use Rattle.refusal.specs.declared.Status.{Status}
+use Rattle.word.specs.Count.{sumTo}
+use Rattle.word.specs.Letter.{mulLetter, mulPhase}
+use Rattle.word.specs.Word.{letterAt, maxQubits}
+use Rattle.word.specs.Product.{product}
 use Rattle.word.specs.Codes.{writeAnswer}
 use Rattle.word.specs.Flat.{words}
 use Rattle.word.specs.declared.word.Word.{Word}
-use Rattle.number.specs.Floats.{float0, magnitude}
+use Rattle.word.specs.declared.algebra.Phased.{Phased}
+use Rattle.number.specs.Whole.{whole}
+use Rattle.number.specs.Floats.{floats, float0, magnitude}
+use Rattle.gksl.specs.Model.{ModelOver}
+use Rattle.gksl.specs.Words.{pauli}
 use Rattle.model.specs.Stored.{Tables}
 use Rattle.model.specs.Built as Building
 use Rattle.model.specs.declared.tables.Model.{Model}
 use Rattle.model.specs.declared.spec.Built.the-variants as Built
 use Rattle.kossakowski.specs.Added as Adding
 use Rattle.truncate.specs.Retained.{pick, flagged}
-use Rattle.action.specs.Acts.{Acting, act}
+use Rattle.action.specs.Acts.{actionOf, Acting, act}
 use Rattle.action.specs.declared.act.Acted.the-variants as Acted
 use Rattle.basis.specs.Prunes.{Keeping, protectedFlags, prune, cap}
 use Rattle.basis.specs.Admissions.{Admitting, admitFlags, admit}
 use Rattle.basis.specs.declared.kept.Kept.the-variants as Kept
 use Rattle.leakage.specs.Leakages as Leakage
-use Rattle.passes.specs.Leaks.{passSize, passCount}
+use Rattle.passes.specs.Leaks.{wordsOf, passSize, passCount}
 use Rattle.candidates.specs.Sums.{Row}
 use Rattle.candidates.specs.Log.{Rows, table}
 use Rattle.generator.specs.Lent as Generator
@@ -47,12 +55,16 @@ use Rattle.pebblelinen.specs.declared.actions.ListedWords.{ListedWords}
 use Rattle.pebblelinen.specs.declared.bases.KeptEntries.{KeptEntries}
 use Rattle.pebblelinen.specs.declared.models.BuiltModel.{BuiltModel}
 use Rattle.in_use.specs.InUse.{SameModel}
+use Rattle.action_laws.specs.Made.{Made}
+use Rattle.action_laws.specs.WholeModel.{WholeModel}
+use Rattle.action_laws.specs.Exact.{listIn, ListsGenerator}
 use Rattle.basis_laws.specs.Keeps.{prunedFlags, cappedFlags, Flagged}
 use Rattle.basis_laws.specs.Keeps as Flags
 use Rattle.leakage_laws.specs.Members.{Member}
-use Rattle.leakage_laws.specs.Calls.{basisWords, basisCoeffs, roomOf, stayAfter, heldIn, listOf, SameBasis, Looser}
+use Rattle.leakage_laws.specs.Calls.{basisWords, basisCoeffs, roomOf, stayAfter, heldIn, listOf, SameBasis, Looser, TauBelowZero, RoomForAll}
 use Rattle.leakage_laws.specs.Calls as Leak
 use Rattle.generator_laws.specs.Matrices.{Lists, InRow, Grown, Unchanged}
+use Rattle.accounting.specs.Homes.{Accounted, AccountedWithoutRoom}
 use Rattle.demands.specs.Calls.{Accepted, Refused, AllFinite, WriteCall, BuildCall, AddCall, ActionCall, PruneCall, CapCall, AdmitCall, LeakCall, GeneratorCall, CsrCall, ProductCall}
 
 -- ==== 1
@@ -115,6 +127,25 @@ pub record ChangesNothing : Type 0 where
       ((c .offsets′ ≡ c .offsets) × (c .columns′ ≡ c .columns) × (c .values′ ≡ c .values))
   pub multiplying : (c : ProductCall) → Refused (c .status)
       → Refuses (c .status) (λ q. multiply (c .rows) (c .offsets) (c .columns) (c .values) (c .input) (c .overwrite) (c .output) (c .work) .answer ≡ Tests.Refused q) (c .output′ ≡ c .output)
+
+-- ==== 2
+-- "Where port and Rust may differ, docs/DIFFERENCES.md lists it and document 01 decides; on all other accepted inputs they are equal,
+-- shown by runs of both." Runs, not theorems.
+
+-- "Pauli products are proved against the letter table": of every product that is returned
+pub record ByLetters (p q : Word) (r : Phased) : Type 0 where
+  pub letters : (k : ℕ) → k < maxQubits → letterAt (r .word) k ≡ mulLetter (letterAt p k) (letterAt q k)
+  pub phases : r .phase ≡ sumTo maxQubits (λ k. mulPhase (letterAt p k) (letterAt q k)) % 4
+
+abbrev pub ProductsByLetters : Type 0
+ProductsByLetters = (p q : Word) (r : Phased) → r ≡ product p q → ByLetters p q r
+
+-- "and the action is proved equal to the exact adjoint GKSL generator wherever the model was built by the port and all given numbers
+-- are whole with parts of at most 256 in magnitude": the first words and values of the tables that the call leaves
+abbrev pub ActionIsGenerator : Type 0
+ActionIsGenerator =
+    (c : ActionCall) → Accepted (c .answer .status) → (g : ModelOver floats pauli) → Made g (c .model) (c .tables) → (w : ModelOver whole pauli) → WholeModel g w
+    → ListsGenerator w (c .word) (listIn (c .answer .count) (c .outWords′) (c .outValues′))
 
 -- ==== 3
 -- A model or a basis may be lent twice in tables of other lengths: it is the same if the places in use are
@@ -198,7 +229,7 @@ pub record KeepsEntries : Type 0 where
 -- What the matrix by rows leaves passes the product's tests, with every input and output of as many finite numbers as there are rows
 pub record MakesProducts : Type 0 where
   pub tests-passed : (c : CsrCall) → Accepted (c .answer .status) → (input : List Float) (overwrite : Bool) (output work : List Float)
-      → length input ≡ c .len → length output ≡ c .len → c .len ≤ length work → AllFinite input → AllFinite output
+      → length input ≡ c .len → length output ≡ c .len → c .len ≤ length work → AllFinite input → (overwrite ≡ false → AllFinite output)
       → let offsets : List ℕ = take (c .len + 1) (c .offsets′) in
       let columns : List ℕ = take (c .answer .count) (c .columns′) in
       let values : List Float = take (c .answer .count) (c .values′) in
@@ -238,3 +269,16 @@ pub record KeepsLargest : Type 0 where
   pub admission : (c : AdmitCall) → Accepted (c .answer .status) → LargerKept (c .values) (replicate (length (c .values)) 0) (admittedBy c)
   pub prune : (c : PruneCall) → Accepted (c .answer .status) → LargerKept (c .basis .coeffs) (protectedFlags (c .basis .len) (c .basis .lanes) (c .basis .protected)) (prunedBy c)
   pub cap : (c : CapCall) → Accepted (c .answer .status) → LargerKept (c .basis .coeffs) (protectedFlags (c .basis .len) (c .basis .lanes) (c .basis .protected)) (cappedBy c)
+
+-- "Where generator and leakage accept one model and one basis of distinct words, and tau_add is below zero, a word reached by a nonzero
+-- term of a basis word's action is exactly one of these: generator row, protected word outside the basis, or, given room for all,
+-- leakage entry; only reached words are generator rows or leakage entries." (That the words are distinct the generator tests.)
+pub record OneHome : Type 0 where
+  pub room-for-all : (g : GeneratorCall) (c : LeakCall) → Accepted (g .answer .status) → Accepted (c .answer .status)
+      → SameModelLent (g .model) (g .tables) (c .model) (c .tables) → basisOf (g .lanes) (g .len) ≡ basisWords (c .basis) → TauBelowZero (c .limits)
+      → RoomForAll (c .model) (c .tables) (c .basis) (c .limits)
+      → Accounted (actionOf (c .model) (c .tables)) (basisWords (c .basis)) (words (c .basis .protected)) (generated g) (wordsOf (leakedBy c))
+  -- without room for all, and whatever tau_add: only a reached word outside the basis and unprotected may be none of the three
+  pub any-room : (g : GeneratorCall) (c : LeakCall) → Accepted (g .answer .status) → Accepted (c .answer .status)
+      → SameModelLent (g .model) (g .tables) (c .model) (c .tables) → basisOf (g .lanes) (g .len) ≡ basisWords (c .basis)
+      → AccountedWithoutRoom (actionOf (c .model) (c .tables)) (basisWords (c .basis)) (words (c .basis .protected)) (generated g) (wordsOf (leakedBy c))

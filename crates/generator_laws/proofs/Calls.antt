@@ -13,7 +13,9 @@ use lib.ListN.{length, getD, take, drop}
 use Rattle.word.specs.declared.word.Word.{Word}
 use Rattle.order.specs.Merge.{AllBelow}
 use Rattle.order.specs.Places.{isAmong}
+use Rattle.refusal.specs.declared.Answer.the-variants.{Accepted}
 use Rattle.model.specs.Stored.{Tables}
+use Rattle.model.specs.Tested.{testModel}
 use Rattle.model.specs.declared.tables.Model.{Model}
 use Rattle.action.specs.Acts.{actionOf}
 use Rattle.action.specs.declared.act.Acted.the-variants.{Listed}
@@ -57,6 +59,9 @@ module _ (m : Model) (t : Tables) (bs : List Word) (len : ℕ) (out : CsrOut) (n
 
 -- ---- the generator
 module _ (rows columns : List ℕ) (values : List Float) (w : Work) (m : Model) (t : Tables) (lanes : List ℕ) (len n : ℕ) (accepted : generate rows columns values w m t lanes len .out .answer ≡ Listed n) where
+  pub generator-model : testModel m t ≡ Accepted
+  generator-model = generator-accepted rows columns values w m t lanes len n accepted .model-passes
+
   -- the tables hold exactly the generator's entries
   pub generator-exact : Exact m t (basisOf lanes len) (Lists (generate rows columns values w m t lanes len .out))
   generator-exact = listing-exact m t (basisOf lanes len) (generate rows columns values w m t lanes len .out) n (generator-accepted rows columns values w m t lanes len n accepted)
@@ -72,6 +77,9 @@ module _ (rows columns : List ℕ) (values : List Float) (w : Work) (m : Model) 
 module _ (offsets columns : List ℕ) (values : List Float) (w : Work) (m : Model) (t : Tables) (lanes : List ℕ) (len n : ℕ) (accepted : buildCsr offsets columns values w m t lanes len .out .answer ≡ Listed n) where
   listed : RowListing m t (basisOf lanes len) len (buildCsr offsets columns values w m t lanes len .out) n
   listed = csr-accepted offsets columns values w m t lanes len n accepted
+
+  pub csr-model : testModel m t ≡ Accepted
+  csr-model = listed .model-passes
 
   pub csr-exact : Exact m t (basisOf lanes len) (InRow (buildCsr offsets columns values w m t lanes len .out))
   csr-exact = rows-exact m t (basisOf lanes len) len (buildCsr offsets columns values w m t lanes len .out) n listed
