@@ -8,4 +8,5 @@ pub mod Accepts
 pub mod Bases
 pub mod Exact
 pub mod Leaks
+pub mod Limits
 pub mod Matrices
