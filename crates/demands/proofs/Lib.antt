@@ -10,3 +10,4 @@ pub mod Exact
 pub mod Leaks
 pub mod Limits
 pub mod Matrices
+pub mod Products
