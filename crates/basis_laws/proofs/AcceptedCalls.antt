@@ -24,6 +24,7 @@ use Rattle.basis.specs.Prunes.{Keeping, tested, lengthTests, entryTests, pruneT
 use Rattle.basis.specs.Admissions as Admissions
 use Rattle.basis.specs.declared.kept.Kept.the-variants.{Entries, Refused}
 use Rattle.basis.proofs.ChecksLaws.{lengths-then, entries-then, entries-finite}
+use Rattle.basis.proofs.AdmitTests.{admit-passed}
 
 no-entries : (q : Refusal) (r : ℕ) → Refused q ≡ Entries r → ⊥
 no-entries q r e = let z : _≡_ {A = ℕ} 0 1 = cc in omega arith
@@ -91,3 +92,7 @@ module _ (len : ℕ) (lanes : List ℕ) (coeffs : List Float) (list : List ℕ) 
       let e5 = lent-passed len (length lanes / 4) _ (e4 .1) in
       let e6 = lent-passed len (length coeffs) _ (e5 .1) in
       (omega (arith, e5 .0), e6 .0)
+
+  -- a value for each listed word
+  pub admit-each : length values ≡ length list / 4
+  admit-each = admit-passed len lanes coeffs list values order work kept n limit admit-accepted .values-each

@@ -6,3 +6,4 @@ pub mod AcceptedCalls
 pub mod StaysLaws
 pub mod LosesLaws
 pub mod CapLaws
+pub mod PruneLaws

@@ -1,12 +1,12 @@
 -- SPDX-FileCopyrightText: 2026 The PPVM Authors
 -- SPDX-License-Identifier: Apache-2.0
 
--- A lowered tolerance and a raised limit lose nobody: of two calls alike but for that, and for the work tables lent, the second
--- keeps every position that the first keeps; an admission appends every listed word that the first appends. Assumes nothing.
-use mathlib.Core.Path.{_≡_, refl, sym, ap, _∙_}
+-- A lowered tolerance and a raised limit lose nobody: of two calls alike but for that, and for the places lent, the second keeps
+-- every position that the first keeps; an admission appends every listed word that the first appends. Assumes nothing.
+use mathlib.Core.Path.{_≡_, refl, sym, ap, ap₂, subst, _∙_}
 use mathlib.Core.Bool.{Bool, true, false, cond}
-use mathlib.Core.List.{List}
-use Prim.Native.Nat.{ℕ, _-_, _≤_, _<_}
+use mathlib.Core.List.{List, map}
+use Prim.Native.Nat.{ℕ, _-_, _*_, _≤_, _<_}
 use native.Mathlib.Omega.{arith}
 use borrow.Author.Tests.{ltb-true, ltb-false, leb-true, leb-false}
 use denote.Floats.{passes}
@@ -16,16 +16,19 @@ use lib.Ieee.Bits.{ofBits-fits}
 use lib.ListN.{length, getD, take, replicate, length-replicate, getD-replicate, List·getD-eq-default}
 use lib.Seq.{take-at, length-take-le, getD-take}
 use Rattle.word.specs.Flat.{words}
+use Rattle.word.specs.declared.word.Word.{Word}
 use Rattle.word.proofs.FlatLaws.{words-high}
 use Rattle.number.specs.Floats.{float0, isFinite}
 use Rattle.order.specs.Magnitudes.{byMagnitude}
+use Rattle.order.specs.Places.{isAmong}
 use Rattle.truncate.specs.Retained.{flagged}
+use Rattle.truncate.specs.Chosen.{chosen}
+use Rattle.truncate.specs.Pruned.{largeFlags}
 use Rattle.truncate.proofs.ChosenLaws.{chosen-more}
 use Rattle.truncate.proofs.PruneLaws.{Number, prune-more}
 use Rattle.basis.specs.Prunes.{protectedFlags, pruneFlags, capFlags, prune, cap}
 use Rattle.basis.specs.Admissions.{admitFlags, admit}
 use Rattle.basis.specs.declared.kept.Kept.the-variants.{Entries}
-use Rattle.basis.proofs.ChecksLaws.{Room}
 use Rattle.basis.proofs.PruneLaws.{prune-room}
 use Rattle.basis.proofs.CapLaws.{cap-room}
 use Rattle.basis.proofs.AdmissionLaws.{flags-more, words-after, coeffs-after}
@@ -61,59 +64,74 @@ zero-number : Number float0
 zero-number = record { fits-f64 = ofBits-fits binary64 0; no-nan = unfold isNan ofBits in tt }
 
 -- ---- prune
-module _ (len : ℕ) (lanes : List ℕ) (coeffs : List Float) (n : ℕ) (protected : List ℕ) (fit : Fitting coeffs) where
-  module _ (order work fixed kept order′ work′ fixed′ kept′ : List ℕ) (tol tol′ : Float) (F : T (fits binary64 tol)) (F′ : T (fits binary64 tol′)) (lowered : le tol′ tol ≡ true) (r r′ : ℕ)
-      (answer : prune len lanes coeffs order work fixed kept n protected tol .answer ≡ Entries r)
-      (answer′ : prune len lanes coeffs order′ work′ fixed′ kept′ n protected tol′ .answer ≡ Entries r′) where
-    pub prune-loses-nobody : LosesNobody (prunedFlags len lanes coeffs protected tol) (prunedFlags len lanes coeffs protected tol′)
-    unfolding prunedFlags pruneFlags
-    prune-loses-nobody = record { stays = go (le tol′ float0) refl (le tol float0) refl }
-      where
-        room : Room len lanes coeffs order work fixed kept n protected
-        room = prune-room len lanes coeffs order work fixed kept n protected tol (prune-accepted len lanes coeffs order work fixed kept n protected tol r answer)
-
-        finite : ((i : ℕ) → i < len → isFinite (getD coeffs i nan) ≡ true) × (isFinite tol ≡ true)
-        finite = prune-finite len lanes coeffs order work fixed kept n protected tol r answer
-
-        finite′ : ((i : ℕ) → i < len → isFinite (getD coeffs i nan) ≡ true) × (isFinite tol′ ≡ true)
-        finite′ = prune-finite len lanes coeffs order′ work′ fixed′ kept′ n protected tol′ r′ answer′
-
-        first : Number tol
-        first = number-of tol F (finite .1)
-
-        second : Number tol′
-        second = number-of tol′ F′ (finite′ .1)
-
-        number : (i : ℕ) → i < length (take len coeffs) → Number (getD (take len coeffs) i nan)
-        number i h =
-            let l = length-take-le len coeffs (room .coeffs-room) in
-            let e : getD coeffs i nan ≡ getD (take len coeffs) i nan = sym (getD-take len coeffs i nan (omega (arith, h, l))) in
-            rw (← e) (number-of (getD coeffs i nan) (fit i (omega (arith, h, l, room .coeffs-room))) (finite .0 i (omega (arith, h, l))))
-
-        go : (b′ : Bool) → le tol′ float0 ≡ b′ → (b : Bool) → le tol float0 ≡ b → (p : ℕ) → Flagged (cond b (replicate len 1) (pruneFlags len lanes coeffs protected tol)) p
-            → Flagged (cond b′ (replicate len 1) (pruneFlags len lanes coeffs protected tol′)) p
-        go true e′ b e p k = all-kept b len (pruneFlags len lanes coeffs protected tol) (prune-long len lanes coeffs protected (room .lanes-room) tol) p k
-        go false e′ true e p k = absurd (passes false (sym e′ ∙ lower-le tol′ tol float0 second first zero-number lowered e))
-        go false e′ false e p k =
-            prune-more tol′ tol F′ F (above-zero tol′ (second .no-nan) e′) (above-zero tol (first .no-nan) e) lowered (take len coeffs) (protectedFlags len lanes protected) number p k
+module _ (len : ℕ) (lanes : List ℕ) (coeffs : List Float) (protected : List ℕ) (room : 4 * len ≤ length lanes) (number : (i : ℕ) → i < length (take len coeffs) → Number (getD (take len coeffs) i nan))
+    (tol tol′ : Float) (first : Number tol) (second : Number tol′) (lowered : le tol′ tol ≡ true) where
+  pruned-more : LosesNobody (prunedFlags len lanes coeffs protected tol) (prunedFlags len lanes coeffs protected tol′)
+  unfolding prunedFlags pruneFlags
+  pruned-more = record { stays = go (le tol′ float0) refl (le tol float0) refl }
+    where
+      go : (b′ : Bool) → le tol′ float0 ≡ b′ → (b : Bool) → le tol float0 ≡ b → (p : ℕ) → Flagged (cond b (replicate len 1) (pruneFlags len lanes coeffs protected tol)) p
+          → Flagged (cond b′ (replicate len 1) (pruneFlags len lanes coeffs protected tol′)) p
+      go true e′ b e p k = all-kept b len (pruneFlags len lanes coeffs protected tol) (prune-long len lanes coeffs protected room tol) p k
+      go false e′ true e p k = absurd (passes false (sym e′ ∙ lower-le tol′ tol float0 second first zero-number lowered e))
+      go false e′ false e p k =
+          prune-more tol′ tol (second .fits-f64) (first .fits-f64) (above-zero tol′ (second .no-nan) e′) (above-zero tol (first .no-nan) e) lowered (take len coeffs) (protectedFlags len lanes protected) number p k
 
 -- ---- cap
-module _ (len : ℕ) (lanes : List ℕ) (coeffs : List Float) (order work fixed kept : List ℕ) (n : ℕ) (protected : List ℕ) (limit limit′ : ℕ) (raised : limit ≤ limit′) (r : ℕ)
-    (answer : cap len lanes coeffs order work fixed kept n protected limit .answer ≡ Entries r) where
-  pub cap-loses-nobody : LosesNobody (cappedFlags len lanes coeffs protected limit) (cappedFlags len lanes coeffs protected limit′)
+module _ (len : ℕ) (lanes : List ℕ) (coeffs : List Float) (protected : List ℕ) (room : 4 * len ≤ length lanes) (limit limit′ : ℕ) (raised : limit ≤ limit′) where
+  capped-more : LosesNobody (cappedFlags len lanes coeffs protected limit) (cappedFlags len lanes coeffs protected limit′)
   unfolding cappedFlags capFlags
-  cap-loses-nobody = record { stays = go (leb len limit′) refl (leb len limit) refl }
+  capped-more = record { stays = go (leb len limit′) refl (leb len limit) refl }
     where
-      room : Room len lanes coeffs order work fixed kept n protected
-      room = cap-room len lanes coeffs order work fixed kept n protected limit (cap-accepted len lanes coeffs order work fixed kept n protected limit r answer)
-
       go : (b′ : Bool) → leb len limit′ ≡ b′ → (b : Bool) → leb len limit ≡ b → (p : ℕ) → Flagged (cond b (replicate len 1) (capFlags len lanes coeffs protected limit)) p
           → Flagged (cond b′ (replicate len 1) (capFlags len lanes coeffs protected limit′)) p
-      go true e′ b e p k = all-kept b len (capFlags len lanes coeffs protected limit) (cap-long len lanes coeffs protected (room .lanes-room) limit) p k
+      go true e′ b e p k = all-kept b len (capFlags len lanes coeffs protected limit) (cap-long len lanes coeffs protected room limit) p k
       go false e′ true e p k = absurd (omega (arith, leb-true len limit e, leb-false len limit′ e′))
       go false e′ false e p k =
           let held : ℕ = flagged (protectedFlags len lanes protected) in
           chosen-more (byMagnitude (take len coeffs)) (protectedFlags len lanes protected) (limit - held) (limit′ - held) (omega (arith, raised)) p k
+
+-- ---- two lendings of one basis and one protected list: nothing behind the entries in use makes a difference
+module _ (len len′ : ℕ) (lanes lanes′ : List ℕ) (coeffs coeffs′ : List Float) (protected protected′ : List ℕ) (same-len : len ≡ len′)
+    (same-words : take len (words lanes) ≡ take len′ (words lanes′)) (same-coeffs : take len coeffs ≡ take len′ coeffs′) (same-protected : words protected ≡ words protected′) where
+  guarded-same : protectedFlags len lanes protected ≡ protectedFlags len′ lanes′ protected′
+  unfolding protectedFlags
+  guarded-same =
+      ap (λ (ws : List Word). map (λ w. cond (isAmong w (words protected)) 1 0) ws) same-words
+      ∙ ap (λ (ps : List Word). map (λ w. cond (isAmong w ps) 1 0) (take len′ (words lanes′))) same-protected
+
+  pub pruned-same : (tol : Float) → prunedFlags len lanes coeffs protected tol ≡ prunedFlags len′ lanes′ coeffs′ protected′ tol
+  unfolding prunedFlags pruneFlags
+  pruned-same tol =
+      ap₂ (λ (fixed : List ℕ) (xs : List Float). cond (le tol float0) (replicate len 1) (largeFlags tol xs fixed)) guarded-same same-coeffs
+      ∙ ap (λ (n : ℕ). cond (le tol float0) (replicate n 1) (largeFlags tol (take len′ coeffs′) (protectedFlags len′ lanes′ protected′))) same-len
+
+  pub capped-same : (limit : ℕ) → cappedFlags len lanes coeffs protected limit ≡ cappedFlags len′ lanes′ coeffs′ protected′ limit
+  unfolding cappedFlags capFlags
+  capped-same limit =
+      ap₂ (λ (fixed : List ℕ) (xs : List Float). cond (leb len limit) (replicate len 1) (chosen (byMagnitude xs) fixed (limit - flagged fixed))) guarded-same same-coeffs
+      ∙ ap (λ (n : ℕ). cond (leb n limit) (replicate n 1) (chosen (byMagnitude (take len′ coeffs′)) (protectedFlags len′ lanes′ protected′) (limit - flagged (protectedFlags len′ lanes′ protected′)))) same-len
+
+  -- ---- of two accepted calls over them, whatever work tables each was lent
+  pub prune-loses-nobody : (fit : Fitting coeffs) (order work fixed kept order′ work′ fixed′ kept′ : List ℕ) (n n′ : ℕ) (tol tol′ : Float) → T (fits binary64 tol) → T (fits binary64 tol′) → le tol′ tol ≡ true → (r r′ : ℕ)
+      → prune len lanes coeffs order work fixed kept n protected tol .answer ≡ Entries r
+      → prune len′ lanes′ coeffs′ order′ work′ fixed′ kept′ n′ protected′ tol′ .answer ≡ Entries r′
+      → LosesNobody (prunedFlags len lanes coeffs protected tol) (prunedFlags len′ lanes′ coeffs′ protected′ tol′)
+  prune-loses-nobody fit order work fixed kept order′ work′ fixed′ kept′ n n′ tol tol′ F F′ lowered r r′ answer answer′ =
+      let room = prune-room len lanes coeffs order work fixed kept n protected tol (prune-accepted len lanes coeffs order work fixed kept n protected tol r answer) in
+      let finite = prune-finite len lanes coeffs order work fixed kept n protected tol r answer in
+      let finite′ = prune-finite len′ lanes′ coeffs′ order′ work′ fixed′ kept′ n′ protected′ tol′ r′ answer′ in
+      let l = length-take-le len coeffs (room .coeffs-room) in
+      let number : (i : ℕ) → i < length (take len coeffs) → Number (getD (take len coeffs) i nan) =
+      λ i h. rw (getD-take len coeffs i nan (omega (arith, h, l))) (number-of (getD coeffs i nan) (fit i (omega (arith, h, l, room .coeffs-room))) (finite .0 i (omega (arith, h, l)))) in
+      subst (LosesNobody (prunedFlags len lanes coeffs protected tol)) (pruned-same tol′)
+      (pruned-more len lanes coeffs protected (room .lanes-room) number tol tol′ (number-of tol F (finite .1)) (number-of tol′ F′ (finite′ .1)) lowered)
+
+  pub cap-loses-nobody : (order work fixed kept : List ℕ) (n limit limit′ : ℕ) → limit ≤ limit′ → (r : ℕ) → cap len lanes coeffs order work fixed kept n protected limit .answer ≡ Entries r
+      → LosesNobody (cappedFlags len lanes coeffs protected limit) (cappedFlags len′ lanes′ coeffs′ protected′ limit′)
+  cap-loses-nobody order work fixed kept n limit limit′ raised r answer =
+      let room = cap-room len lanes coeffs order work fixed kept n protected limit (cap-accepted len lanes coeffs order work fixed kept n protected limit r answer) in
+      subst (LosesNobody (cappedFlags len lanes coeffs protected limit)) (capped-same limit′) (capped-more len lanes coeffs protected (room .lanes-room) limit limit′ raised)
 
 -- ---- admission, by place listed
 pub admit-loses-nobody : (len : ℕ) (values : List Float) (limit limit′ : ℕ) → limit ≤ limit′ → LosesNobody (admitFlags len values limit) (admitFlags len values limit′)

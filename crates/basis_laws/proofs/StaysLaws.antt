@@ -1,7 +1,8 @@
 -- SPDX-FileCopyrightText: 2026 The PPVM Authors
 -- SPDX-License-Identifier: Apache-2.0
 
--- After a prune and a cap the basis is the flagged entries, in order. Assumes nothing.
+-- After a prune and a cap the basis is the flagged entries, in order; there is a flag for each entry, and in an admission one for
+-- each listed word. Assumes nothing.
 use mathlib.Core.Path.{_≡_, refl, ap, sym, _∙_}
 use mathlib.Core.Bool.{Bool, true, false, cond}
 use mathlib.Core.List.{List, [], _∷_, map}
@@ -24,6 +25,7 @@ use Rattle.truncate.proofs.RetainLaws.{retained-words}
 use Rattle.truncate.proofs.PruneLaws.{large-length}
 use Rattle.truncate.proofs.ChosenLaws.{walked-length}
 use Rattle.basis.specs.Prunes.{protectedFlags, pruneFlags, capFlags, left, retained, prune, cap}
+use Rattle.basis.specs.Admissions.{admitFlags}
 use Rattle.basis.specs.declared.kept.Kept.the-variants.{Entries}
 use Rattle.basis.proofs.PruneLaws.{prune-room}
 use Rattle.basis.proofs.CapLaws.{cap-room}
@@ -61,6 +63,13 @@ module _ (len : ℕ) (lanes : List ℕ) (coeffs : List Float) (protected : List 
   cap-long limit =
       let fixed : List ℕ = protectedFlags len lanes protected in
       walked-length fixed (byMagnitude (take len coeffs)) (limit - flagged fixed) (map flagOf fixed) ∙ length-map fixed flagOf ∙ protected-long
+
+-- one for each listed word
+pub admit-long : (len : ℕ) (values : List Float) (limit : ℕ) → length (admitFlags len values limit) ≡ length values
+unfolding admitFlags
+admit-long len values limit =
+    let fixed : List ℕ = replicate (length values) 0 in
+    walked-length fixed (byMagnitude values) (limit - len) (map flagOf fixed) ∙ length-map fixed flagOf ∙ length-replicate (length values) 0
 
 -- ---- what is left by flags, and where nothing is done
 module _ (len : ℕ) (lanes : List ℕ) (coeffs : List Float) (order work fixed kept : List ℕ) (lanes-room : 4 * len ≤ length lanes) (coeffs-room : len ≤ length coeffs) where

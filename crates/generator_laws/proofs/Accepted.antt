@@ -1,7 +1,7 @@
 -- SPDX-FileCopyrightText: 2026 The PPVM Authors
 -- SPDX-License-Identifier: Apache-2.0
 
--- An accepted call: the words of its basis differ, and its tables hold exactly the generator's entries, listed or by rows; the
+-- An accepted call: its model passes the test, the words of its basis differ, and its tables hold exactly the generator's entries, listed or by rows; the
 -- columns of a row ascend. Assumes nothing.
 use mathlib.Core.Path.{_≡_, refl, sym}
 use mathlib.Core.List.{List}
@@ -20,12 +20,12 @@ use Rattle.word.specs.declared.word.Word.{Word}
 use Rattle.word.specs.Flat.{words}
 use Rattle.word.proofs.FlatLaws.{words-high}
 use Rattle.model.specs.Stored.{Tables}
-use Rattle.model.specs.Tested.{firstTo}
+use Rattle.model.specs.Tested.{firstTo, testModel}
 use Rattle.model.specs.declared.tables.Model.{Model}
 use Rattle.model.proofs.Firsts.{first-inside}
 use Rattle.model.proofs.BuildLaws.{passed, both, lent-passed}
 use Rattle.action.specs.Acts.{sumPlaces}
-use Rattle.action.specs.Counts.{outsideAt, insideTo}
+use Rattle.action.specs.Counts.{maxWords, outsideAt, insideTo}
 use Rattle.action.specs.declared.act.Acted.the-variants.{Listed, Refused}
 use Rattle.columns.specs.Columns.{generatorOf, generatorRoom}
 use Rattle.columns.specs.Repeats.{repeatsAt, firstRepeat}
@@ -52,31 +52,33 @@ differ bs e =
     let i = first-inside (length bs) (repeatsAt bs) in
     omega (arith, l, i)
 
-generator-passed : (m : Model) (t : Tables) (lanes : List ℕ) (len : ℕ) (w : Work) → generatorTests m t lanes len w ≡ Tests.Accepted → distinct (basisOf lanes len) ≡ Tests.Accepted
+generator-passed : (m : Model) (t : Tables) (lanes : List ℕ) (len : ℕ) (w : Work) → generatorTests m t lanes len w ≡ Tests.Accepted → (testModel m t ≡ Tests.Accepted) × (distinct (basisOf lanes len) ≡ Tests.Accepted)
 unfolding generatorTests
 generator-passed m t lanes len w e =
     let a = both (lentTests m t lanes len w) _ e in
-    inside-after len lanes (m .qubits) (distinct (basisOf lanes len)) (a .1)
+    let p = tables-passed m t lanes len (length (w .hIndex)) (length (w .jIndex)) (length (w .mask)) (length (w .heads)) (length (w .nexts)) (a .0) in
+    (p .model, inside-after len lanes (m .qubits) (distinct (basisOf lanes len)) (a .1))
 
-csr-passed : (m : Model) (t : Tables) (lanes : List ℕ) (len : ℕ) (w : Work) (offsets : List ℕ) → csrTests m t lanes len w offsets ≡ Tests.Accepted → (len < length offsets) × (distinct (basisOf lanes len) ≡ Tests.Accepted) × (length (basisOf lanes len) ≡ len)
+csr-passed : (m : Model) (t : Tables) (lanes : List ℕ) (len : ℕ) (w : Work) (offsets : List ℕ) → csrTests m t lanes len w offsets ≡ Tests.Accepted → (len < length offsets) × (distinct (basisOf lanes len) ≡ Tests.Accepted) × (length (basisOf lanes len) ≡ len) × (testModel m t ≡ Tests.Accepted) × (len ≤ maxWords)
 unfolding csrTests
 csr-passed m t lanes len w offsets e =
     let a = both (lentTests m t lanes len w) _ e in
     let b = lent-passed (suc len) (length offsets) _ (a .1) in
     let p = tables-passed m t lanes len (length (w .hIndex)) (length (w .jIndex)) (length (w .mask)) (length (w .heads)) (length (w .nexts)) (a .0) in
-    (b .0, inside-after len lanes (m .qubits) (distinct (basisOf lanes len)) (b .1), length-take-le len (words lanes) (omega (arith, p .words-long, words-high lanes)))
+    (b .0, inside-after len lanes (m .qubits) (distinct (basisOf lanes len)) (b .1), length-take-le len (words lanes) (omega (arith, p .words-long, words-high lanes)), p .model, p .few)
 
 -- ---- the generator
 -- what an accepted call shows
 pub record Listing (m : Model) (t : Tables) (bs : List Word) (out : Out) (n : ℕ) : Type 0 where
+  pub model-passes : testModel m t ≡ Tests.Accepted
   pub words-differ : firstRepeat bs ≡ length bs
   pub size : n ≡ length (generatorOf m t bs)
   pub entries-are : stagedEntries (out .answer) (out .rows) (out .columns) (out .values) ≡ generatorOf m t bs
 
 module _ (rows columns : List ℕ) (values : List Float) (w : Work) (m : Model) (t : Tables) where
-  over-listed : (bs : List Word) (n : ℕ) → firstRepeat bs ≡ length bs → listedOver rows columns values w m t bs .answer ≡ Listed n → Listing m t bs (listedOver rows columns values w m t bs) n
+  over-listed : (bs : List Word) (n : ℕ) → testModel m t ≡ Tests.Accepted → firstRepeat bs ≡ length bs → listedOver rows columns values w m t bs .answer ≡ Listed n → Listing m t bs (listedOver rows columns values w m t bs) n
   unfolding listedOver
-  over-listed bs n d e = go (generatorRoom m t bs (sumPlaces (w .workWords) (w .workSums)) (entryPlaces w rows columns values)) refl e
+  over-listed bs n passes d e = go (generatorRoom m t bs (sumPlaces (w .workWords) (w .workSums)) (entryPlaces w rows columns values)) refl e
     where
       go : (a : Answer) → generatorRoom m t bs (sumPlaces (w .workWords) (w .workSums)) (entryPlaces w rows columns values) ≡ a
           → listing rows columns values (answered a (length (generatorOf m t bs))) (generatorOf m t bs) .answer ≡ Listed n
@@ -85,7 +87,7 @@ module _ (rows columns : List ℕ) (values : List Float) (w : Work) (m : Model) 
       go Tests.Accepted f g =
           let k = generator-fits m t bs (sumPlaces (w .workWords) (w .workSums)) (entryPlaces w rows columns values) f in
           let z : length (generatorOf m t bs) ≡ n = cc in
-          record { words-differ = d; size = sym z; entries-are = staged-laid (generatorOf m t bs) rows columns values (omega (arith, k)) (omega (arith, k)) (omega (arith, k)) }
+          record { model-passes = passes; words-differ = d; size = sym z; entries-are = staged-laid (generatorOf m t bs) rows columns values (omega (arith, k)) (omega (arith, k)) (omega (arith, k)) }
 
   pub generator-accepted : (lanes : List ℕ) (len n : ℕ) → generate rows columns values w m t lanes len .out .answer ≡ Listed n → Listing m t (basisOf lanes len) (generate rows columns values w m t lanes len .out) n
   unfolding generate
@@ -94,13 +96,15 @@ module _ (rows columns : List ℕ) (values : List Float) (w : Work) (m : Model) 
       go : (a : Answer) → generatorTests m t lanes len w ≡ a → tested rows columns values w a (listedOver rows columns values w m t (basisOf lanes len)) .out .answer ≡ Listed n
           → Listing m t (basisOf lanes len) (tested rows columns values w a (listedOver rows columns values w m t (basisOf lanes len)) .out) n
       go (Tests.Refused q) f g = absurd (refused-listed q n g)
-      go Tests.Accepted f g = over-listed (basisOf lanes len) n (differ (basisOf lanes len) (generator-passed m t lanes len w f)) g
+      go Tests.Accepted f g = let p = generator-passed m t lanes len w f in over-listed (basisOf lanes len) n (p .0) (differ (basisOf lanes len) (p .1)) g
 
 -- ---- by rows
 -- what an accepted call shows: its tables before it, and places for all
 pub record RowListing (m : Model) (t : Tables) (bs : List Word) (len : ℕ) (out : CsrOut) (n : ℕ) : Type 0 where
+  pub model-passes : testModel m t ≡ Tests.Accepted
   pub words-differ : firstRepeat bs ≡ length bs
   pub rows-all : length bs ≡ len
+  pub few : len ≤ maxWords
   pub size : n ≡ length (generatorOf m t bs)
   pub offsets₀ : List ℕ
   pub columns₀ : List ℕ
@@ -111,9 +115,9 @@ pub record RowListing (m : Model) (t : Tables) (bs : List Word) (len : ℕ) (out
   pub is : out ≡ byRows len offsets₀ columns₀ values₀ (Listed (length (generatorOf m t bs))) (generatorOf m t bs)
 
 module _ (offsets columns : List ℕ) (values : List Float) (w : Work) (m : Model) (t : Tables) where
-  over-rows : (len : ℕ) (bs : List Word) (n : ℕ) → firstRepeat bs ≡ length bs → length bs ≡ len → len < length offsets → csrOver offsets columns values w len m t bs .answer ≡ Listed n → RowListing m t bs len (csrOver offsets columns values w len m t bs) n
+  over-rows : (len : ℕ) (bs : List Word) (n : ℕ) → testModel m t ≡ Tests.Accepted → firstRepeat bs ≡ length bs → length bs ≡ len → len ≤ maxWords → len < length offsets → csrOver offsets columns values w len m t bs .answer ≡ Listed n → RowListing m t bs len (csrOver offsets columns values w len m t bs) n
   unfolding csrOver
-  over-rows len bs n d b l e = go (generatorRoom m t bs (sumPlaces (w .workWords) (w .workSums)) (csrPlaces w columns values)) refl e
+  over-rows len bs n passes d b s l e = go (generatorRoom m t bs (sumPlaces (w .workWords) (w .workSums)) (csrPlaces w columns values)) refl e
     where
       go : (a : Answer) → generatorRoom m t bs (sumPlaces (w .workWords) (w .workSums)) (csrPlaces w columns values) ≡ a
           → byRows len offsets columns values (answered a (length (generatorOf m t bs))) (generatorOf m t bs) .answer ≡ Listed n
@@ -122,7 +126,7 @@ module _ (offsets columns : List ℕ) (values : List Float) (w : Work) (m : Mode
       go Tests.Accepted f g =
           let k = generator-fits m t bs (sumPlaces (w .workWords) (w .workSums)) (csrPlaces w columns values) f in
           let z : length (generatorOf m t bs) ≡ n = cc in
-          record { words-differ = d; rows-all = b; size = sym z; offsets₀ = offsets; columns₀ = columns; values₀ = values; offsets-long = l; columns-long = omega (arith, k); values-long = omega (arith, k); is = refl }
+          record { model-passes = passes; words-differ = d; rows-all = b; few = s; size = sym z; offsets₀ = offsets; columns₀ = columns; values₀ = values; offsets-long = l; columns-long = omega (arith, k); values-long = omega (arith, k); is = refl }
 
   pub csr-accepted : (lanes : List ℕ) (len n : ℕ) → buildCsr offsets columns values w m t lanes len .out .answer ≡ Listed n → RowListing m t (basisOf lanes len) len (buildCsr offsets columns values w m t lanes len .out) n
   unfolding buildCsr
@@ -131,4 +135,4 @@ module _ (offsets columns : List ℕ) (values : List Float) (w : Work) (m : Mode
       go : (a : Answer) → csrTests m t lanes len w offsets ≡ a → csrTested offsets columns values w a (csrOver offsets columns values w len m t (basisOf lanes len)) .out .answer ≡ Listed n
           → RowListing m t (basisOf lanes len) len (csrTested offsets columns values w a (csrOver offsets columns values w len m t (basisOf lanes len)) .out) n
       go (Tests.Refused q) f g = absurd (refused-listed q n g)
-      go Tests.Accepted f g = let p = csr-passed m t lanes len w offsets f in over-rows len (basisOf lanes len) n (differ (basisOf lanes len) (p .1)) (p .2) (p .0) g
+      go Tests.Accepted f g = let p = csr-passed m t lanes len w offsets f in over-rows len (basisOf lanes len) n (p .3) (differ (basisOf lanes len) (p .1)) (p .2) (p .4) (p .0) g

@@ -1,8 +1,8 @@
 -- SPDX-FileCopyrightText: 2026 The PPVM Authors
 -- SPDX-License-Identifier: Apache-2.0
 
--- Accepted calls of the generator and of the matrix by rows, each with tables of its own: both hold the same entries, a growing
--- basis changes none between old words, which words have an entry in their row, and a row's columns ascend. Assumes nothing.
+-- Accepted calls of the generator and of the matrix by rows, each with tables of its own: both hold exactly the generator's
+-- entries, which words have an entry in their row, and a row's columns ascend. Assumes nothing.
 use mathlib.Core.Path.{_≡_, sym, subst}
 use mathlib.Core.Bool.{true}
 use mathlib.Core.List.{List, map}
@@ -13,7 +13,9 @@ use lib.ListN.{length, getD, take, drop}
 use Rattle.word.specs.declared.word.Word.{Word}
 use Rattle.order.specs.Merge.{AllBelow}
 use Rattle.order.specs.Places.{isAmong}
+use Rattle.refusal.specs.declared.Answer.the-variants.{Accepted}
 use Rattle.model.specs.Stored.{Tables}
+use Rattle.model.specs.Tested.{testModel}
 use Rattle.model.specs.declared.tables.Model.{Model}
 use Rattle.action.specs.Acts.{actionOf}
 use Rattle.action.specs.declared.act.Acted.the-variants.{Listed}
@@ -26,10 +28,10 @@ use Rattle.csr_build.proofs.RowLaws.{rowsOf}
 use Rattle.csr_build.proofs.AscendLaws.{row-ascends}
 use Rattle.generator.specs.Lent.{Work, basisOf}
 use Rattle.generator.specs.Generators.{Out, generate, CsrOut, buildCsr}
-use Rattle.generator_laws.specs.Matrices.{Lists, InRow, Grown, Unchanged, HasRow, Reached}
+use Rattle.generator_laws.specs.Matrices.{Lists, InRow, HasRow, Reached}
 use Rattle.generator_laws.proofs.Accepted.{Listing, generator-accepted, RowListing, csr-accepted}
 use Rattle.generator_laws.proofs.RowEntries.{in-row, from-row, row-columns}
-use Rattle.generator_laws.proofs.Growth.{Exact, row-reached, reached-row, growth}
+use Rattle.generator_laws.proofs.Growth.{Exact, row-reached, reached-row}
 
 listing-exact : (m : Model) (t : Tables) (bs : List Word) (out : Out) (n : ℕ) → Listing m t bs out n → Exact m t bs (Lists out)
 unfolding Lists
@@ -55,9 +57,13 @@ module _ (m : Model) (t : Tables) (bs : List Word) (len : ℕ) (out : CsrOut) (n
   rows-part : (r : ℕ) → r < len → take (getD (out .offsets) (suc r) 0 - getD (out .offsets) r 0) (drop (getD (out .offsets) r 0) (out .columns)) ≡ map (λ (e : Entry). e .column) (rowOf r (generatorOf m t bs))
   rows-part r h = rw (l .is) (row-columns len (length (generatorOf m t bs)) (generatorOf m t bs) below (l .offsets₀) (l .columns₀) (l .values₀) (l .offsets-long) (l .columns-long) (l .values-long) r h)
 
--- ---- two calls of the generator over one model
+-- ---- the generator
 module _ (rows columns : List ℕ) (values : List Float) (w : Work) (m : Model) (t : Tables) (lanes : List ℕ) (len n : ℕ) (accepted : generate rows columns values w m t lanes len .out .answer ≡ Listed n) where
-  generator-exact : Exact m t (basisOf lanes len) (Lists (generate rows columns values w m t lanes len .out))
+  pub generator-model : testModel m t ≡ Accepted
+  generator-model = generator-accepted rows columns values w m t lanes len n accepted .model-passes
+
+  -- the tables hold exactly the generator's entries
+  pub generator-exact : Exact m t (basisOf lanes len) (Lists (generate rows columns values w m t lanes len .out))
   generator-exact = listing-exact m t (basisOf lanes len) (generate rows columns values w m t lanes len .out) n (generator-accepted rows columns values w m t lanes len n accepted)
 
   -- a word has an entry in its row exactly if it is in the basis and reached
@@ -67,18 +73,15 @@ module _ (rows columns : List ℕ) (values : List Float) (w : Work) (m : Model) 
   pub reached-generator-row : (v : Word) → isAmong v (basisOf lanes len) ≡ true → Reached (actionOf m t) (basisOf lanes len) v → HasRow (basisOf lanes len) (Lists (generate rows columns values w m t lanes len .out)) v
   reached-generator-row v e r = reached-row m t (basisOf lanes len) (Lists (generate rows columns values w m t lanes len .out)) generator-exact v e r
 
-  module _ (rows′ columns′ : List ℕ) (values′ : List Float) (w′ : Work) (lanes′ : List ℕ) (len′ n′ : ℕ) (accepted′ : generate rows′ columns′ values′ w′ m t lanes′ len′ .out .answer ≡ Listed n′) where
-    pub generator-grows : Grown (basisOf lanes len) (basisOf lanes′ len′) → Unchanged (basisOf lanes len) (Lists (generate rows columns values w m t lanes len .out)) (basisOf lanes′ len′) (Lists (generate rows′ columns′ values′ w′ m t lanes′ len′ .out))
-    generator-grows g =
-        growth m t (basisOf lanes len) (basisOf lanes′ len′) (Lists (generate rows columns values w m t lanes len .out)) (Lists (generate rows′ columns′ values′ w′ m t lanes′ len′ .out)) generator-exact
-        (listing-exact m t (basisOf lanes′ len′) (generate rows′ columns′ values′ w′ m t lanes′ len′ .out) n′ (generator-accepted rows′ columns′ values′ w′ m t lanes′ len′ n′ accepted′)) g
-
--- ---- and of the matrix by rows
+-- ---- the matrix by rows
 module _ (offsets columns : List ℕ) (values : List Float) (w : Work) (m : Model) (t : Tables) (lanes : List ℕ) (len n : ℕ) (accepted : buildCsr offsets columns values w m t lanes len .out .answer ≡ Listed n) where
   listed : RowListing m t (basisOf lanes len) len (buildCsr offsets columns values w m t lanes len .out) n
   listed = csr-accepted offsets columns values w m t lanes len n accepted
 
-  csr-exact : Exact m t (basisOf lanes len) (InRow (buildCsr offsets columns values w m t lanes len .out))
+  pub csr-model : testModel m t ≡ Accepted
+  csr-model = listed .model-passes
+
+  pub csr-exact : Exact m t (basisOf lanes len) (InRow (buildCsr offsets columns values w m t lanes len .out))
   csr-exact = rows-exact m t (basisOf lanes len) len (buildCsr offsets columns values w m t lanes len .out) n listed
 
   -- the columns between the offsets of a row are those of its entries, and ascend
@@ -95,12 +98,6 @@ module _ (offsets columns : List ℕ) (values : List Float) (w : Work) (m : Mode
 
   pub reached-csr-row : (v : Word) → isAmong v (basisOf lanes len) ≡ true → Reached (actionOf m t) (basisOf lanes len) v → HasRow (basisOf lanes len) (InRow (buildCsr offsets columns values w m t lanes len .out)) v
   reached-csr-row v e r = reached-row m t (basisOf lanes len) (InRow (buildCsr offsets columns values w m t lanes len .out)) csr-exact v e r
-
-  module _ (offsets′ columns′ : List ℕ) (values′ : List Float) (w′ : Work) (lanes′ : List ℕ) (len′ n′ : ℕ) (accepted′ : buildCsr offsets′ columns′ values′ w′ m t lanes′ len′ .out .answer ≡ Listed n′) where
-    pub csr-grows : Grown (basisOf lanes len) (basisOf lanes′ len′) → Unchanged (basisOf lanes len) (InRow (buildCsr offsets columns values w m t lanes len .out)) (basisOf lanes′ len′) (InRow (buildCsr offsets′ columns′ values′ w′ m t lanes′ len′ .out))
-    csr-grows g =
-        growth m t (basisOf lanes len) (basisOf lanes′ len′) (InRow (buildCsr offsets columns values w m t lanes len .out)) (InRow (buildCsr offsets′ columns′ values′ w′ m t lanes′ len′ .out)) csr-exact
-        (rows-exact m t (basisOf lanes′ len′) len′ (buildCsr offsets′ columns′ values′ w′ m t lanes′ len′ .out) n′ (csr-accepted offsets′ columns′ values′ w′ m t lanes′ len′ n′ accepted′)) g
 
   -- ---- both calls over one basis hold the same entries
   module _ (rows columns′ : List ℕ) (values′ : List Float) (w′ : Work) (n′ : ℕ) (accepted′ : generate rows columns′ values′ w′ m t lanes len .out .answer ≡ Listed n′) (r c : ℕ) (v : Float) (low : r < length (basisOf lanes len)) where

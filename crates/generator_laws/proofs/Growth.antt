@@ -4,7 +4,7 @@
 -- An entry between two words of a basis whose words differ is a term of the action that links them, whatever else the basis has and
 -- wherever its words stand. So a growing basis changes no entry between old words; and a word has an entry in its row exactly
 -- if it is in the basis and reached. Assumes nothing.
-use mathlib.Core.Path.{_≡_, refl, sym, ap, _∙_}
+use mathlib.Core.Path.{_≡_, refl, sym, ap, subst, _∙_}
 use mathlib.Core.Bool.{true, not, false≢true}
 use mathlib.Core.List.{List}
 use Prim.Native.Nat.{ℕ, zero, suc, _<_}
@@ -102,8 +102,13 @@ module _ (m : Model) (t : Tables) (bs : List Word) (has : ℕ → ℕ → Float 
       }
 
 -- ---- a growing basis
-pub growth : (m : Model) (t : Tables) (bs bs′ : List Word) (has has′ : ℕ → ℕ → Float → Type 0) → Exact m t bs has → Exact m t bs′ has′ → Grown bs bs′ → Unchanged bs has bs′ has′
-growth m t bs bs′ has has′ x x′ g = record {
-  kept = λ p q v hp hq b. between m t bs′ has′ x′ p q v (g p hp) (g q hq) (linked m t bs has x p q v b);
-  none = λ p q v hp hq b. between m t bs has x p q v hp hq (linked m t bs′ has′ x′ p q v b);
+relinked : (act act′ : Word → List Term) → ((q : Word) → act q ≡ act′ q) → (p q : Word) (v : Float) → Linked act p q v → Linked act′ p q v
+relinked act act′ same p q v l = record { term = l .term; listed = subst (Member (l .term)) (same q) (l .listed); word-is = l .word-is; value = l .value }
+
+-- over models that act alike
+pub growth : (m m′ : Model) (t t′ : Tables) → ((q : Word) → actionOf m t q ≡ actionOf m′ t′ q) → (bs bs′ : List Word) (has has′ : ℕ → ℕ → Float → Type 0)
+    → Exact m t bs has → Exact m′ t′ bs′ has′ → Grown bs bs′ → Unchanged bs has bs′ has′
+growth m m′ t t′ same bs bs′ has has′ x x′ g = record {
+  kept = λ p q v hp hq b. between m′ t′ bs′ has′ x′ p q v (g p hp) (g q hq) (relinked (actionOf m t) (actionOf m′ t′) same p q v (linked m t bs has x p q v b));
+  none = λ p q v hp hq b. between m t bs has x p q v hp hq (relinked (actionOf m′ t′) (actionOf m t) (λ w. sym (same w)) p q v (linked m′ t′ bs′ has′ x′ p q v b));
 }

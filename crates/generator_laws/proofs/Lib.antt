@@ -6,4 +6,5 @@ pub mod Accepted
 pub mod Calls
 pub mod Growth
 pub mod RowEntries
+pub mod RowPlaces
 pub mod TableLaws

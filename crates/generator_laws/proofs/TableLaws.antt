@@ -20,6 +20,10 @@ laid-first d xs l h =
     ext-getD d (take (length xs) (laid set 0 xs l)) xs n
     (λ i k. let q : i < length xs = omega (arith, n, k) in getD-take (length xs) (laid set 0 xs l) i d q ∙ set-here d 0 xs l (omega arith) i i (omega arith) q)
 
+-- and so many of them as there were
+pub laid-many : {A : Type 0} (d : A) (xs l : List A) (n : ℕ) → length xs ≡ n → n ≤ length l → take n (laid set 0 xs l) ≡ xs
+laid-many d xs l n e h = ap (λ (k : ℕ). take k (laid set 0 xs l)) (sym e) ∙ laid-first d xs l (omega arith)
+
 staged-take : (n : ℕ) (rs cs : List ℕ) (vs : List Float) → staged n rs cs vs ≡ entries (take n rs) (take n cs) (take n vs)
 unfolding entries
 staged-take zero rs cs vs = refl
@@ -36,13 +40,8 @@ entries-of (e ∷ E) = ap (λ (F : List Entry). e ∷ F) (entries-of E)
 pub staged-laid : (E : List Entry) (rows columns : List ℕ) (values : List Float) → length E ≤ length rows → length E ≤ length columns → length E ≤ length values
     → staged (length E) (laid set 0 (map (λ (e : Entry). e .row) E) rows) (laid set 0 (map (λ (e : Entry). e .column) E) columns) (laid set 0 (map (λ (e : Entry). e .value) E) values) ≡ E
 staged-laid E rows columns values hr hc hv =
-    let nr = length-map E (λ (e : Entry). e .row) in
-    let nc = length-map E (λ (e : Entry). e .column) in
-    let nv = length-map E (λ (e : Entry). e .value) in
     staged-take (length E) _ _ _
     ∙ rw (take-as (λ (e : Entry). e .row) 0 rows hr, take-as (λ (e : Entry). e .column) 0 columns hc, take-as (λ (e : Entry). e .value) nan values hv) (entries-of E)
   where
     take-as : {A : Type 0} (f : Entry → A) (d : A) (l : List A) → length E ≤ length l → take (length E) (laid set 0 (map f E) l) ≡ map f E
-    take-as f d l h =
-        let n = length-map E f in
-        ap (λ (k : ℕ). take k (laid set 0 (map f E) l)) (sym n) ∙ laid-first d (map f E) l (omega (arith, n))
+    take-as f d l h = laid-many d (map f E) l (length E) (length-map E f) h

@@ -146,7 +146,7 @@ module _ (outWords : List ℕ) (outValues : List Float) (w : Work) (m : Model) (
     stay-finite enough (suc k) h =
         subst (λ (R : Rows). (i : ℕ) → i < length R → isFinite (getD (sumsOf R) i nan) ≡ true) (sym (stay-all identity m t b l coeffs-long enough k (omega arith))) (leakage-finite k (omega arith))
 
-    stayed : (k : ℕ) → k ≤ passCount (b .len) → (r : Row Word Float) → Member r (stayAfter m t b l k) → T (fits binary64 (r .sum)) × (isFinite (r .sum) ≡ true)
+    pub stayed : (k : ℕ) → k ≤ passCount (b .len) → (r : Row Word Float) → Member r (stayAfter m t b l k) → T (fits binary64 (r .sum)) × (isFinite (r .sum) ≡ true)
     unfolding stayAfter Member
     stayed zero h r x = absurd x
     stayed (suc k) h r x =
