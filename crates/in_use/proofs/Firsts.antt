@@ -11,7 +11,7 @@ use lib.Seq.{length-take-le, take-take, getD-take}
 
 module _ {A : Type 0} where
   -- a part of the first k
-  pub part-inside : (m n k : ℕ) (l : List A) → n + m ≤ k → take m (drop n (take k l)) ≡ take m (drop n l)
+  part-inside : (m n k : ℕ) (l : List A) → n + m ≤ k → take m (drop n (take k l)) ≡ take m (drop n l)
   part-inside m zero k l h = take-take m k l (omega arith)
   part-inside m (suc n) zero l h = absurd (omega arith)
   part-inside m (suc n) (suc k) [] h = refl

@@ -39,9 +39,6 @@ use Rattle.in_use.specs.InUse.{SameModel}
 use Rattle.in_use.proofs.Firsts.{same-at, same-long, same-part}
 use Rattle.in_use.proofs.KeptItems.{read-same, jumps-kept, pairs-kept}
 
-pub same-model : (m : Model) (t : Tables) → SameModel m t t
-same-model m t = record { h-words = refl; h-coeffs = refl; jumps = refl; rates = refl; t-words = refl; t-numbers = refl }
-
 pub same-back : (m : Model) (t t′ : Tables) → SameModel m t t′ → SameModel m t′ t
 same-back m t t′ s = record { h-words = sym (s .h-words); h-coeffs = sym (s .h-coeffs); jumps = sym (s .jumps); rates = sym (s .rates); t-words = sym (s .t-words); t-numbers = sym (s .t-numbers) }
 
