@@ -64,6 +64,14 @@ sumsOf = map (λ (r : Row Word Float). r .sum)
 abbrev pub wordsOf : Rows → List Word
 wordsOf = map (λ (r : Row Word Float). r .word)
 
+-- those with magnitude > tau_add
+abbrev pub isAbove : Float → Float → Bool
+isAbove tau x = lt tau (magnitude x)
+
+unfoldable pub above : Float → Rows → Rows
+above tau [] = []
+above tau (r ∷ rs) = cond (isAbove tau (r .sum)) (r ∷ above tau rs) (above tau rs)
+
 -- the room rule: the largest stay, in their order; ties to the lower word
 unfoldable pub largest : ℕ → Rows → Rows
 largest room T = pick (chosen (byMagnitude (sumsOf T)) (replicate (length T) 0) room) T
@@ -88,14 +96,6 @@ module _ (touched : ℕ → ℕ) (leaks : ℕ → Rows) (sumRoom candidateRoom r
   passes (suc k) ps T =
       onward (takenBy touched leaks sumRoom candidateRoom (take passSize ps) T)
       (λ T′. onward (ended room T′) (passes k (drop passSize ps)))
-
--- those with magnitude > tau_add
-abbrev pub isAbove : Float → Float → Bool
-isAbove tau x = lt tau (magnitude x)
-
-unfoldable pub above : Float → Rows → Rows
-above tau [] = []
-above tau (r ∷ rs) = cond (isAbove tau (r .sum)) (r ∷ above tau rs) (above tau rs)
 
 -- ---- of a model
 module _ (m : Model) (t : Tables) (basis : List Word) (coeffs : List Float) (protected : List Word) where

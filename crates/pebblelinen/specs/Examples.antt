@@ -8,9 +8,10 @@ use mathlib.Core.Bool.{Bool, true, false, _&&_}
 use mathlib.Core.List.{List, [], _∷_, _++_}
 use lib.Dec.{eqb}
 use lib.Ieee.{Float, binary64, ofBits, eq}
-use lib.ListN.{length}
+use lib.ListN.{length, take, replicate}
 use Rattle.word.specs.Text.{parse}
-use Rattle.word.specs.Word.{identity, unpack}
+use Rattle.word.specs.Flat.{words}
+use Rattle.word.specs.Word.{maxQubits, identity, unpack}
 use Rattle.word.specs.Product.{mul, phase}
 use Rattle.word.specs.Order.{same}
 use Rattle.word.specs.declared.word.Word.{Word}
@@ -25,8 +26,9 @@ use Rattle.gksl.specs.Words.{pauli}
 use Rattle.model.specs.Stored.{Tables}
 use Rattle.model.specs.declared.tables.Model.{Model}
 use Rattle.order.specs.Merge.{positions}
-use Rattle.truncate.specs.Retained.{pick}
-use Rattle.basis.specs.Prunes.{capFlags}
+use Rattle.basis.specs.Prunes as Prunes
+use Rattle.basis.specs.Prunes.{Keeping}
+use Rattle.basis.specs.declared.kept.Kept.the-variants.{Entries}
 use Rattle.action.specs.Acts.{actionOf}
 
 -- the bytes of the letters
@@ -91,7 +93,7 @@ pub data Example : Type 0 where
   action : (model : ModelOver floats pauli) (word : List ℕ) (listed : List Entry) → Example
   -- any model on the identity: nothing
   onIdentity : Example
-  -- of a basis with these coefficients, positions of it protected, a cap at the limit keeps these positions
+  -- of a basis with these coefficients, positions of it protected, a call of cap at the limit keeps these positions
   cap : (coefficients : List Float) (protected : List ℕ) (limit : ℕ) (kept : List ℕ) → Example
 
 -- the lanes of a word for each position, no two alike
@@ -113,7 +115,9 @@ Holds (action model word listed) = lists (actionOver floats pauli model (read wo
 Holds onIdentity = (m : Model) (t : Tables) → actionOf m t identity ≡ []
 Holds (cap coefficients protected limit kept) =
     let n : ℕ = length coefficients in
-    pick (capFlags n (lanesFor (positions n)) coefficients (lanesFor protected) limit) (positions n) ≡ kept
+    let zeros : List ℕ = replicate n 0 in
+    let after : Keeping = Prunes.cap n (lanesFor (positions n)) coefficients zeros zeros zeros zeros maxQubits (lanesFor protected) limit in
+    (after .answer ≡ Entries (length kept)) × (take (length kept) (words (after .lanes)) ≡ words (lanesFor kept))
 
 abbrev pub AllHold : List Example → Type 0
 AllHold [] = Unit {0}
