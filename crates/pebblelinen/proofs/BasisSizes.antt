@@ -3,7 +3,7 @@
 
 -- In work tables of the lengths that `basisSizes` names, no work table decides what prune, cap and admission test: of any two
 -- such lendings the tests end alike. Assumes nothing.
-use Prim.Native.Nat.{ℕ, _/_, _≤_, max}
+use Prim.Native.Nat.{ℕ, zero, suc, _/_, _≤_, max}
 use mathlib.Core.Path.{_≡_, refl}
 use mathlib.Core.Bool.{false}
 use mathlib.Core.List.{List}
@@ -12,6 +12,7 @@ use borrow.Author.Tests.{le-ltb}
 use lib.Dec.{ltb}
 use lib.Ieee.{Float}
 use lib.ListN.{length}
+use Rattle.model.specs.Tested.{whereAny}
 use Rattle.basis.specs.Prunes.{pruneTests, capTests}
 use Rattle.basis.specs.Admissions.{admitTests}
 use Rattle.pebblelinen.specs.Bases.{basisSizes}
@@ -24,11 +25,17 @@ pub record AtLeast (s : BasisSizes) (order work fixed kept : List ℕ) : Type 0 
   pub fixed-holds : s .fixed ≤ length fixed
   pub kept-holds : s .kept ≤ length kept
 
+-- the larger of two numbers of places, where there is an entry
+either-asked : (entries protected : ℕ) → whereAny entries (max entries protected) ≡ max entries (whereAny entries protected)
+unfolding whereAny
+either-asked zero protected = omega arith
+either-asked (suc entries) protected = refl
+
 -- ---- the test of each table passes
 module _ (entries protected listed : ℕ) (order work fixed kept : List ℕ) (a : AtLeast (basisSizes entries protected listed) order work fixed kept) where
   record Passes : Type 0 where
-    order-entries : ltb (length order) (max entries protected) ≡ false
-    work-entries : ltb (length work) (max entries protected) ≡ false
+    order-entries : ltb (length order) (whereAny entries (max entries protected)) ≡ false
+    work-entries : ltb (length work) (whereAny entries (max entries protected)) ≡ false
     fixed-entries : ltb (length fixed) entries ≡ false
     kept-entries : ltb (length kept) entries ≡ false
     order-listed : ltb (length order) listed ≡ false
@@ -38,8 +45,8 @@ module _ (entries protected listed : ℕ) (order work fixed kept : List ℕ) (a 
   passes : Passes
   unfolding basisSizes
   passes = record {
-    order-entries = le-ltb (length order) (max entries protected) (omega (arith, a .order-holds));
-    work-entries = le-ltb (length work) (max entries protected) (omega (arith, a .work-holds));
+    order-entries = le-ltb (length order) (whereAny entries (max entries protected)) (omega (arith, a .order-holds, either-asked entries protected));
+    work-entries = le-ltb (length work) (whereAny entries (max entries protected)) (omega (arith, a .work-holds, either-asked entries protected));
     fixed-entries = le-ltb (length fixed) entries (a .fixed-holds);
     kept-entries = le-ltb (length kept) entries (omega (arith, a .kept-holds));
     order-listed = le-ltb (length order) listed (omega (arith, a .order-holds));

@@ -18,9 +18,10 @@ use Rattle.refusal.specs.declared.Answer.{Answer}
 use Rattle.refusal.specs.declared.Answer.the-variants.{Accepted, Refused}
 use Rattle.word.specs.Word.{maxQubits}
 use Rattle.model.specs.Stored.{Tables}
-use Rattle.model.specs.Tested.{counted, testModel}
+use Rattle.model.specs.Tested.{counted, whereAny, testModel}
 use Rattle.model.specs.Built.{andThen}
 use Rattle.model.specs.declared.tables.Model.{Model}
+use Rattle.model.proofs.NeedLaws.{need-most}
 use Rattle.model_laws.proofs.StandsLaws.{tested-stands}
 use Rattle.action.specs.Acts.{sumPlaces}
 use Rattle.action.specs.Counts.{maxWords, rowLanes}
@@ -52,6 +53,10 @@ quarter k t h m = omega arith
 half : (k t : ℕ) {n : ℕ} → k ≤ t → 2 * t ≤ n → k ≤ n / 2
 half k t h m = omega arith
 
+-- the rows of an index over so many words, in a register that has no more qubits than there may be
+rows-asked : (qubits words : ℕ) {n : ℕ} → qubits ≤ maxQubits → whereAny words (rowLanes * min qubits maxQubits) ≤ n → whereAny words (rowLanes * qubits) ≤ n
+rows-asked qubits words q h = let e : min qubits maxQubits ≡ qubits = omega arith in rw e at h
+
 -- ---- leakage
 pub record LeakageLent (s : LeakageSizes) (w : Leak.Work) : Type 0 where
   pub h-index : s .«h_index» ≤ length (w .hIndex)
@@ -79,14 +84,14 @@ module _ (qubits entries protected touched candidates : ℕ) (w : Leak.Work) (a 
   unfolding leakageSizes Leak.workTests
   work-accepted q e p =
       rw (
-        le-ltb (length (w .hIndex)) (rowLanes * qubits) (omega (arith, a .h-index)),
-        le-ltb (length (w .jIndex)) (rowLanes * qubits) (omega (arith, a .j-index)),
-        le-ltb (length (w .mask)) rowLanes (a .mask),
+        le-ltb (length (w .hIndex)) (whereAny entries (rowLanes * qubits)) (rows-asked qubits entries q (a .h-index)),
+        le-ltb (length (w .jIndex)) (whereAny entries (rowLanes * qubits)) (rows-asked qubits entries q (a .j-index)),
+        le-ltb (length (w .mask)) (whereAny entries rowLanes) (a .mask),
         le-ltb (length (w .order)) entries (omega (arith, a .order)),
         le-ltb (length (w .heads)) entries (omega (arith, a .heads)),
         le-ltb (length (w .nexts)) entries (omega (arith, a .nexts)),
-        le-ltb (length (w .fixedHeads)) protected (omega (arith, a .fixed-heads)),
-        le-ltb (length (w .fixedNexts)) protected (omega (arith, a .fixed-nexts)),
+        le-ltb (length (w .fixedHeads)) (whereAny entries protected) (omega (arith, a .fixed-heads, need-most entries protected)),
+        le-ltb (length (w .fixedNexts)) (whereAny entries protected) (omega (arith, a .fixed-nexts, need-most entries protected)),
       )
 
   -- there is room for as many words touched, and as many candidates
@@ -135,18 +140,18 @@ pub record GeneratorLent (s : GeneratorSizes) (w : Gen.Work) : Type 0 where
 
 module _ (qubits len touched entries : ℕ) (w : Gen.Work) (a : GeneratorLent (generatorSizes qubits len touched entries) w) where
   record Passes : Type 0 where
-    h-index : ltb (length (w .hIndex)) (rowLanes * qubits) ≡ false
-    j-index : ltb (length (w .jIndex)) (rowLanes * qubits) ≡ false
-    mask : ltb (length (w .mask)) rowLanes ≡ false
+    h-index : ltb (length (w .hIndex)) (whereAny len (rowLanes * qubits)) ≡ false
+    j-index : ltb (length (w .jIndex)) (whereAny len (rowLanes * qubits)) ≡ false
+    mask : ltb (length (w .mask)) (whereAny len rowLanes) ≡ false
     heads : ltb (length (w .heads)) len ≡ false
     nexts : ltb (length (w .nexts)) len ≡ false
 
   passes : qubits ≤ maxQubits → len ≤ maxWords → Passes
   unfolding generatorSizes
   passes q e = record {
-    h-index = le-ltb (length (w .hIndex)) (rowLanes * qubits) (omega (arith, a .h-index));
-    j-index = le-ltb (length (w .jIndex)) (rowLanes * qubits) (omega (arith, a .j-index));
-    mask = le-ltb (length (w .mask)) rowLanes (a .mask);
+    h-index = le-ltb (length (w .hIndex)) (whereAny len (rowLanes * qubits)) (rows-asked qubits len q (a .h-index));
+    j-index = le-ltb (length (w .jIndex)) (whereAny len (rowLanes * qubits)) (rows-asked qubits len q (a .j-index));
+    mask = le-ltb (length (w .mask)) (whereAny len rowLanes) (a .mask);
     heads = le-ltb (length (w .heads)) len (omega (arith, a .heads));
     nexts = le-ltb (length (w .nexts)) len (omega (arith, a .nexts));
   }
@@ -187,18 +192,18 @@ pub record NormLent (s : GeneratorSizes) (len : ℕ) (w : Norm.Work) : Type 0 wh
 
 module _ (qubits len touched entries : ℕ) (w : Norm.Work) (a : NormLent (generatorSizes qubits len touched entries) len w) where
   record NormPasses : Type 0 where
-    h-index : ltb (length (w .hIndex)) (rowLanes * qubits) ≡ false
-    j-index : ltb (length (w .jIndex)) (rowLanes * qubits) ≡ false
-    mask : ltb (length (w .mask)) rowLanes ≡ false
+    h-index : ltb (length (w .hIndex)) (whereAny len (rowLanes * qubits)) ≡ false
+    j-index : ltb (length (w .jIndex)) (whereAny len (rowLanes * qubits)) ≡ false
+    mask : ltb (length (w .mask)) (whereAny len rowLanes) ≡ false
     raws : ltb (length (w .raws)) len ≡ false
     diags : ltb (length (w .diags)) len ≡ false
 
   norm-passes : qubits ≤ maxQubits → NormPasses
   unfolding generatorSizes
   norm-passes q = record {
-    h-index = le-ltb (length (w .hIndex)) (rowLanes * qubits) (omega (arith, a .h-index));
-    j-index = le-ltb (length (w .jIndex)) (rowLanes * qubits) (omega (arith, a .j-index));
-    mask = le-ltb (length (w .mask)) rowLanes (a .mask);
+    h-index = le-ltb (length (w .hIndex)) (whereAny len (rowLanes * qubits)) (rows-asked qubits len q (a .h-index));
+    j-index = le-ltb (length (w .jIndex)) (whereAny len (rowLanes * qubits)) (rows-asked qubits len q (a .j-index));
+    mask = le-ltb (length (w .mask)) (whereAny len rowLanes) (a .mask);
     raws = le-ltb (length (w .raws)) len (a .raws);
     diags = le-ltb (length (w .diags)) len (a .diags);
   }

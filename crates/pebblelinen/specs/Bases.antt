@@ -8,6 +8,7 @@ use mathlib.Core.List.{List}
 use lib.Ieee.{Float}
 use Rattle.refusal.specs.Cause.{statusOf, answerStatus}
 use Rattle.refusal.specs.declared.Answer.the-variants.{Accepted}
+use Rattle.model.specs.Tested.{whereAny}
 use Rattle.basis.specs.Prunes.{Keeping}
 use Rattle.basis.specs.Admissions.{Admitting}
 use Rattle.basis.specs.declared.kept.Kept.{Kept}
@@ -39,8 +40,10 @@ pub record LeavesAdmitted (a : Admitting) (r : KeptEntries) (lanes : List ℕ) (
   pub work-is : work ≡ a .work
   pub kept-is : kept ≡ a .kept
 
--- the lengths that are enough for a basis of so many entries, so many protected words and so many listed ones
+-- the lengths that are enough for a basis of so many entries, so many protected words and so many listed ones; the protected ones
+-- are looked for only where there is an entry
 unfoldable pub basisSizes : ℕ → ℕ → ℕ → BasisSizes
 basisSizes entries protected listed =
     let kept : ℕ = max entries listed in
-    record { order = max kept protected; work = max kept protected; fixed = entries; kept = kept }
+    let order : ℕ = max kept (whereAny entries protected) in
+    record { order = order; work = order; fixed = entries; kept = kept }

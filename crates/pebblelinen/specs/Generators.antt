@@ -7,6 +7,7 @@ use mathlib.Core.Path.{_≡_}
 use mathlib.Core.List.{List}
 use lib.Ieee.{Float}
 use Rattle.word.specs.Word.{maxQubits}
+use Rattle.model.specs.Tested.{whereAny}
 use Rattle.action.specs.Counts.{maxWords, rowLanes}
 use Rattle.generator.specs.Lent.{Work}
 use Rattle.generator.specs.Generators.{Generating, CsrBuilding}
@@ -36,17 +37,17 @@ abbrev pub maxEntries : ℕ
 maxEntries = 4294967296
 
 -- the lengths for a register, a basis of so many words, actions that touch so many words, and so many entries: twice as many slots as
--- words
+-- words, and no rows for no words
 unfoldable pub generatorSizes : ℕ → ℕ → ℕ → ℕ → GeneratorSizes
 generatorSizes qubits words touched entries =
-    let rows : ℕ = rowLanes * min qubits maxQubits in
+    let rows : ℕ = whereAny words (rowLanes * min qubits maxQubits) in
     let b : ℕ = min words maxWords in
     let t : ℕ = min touched maxPlaces in
     let e : ℕ = min entries maxEntries in
     record {
       «h_index» = rows;
       «j_index» = rows;
-      mask = rowLanes;
+      mask = whereAny words rowLanes;
       heads = 2 * b;
       nexts = b;
       «work_words» = 4 * t;

@@ -7,6 +7,7 @@ use mathlib.Core.Path.{_≡_}
 use mathlib.Core.List.{List}
 use lib.Ieee.{Float}
 use Rattle.word.specs.Word.{maxQubits}
+use Rattle.model.specs.Tested.{whereAny}
 use Rattle.action.specs.Counts.{maxWords, rowLanes}
 use Rattle.leakage.specs.Leakages.{Leaking, Work}
 use Rattle.pebblelinen.specs.Actions.{listedOf}
@@ -25,19 +26,20 @@ abbrev pub maxPlaces : ℕ
 maxPlaces = 4294967295
 
 -- the lengths for a register, a basis of so many entries, so many protected words, actions that touch so many words, and so many
--- candidates at a time: twice as many slots as words, and a log of as many entries as the candidates or the words of one action
+-- candidates at a time: twice as many slots as words, and a log of as many entries as the candidates or the words of one action; for no
+-- entries neither rows nor slots
 unfoldable pub leakageSizes : ℕ → ℕ → ℕ → ℕ → ℕ → LeakageSizes
 leakageSizes qubits entries protected touched candidates =
-    let rows : ℕ = rowLanes * min qubits maxQubits in
+    let rows : ℕ = whereAny entries (rowLanes * min qubits maxQubits) in
     let e : ℕ = min entries maxWords in
-    let p : ℕ = min protected maxWords in
+    let p : ℕ = min (whereAny entries protected) maxWords in
     let t : ℕ = min touched maxPlaces in
     let c : ℕ = min candidates maxPlaces in
     let l : ℕ = max t c in
     record {
       «h_index» = rows;
       «j_index» = rows;
-      mask = rowLanes;
+      mask = whereAny entries rowLanes;
       «work_words» = 4 * t;
       «work_sums» = 2 * t;
       order = e;

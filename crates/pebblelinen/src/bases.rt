@@ -8,6 +8,7 @@ ghost use Rattle.basis.specs.Admissions.{admit};
 ghost use Rattle.pebblelinen.specs.Bases.{keptOf, LeavesBasis, LeavesAdmitted, basisSizes};
 use action::count::larger_count;
 use basis::kept::Kept;
+use model::lengths::where_any;
 use refusal::Refusal;
 use refusal::Status;
 
@@ -142,7 +143,7 @@ pub extern "C" fn pebblelinen_basis_sizes(
     ensures { λ r. ⌜ r ≡ basisSizes entries protected listed ⌝ }
 {
     let kept = larger_count(entries, listed);
-    let order = larger_count(kept, protected);
+    let order = larger_count(kept, where_any(entries, protected));
     BasisSizes {
         order,
         work: order,

@@ -11,6 +11,7 @@ use crate::actions::listed_of;
 use crate::leakages::MAX_PLACES;
 use action::words::MAX_WORDS;
 use action::words::ROW_LANES;
+use model::lengths::where_any;
 use model::tables::Model;
 use model::test::smaller;
 use word::word::MAX_QUBITS;
@@ -148,14 +149,15 @@ pub extern "C" fn pebblelinen_generator_sizes(
 ) -> GeneratorSizes
     ensures { λ r. ⌜ r ≡ generatorSizes qubits words touched entries ⌝ }
 {
-    let rows = ROW_LANES * smaller(qubits, MAX_QUBITS);
+    let rows = where_any(words, ROW_LANES * smaller(qubits, MAX_QUBITS));
+    let row = where_any(words, ROW_LANES);
     let b = smaller(words, MAX_WORDS);
     let t = smaller(touched, MAX_PLACES);
     let e = smaller(entries, MAX_ENTRIES);
     GeneratorSizes {
         h_index: rows,
         j_index: rows,
-        mask: ROW_LANES,
+        mask: row,
         heads: 2 * b,
         nexts: b,
         work_words: 4 * t,

@@ -11,6 +11,7 @@ use action::count::larger_count;
 use action::words::MAX_WORDS;
 use action::words::ROW_LANES;
 use leakage::limits::Limits;
+use model::lengths::where_any;
 use model::tables::Model;
 use model::test::smaller;
 use word::word::MAX_QUBITS;
@@ -127,16 +128,17 @@ pub extern "C" fn pebblelinen_leakage_sizes(
 ) -> LeakageSizes
     ensures { λ r. ⌜ r ≡ leakageSizes qubits entries protected touched candidates ⌝ }
 {
-    let rows = ROW_LANES * smaller(qubits, MAX_QUBITS);
+    let rows = where_any(entries, ROW_LANES * smaller(qubits, MAX_QUBITS));
+    let row = where_any(entries, ROW_LANES);
     let e = smaller(entries, MAX_WORDS);
-    let p = smaller(protected, MAX_WORDS);
+    let p = smaller(where_any(entries, protected), MAX_WORDS);
     let t = smaller(touched, MAX_PLACES);
     let c = smaller(candidates, MAX_PLACES);
     let l = larger_count(t, c);
     LeakageSizes {
         h_index: rows,
         j_index: rows,
-        mask: ROW_LANES,
+        mask: row,
         work_words: 4 * t,
         work_sums: 2 * t,
         order: e,

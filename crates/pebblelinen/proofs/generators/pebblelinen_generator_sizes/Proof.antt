@@ -10,7 +10,7 @@ use Rattle.pebblelinen.proofs.generators.pebblelinen_generator_sizes.Ti
 
 returns : tie.Need-returns
 unfolding generatorSizes
-returns c = rw (← (c .before .before .before .smaller .ensures), ← (c .before .before .smaller2 .ensures), ← (c .before .smaller3 .ensures), ← (c .smaller4 .ensures)) refl
+returns c = rw (← (c .before .before .before .before .before .smaller .ensures), ← (c .before .before .before .before .where-any .ensures), ← (c .before .before .before .where-any2 .ensures), ← (c .before .before .smaller2 .ensures), ← (c .before .smaller3 .ensures), ← (c .smaller4 .ensures)) refl
 
 pub pebblelinen-generator-sizes-spec : {M : Type 1} → statement M
 pebblelinen-generator-sizes-spec =
@@ -18,6 +18,8 @@ pebblelinen-generator-sizes-spec =
     (tie.spec
     (λ c κs. search needs)
     (λ c. search needs)
+    (λ c κs. search needs)
+    (λ c κs. search needs)
     (λ c κs. search needs)
     (λ c κs. search needs)
     (λ c κs. search needs)
