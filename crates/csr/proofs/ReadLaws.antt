@@ -2,7 +2,7 @@
 -- SPDX-License-Identifier: Apache-2.0
 
 -- Reading a row of a lent matrix, answer by answer: the first refusal, or where the row stands. Assumes nothing.
-use mathlib.Core.Path.{_≡_, sym, ap, _∙_}
+use mathlib.Core.Path.{_≡_, refl, sym, ap, _∙_}
 use mathlib.Core.Bool.{Bool, cond, false≢true}
 use mathlib.Core.List.{List}
 use Prim.Native.Nat.{ℕ, _+_, _≤_, _<_}
@@ -18,7 +18,8 @@ use Rattle.refusal.specs.declared.Answer.the-variants.{Accepted, Refused}
 use Rattle.model.specs.Built.{andThen}
 use Rattle.model.proofs.BuildLaws.{both}
 use Rattle.csr.specs.Lent.{badOffset, rowsTests, placesTests}
-use Rattle.csr.specs.Rows.{rowOf, rowTests, readRow}
+use Rattle.csr.specs.Rows.{rowAt, rowOf, rowTests, readAs, readRow}
+use Rattle.csr.specs.declared.rows.Row.{Row}
 use Rattle.csr.specs.declared.reader.RowRead.the-variants as Reads
 use Rattle.csr.proofs.OffsetLaws.{Rising, rising, offset-inside}
 use Rattle.csr.proofs.CheckLaws.{accepts, refused-then, passed-then, rows-then, rows-agree, places-then, entries-sound}
@@ -100,6 +101,17 @@ module _ (rows : ℕ) (offsets columns : List ℕ) (row : ℕ) where
         let r = s .rises .rises row (s .is-row) in
         let z : getD offsets row 0 + length handed ≡ getD offsets (row + 1) 0 = omega (arith, l, r) in
         rw (e, row-stands rows offsets columns (s .agree) (s .rises) row (s .is-row), z)
+
+  -- what is handed out is a row of a sound matrix, from its own offset to before the next
+  pub handed-out : (r : Row) → readRow rows offsets columns row ≡ Reads.At r → Stands × (r ≡ record { start = getD offsets row 0; end = getD offsets (row + 1) 0 })
+  unfolding readRow
+  handed-out r e = go all refl e
+    where
+      go : (a : Answer) → all ≡ a → readAs a (rowAt offsets (length columns) row) ≡ Reads.At r → Stands × (r ≡ record { start = getD offsets row 0; end = getD offsets (row + 1) 0 })
+      go Accepted f g =
+          let s = stands f in
+          (s, cc (row-stands rows offsets columns (s .agree) (s .rises) row (s .is-row)))
+      go (Refused x) f g = let z : _≡_ {A = ℕ} 0 1 = cc in absurd (omega arith)
 
   pub read-refused : (r : Refusal) → all ≡ Refused r → Reads.Refused r ≡ readRow rows offsets columns row
   unfolding readRow

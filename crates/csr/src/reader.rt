@@ -32,6 +32,7 @@ fn read_columns<'a, 'b>(offsets: &'a [u64], columns: &'b [u32], row: usize) -> &
     RowReader { offsets, columns }.columns_of(row)
 }
 
+// Where a row stands, or why none is handed out.
 pub enum RowRead {
     At(Row),
     Refused(Refusal),
