@@ -7,7 +7,7 @@ use lib.Ieee as Ieee
 use Rattle.word.specs.Count.{sumTo, anyTo, tabulate}
 use Rattle.word.specs.Letter.{mulLetter, mulPhase}
 use Rattle.word.specs.Word.{bit, letterIn, lanesOf, wordOf}
-use Rattle.word.specs.Register.{share}
+use Rattle.word.specs.Register.{reaches, share}
 use Rattle.word.specs.Text.{codeOf, dropped, firstWhere, refuseByte, readLetters, parse}
 use Rattle.word.specs.Product.{phaseSum, mul, phase}
 use Rattle.word.specs.Order.{compareThen, compareLanes, compare}
@@ -20,12 +20,15 @@ use Rattle.word.specs.Flat.{words}
 use Rattle.order.specs.Merge.{positions, mergeHead, mergeBy, sortBy}
 use Rattle.order.specs.Magnitudes.{fallsBefore}
 use Rattle.order.specs.Places.{isAmong}
-use Rattle.truncate.specs.Retained.{pick, flagged}
+use Rattle.truncate.specs.Retained.{pick, flagged, flatLanes}
 use Rattle.truncate.specs.Chosen.{walked}
-use Rattle.basis.specs.Prunes.{protectedFlags, capFlags}
+use Rattle.model.specs.Tested.{whereAny, firstTo}
+use Rattle.action.specs.Counts.{outsideAt, insideTo}
+use Rattle.basis.specs.Tests.{notFinite, finiteTo}
+use Rattle.basis.specs.Prunes.{protectedFlags, capFlags, capTests, cap}
 use Rattle.action_laws.proofs.ReachedListed.{identity-action}
 use Rattle.pebblelinen.specs.Examples.{lists, lanesFor, Holds, AllHold, table}
 
 pub examples-hold : AllHold table
-unfolding sumTo anyTo tabulate mulLetter mulPhase bit letterIn lanesOf wordOf share codeOf dropped firstWhere refuseByte readLetters parse phaseSum mul phase compareThen compareLanes compare addC negC mulC conjC largestFrom unitC magnitude largerFloat entryIn rowsOver putOver putAllOver withoutOver pairsOver gatherOver signed factored overlapsOver formedOver termsOver clashOver generalOver shapeOver jumpsOver diagonalOver bothOver oneOver pairOver rowOver matrixOver matricesOver rulesOver actionOver lists words positions mergeHead mergeBy sortBy fallsBefore isAmong pick flagged walked protectedFlags capFlags lanesFor Holds Ieee.ofBits Ieee.neg Ieee.add Ieee.sub Ieee.mul Ieee.lt Ieee.le Ieee.eq
-examples-hold = (refl, (refl, (refl, (refl, (refl, (refl, (refl, (identity-action, (refl, (refl, (refl, (refl, tt))))))))))))
+unfolding sumTo anyTo tabulate mulLetter mulPhase bit letterIn lanesOf wordOf share codeOf dropped firstWhere refuseByte readLetters parse phaseSum mul phase compareThen compareLanes compare addC negC mulC conjC largestFrom unitC magnitude largerFloat entryIn rowsOver putOver putAllOver withoutOver pairsOver gatherOver signed factored overlapsOver formedOver termsOver clashOver generalOver shapeOver jumpsOver diagonalOver bothOver oneOver pairOver rowOver matrixOver matricesOver rulesOver actionOver lists words positions mergeHead mergeBy sortBy fallsBefore isAmong pick flagged flatLanes walked protectedFlags capFlags capTests cap insideTo outsideAt firstTo finiteTo notFinite whereAny reaches lanesFor Holds Ieee.ofBits Ieee.neg Ieee.add Ieee.sub Ieee.mul Ieee.lt Ieee.le Ieee.eq
+examples-hold = (refl, (refl, (refl, (refl, (refl, (refl, (refl, (identity-action, (refl, ((refl, refl), ((refl, refl), ((refl, refl), tt))))))))))))
