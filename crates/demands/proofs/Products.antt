@@ -42,9 +42,10 @@ use Rattle.generator.specs.Lent.{basisOf}
 use Rattle.generator.specs.Generators.{CsrOut, buildCsr}
 use Rattle.generator_laws.proofs.Accepted.{RowListing, csr-accepted}
 use Rattle.generator_laws.proofs.RowPlaces.{entryAt, columnsBy, valuesBy, column-at, value-at, columns-many, values-many, first-offsets, first-columns, first-values, StartsAt, entry-entered, column-rises}
-use Rattle.csr.specs.Products.{rowStarts, badColumn, lengthTests, tableTests}
+use Rattle.csr.specs.Lent.{rowStarts, badColumn}
+use Rattle.csr.specs.Products.{lengthTests, tableTests}
 use Rattle.csr.proofs.OffsetLaws.{Rising, none-bad}
-use Rattle.csr.proofs.CheckLaws.{lengths-then, lengths-accepted, Sound, sound-accepted}
+use Rattle.csr.proofs.CheckLaws.{rows-accepted, lengths-then, lengths-accepted, Sound, sound-accepted}
 use Rattle.demands.specs.Calls.{Accepted, AllFinite}
 use Rattle.demands.specs.Demands.{MakesProducts}
 use Rattle.demands.proofs.Matrices.{csr-answer}
@@ -130,7 +131,7 @@ module _ (rows : ℕ) (few : rows ≤ maxWords) (input : List Float) (overwrite 
   all-passed offsets columns values o v s =
       lengths-then rows offsets columns values input output work (tableTests rows offsets columns values input overwrite output Tests.Accepted)
       ∙ ap (λ (a : Answer). andThen a (tableTests rows offsets columns values input overwrite output Tests.Accepted))
-      (sym (lengths-accepted rows offsets columns values input output work few (eq-eqb (length offsets) (rows + 1) o) (eq-eqb (length values) (length columns) v) (eq-eqb (length input) rows input-agrees) (eq-eqb (length output) rows output-agrees) room))
+      (sym (lengths-accepted rows offsets columns values input output work (sym (rows-accepted rows offsets few (eq-eqb (length offsets) (rows + 1) o))) (eq-eqb (length values) (length columns) v) (eq-eqb (length input) rows input-agrees) (eq-eqb (length output) rows output-agrees) room))
       ∙ sound-accepted rows offsets columns values input overwrite output s
 
   module _ (input-finite : AllFinite input) (output-finite : overwrite ≡ false → AllFinite output) where
