@@ -179,7 +179,8 @@ static pebblelinen_status call_csr(size_t words, const size_t *len) {
     pebblelinen_listed found = pebblelinen_build_csr(
         MODEL, X, 4 * words, words, LANES(0), LANES(1), LANES(2), LANES(3), LANES(4), SUMS, places[0], room, places[1],
         room, numbers[1], room, offsets, len[5], places[3], room, numbers[2], room);
-    if (!words) holds("offsets over no words", found.count == 0 && offsets[0] == 0 && offsets[1] == 7);
+    if (!words && !found.status.refusal)
+        holds("offsets over no words", found.count == 0 && offsets[0] == 0 && offsets[1] == 7);
     return found.status;
 }
 
@@ -209,8 +210,8 @@ static pebblelinen_status leak_unprotected(size_t words, const size_t *len) {
 static pebblelinen_status call_prune(size_t words, const size_t *len) {
     uint64_t basis[] = {1, 0, 0, 0};
     double coeffs[] = {1};
-    pebblelinen_kept found = pebblelinen_prune_basis(QUBITS, basis, 4 * words, coeffs, words, words, NO_LANES, 0.5,
-                                                     LANES(0), LANES(1), LANES(2), LANES(3));
+    pebblelinen_kept found = pebblelinen_prune_basis(QUBITS, basis, 4 * words, coeffs, words, words, ALL(PROTECTED),
+                                                     0.5, LANES(0), LANES(1), LANES(2), LANES(3));
     if (!words) holds("no words pruned", found.entries == 0);
     return found.status;
 }
@@ -218,7 +219,7 @@ static pebblelinen_status call_prune(size_t words, const size_t *len) {
 static pebblelinen_status call_cap(size_t words, const size_t *len) {
     uint64_t basis[] = {1, 0, 0, 0};
     double coeffs[] = {1};
-    pebblelinen_kept found = pebblelinen_cap_basis(QUBITS, basis, 4 * words, coeffs, words, words, NO_LANES, 0,
+    pebblelinen_kept found = pebblelinen_cap_basis(QUBITS, basis, 4 * words, coeffs, words, words, ALL(PROTECTED), 0,
                                                    LANES(0), LANES(1), LANES(2), LANES(3));
     if (!words) holds("no words capped", found.entries == 0);
     return found.status;
