@@ -16,8 +16,8 @@ _short = reprlib.Repr()
 _short.maxstring = _short.maxother = _short.maxlong = 60
 
 
-def whole(given, what, path=()):
-    """A number of 64 bits."""
+def whole(given, what, path=(), most="2^64 - 1"):
+    """A number of 64 bits. Where it has another limit, a user is told that; the library judges it."""
     if _is_number(given):
         try:
             value = operator.index(given)
@@ -26,7 +26,7 @@ def whole(given, what, path=()):
         else:
             if 0 <= value < 1 << 64:
                 return value
-            raise InputError(f"{what} is {shown(value)}: from 0 to 2^64 - 1 is needed", path)
+            raise InputError(f"{what} is {shown(value)}: from 0 to {most} is needed", path)
     raise InputError(f"{what} is {shown(given)}: a whole number is needed", path)
 
 

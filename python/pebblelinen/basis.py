@@ -7,25 +7,24 @@ from typing import NamedTuple
 import numpy as np
 
 from . import _given, _library
+from ._sealed import Sealed, read_only
 from ._tables import work_tables, zeros
 from .errors import InputError, Refusal
 from .terms import Terms
 from .words import (
     MAX_QUBITS,
+    MAX_WORDS,
     AnyWord,
     Position,
     Qubit,
     Word,
-    lanes_of,
     made,
+    places_of,
     qubits,
     register,
     table,
     text_refusal,
 )
-
-# The most words of a list, and the largest word limit.
-MAX_WORDS = 65_536
 
 # How many entries are shown.
 _SHOWN = 20
@@ -40,17 +39,18 @@ class Entry(NamedTuple):
         return f"{self.position}: {self.word.by_site}, coefficient {self.coefficient!r}"
 
 
-class Basis:
+class Basis(Sealed):
     """Words with a coefficient each, told apart by their position.
 
-    A word may stand at several positions. Entries are given as (word, coefficient) pairs or as a
-    mapping.
+    A word may stand at several positions; `"X12 Z40" in basis` says whether it stands at one, in whichever
+    way it is written, and what is no word of the register raises. Entries are given as (word, coefficient)
+    pairs, as a mapping or as terms, and are copied.
     """
 
     def __init__(self, n: int, entries=()):
         self.n = register(n)
         terms = Terms.of(entries, n=self.n)
-        self._hold(terms.lanes, terms.values, own=not isinstance(entries, Terms))
+        self._hold(terms.lanes.copy(), terms.values.copy(), own=True)
 
     @classmethod
     def from_arrays(cls, n: int, words, coefficients=None) -> "Basis":
@@ -58,7 +58,8 @@ class Basis:
         0 where none are given.
 
         Arrays that can be lent as they are are not copied: the basis reads them where they are, and
-        takes a copy of its own before it changes anything."""
+        takes a copy of its own before it changes anything. Until then `coefficients` is to be read only; it
+        can be set at any time."""
         self = object.__new__(cls)
         self.n = register(n)
         lanes = _given.lanes(words, "words")
@@ -78,6 +79,7 @@ class Basis:
         self._own = own
         # The library reads and writes the tables while other threads run.
         self._lock = threading.RLock()
+        self._sealed = True
 
     def copy(self) -> "Basis":
         with self._lock:
@@ -96,20 +98,20 @@ class Basis:
 
     @property
     def lanes(self):
-        """The words in use, flat."""
-        return self._lanes[: 4 * self._len]
+        """The words in use, flat, to be read only."""
+        return read_only(self._lanes[: 4 * self._len])
 
     @property
     def words(self):
         """The words, four lanes each: an array of uint64 of the shape (entries, 4), to be read only."""
-        view = self.lanes.reshape(-1, 4)
-        view.flags.writeable = False
-        return view
+        return self.lanes.reshape(-1, 4)
 
     @property
     def coefficients(self):
-        """The coefficients by position. It is a view: after a call that changes the basis, ask again."""
-        return self._coefficients[: self._len]
+        """The coefficients by position. It is a view: after a call that changes the basis, ask again. While
+        the basis reads an array that was given to from_arrays, it is to be read only."""
+        view = self._coefficients[: self._len]
+        return view if self._own else read_only(view)
 
     @coefficients.setter
     def coefficients(self, given):
@@ -122,6 +124,10 @@ class Basis:
 
     def __len__(self):
         return self._len
+
+    def __contains__(self, word: AnyWord) -> bool:
+        """Whether a word stands in the basis, in whichever way it is written. What is no word raises."""
+        return len(places_of(word, self.words, self.n)) > 0
 
     def entry(self, *, position: Position | int) -> Entry:
         """The entry at a position."""
@@ -137,8 +143,7 @@ class Basis:
 
     def positions(self, word: AnyWord) -> list[Position]:
         """The positions at which a word stands."""
-        lanes = np.array(lanes_of(word, self.n), np.uint64)
-        return [Position(p) for p in np.flatnonzero((self.words == lanes).all(axis=1)).tolist()]
+        return [Position(p) for p in places_of(word, self.words, self.n).tolist()]
 
     def touching(self, *, qubit: Qubit | int) -> list[Position]:
         """The positions whose words have a letter other than I at a qubit."""
@@ -178,7 +183,7 @@ class Basis:
     def cap(self, *, limit: int, protected=()) -> int:
         """Keeps the entries of protected words and the largest others, so many that there are limit in
         all; of equally large ones the lower positions. Returns how many entries there are then."""
-        limit = _given.whole(limit, "limit")
+        limit = _given.whole(limit, "limit", most=MAX_WORDS)
         return self._shorten("cap_basis", limit, protected, {"limit": limit}, {})
 
     def _shorten(self, name, number, protected, limits, thresholds):
@@ -210,7 +215,7 @@ class Basis:
 
         Words are listed by terms, as leakage gives them, by (word, value) pairs or by a mapping."""
         terms = Terms.of(listed, n=self.n)
-        limit = _given.whole(limit, "limit")
+        limit = _given.whole(limit, "limit", most=MAX_WORDS)
         with self._lock:
             self._take_over()
             list_, values = self._apart(terms.lanes), self._apart(terms.values)

@@ -10,6 +10,7 @@ from typing import NamedTuple
 import numpy as np
 
 from . import _given, _library
+from ._sealed import read_only
 from ._tables import work_tables
 from .errors import InputError, Refusal
 from .words import Position
@@ -68,7 +69,7 @@ def product(matrix, vector, *, out: np.ndarray | None = None, add: bool = False)
 
 def row(matrix, *, position: Position | int) -> tuple[np.ndarray, np.ndarray]:
     """The row of a CSR matrix at a position: its columns, which are positions, and its values, as parts
-    of the matrix' arrays. The matrix is tested whole where its first row is read, and then row by row."""
+    of the matrix' arrays, to be read only. The matrix is tested whole where its first row is read, and then row by row."""
     p = int(Position(position))
     _check_matrix(matrix)
     places = _row_of_accepted(matrix, p)
@@ -76,7 +77,7 @@ def row(matrix, *, position: Position | int) -> tuple[np.ndarray, np.ndarray]:
         places = _row(matrix, p)
     start, end = places
     columns, values = matrix.indices[start:end], matrix.data[start:end]
-    return _columns(columns), _given.numbers(values, "the values of the matrix")
+    return read_only(_columns(columns)), read_only(_given.numbers(values, "the values of the matrix"))
 
 
 def _row(matrix, p):

@@ -6,11 +6,23 @@ from typing import NamedTuple
 import numpy as np
 
 from . import _building, _given, _library, matrix
+from ._sealed import Sealed
 from ._tables import MOST_TOUCHED, work_tables
-from .basis import MAX_WORDS, Basis, not_finite, refusal, too_short
+from .basis import Basis, not_finite, refusal, too_short
 from .errors import InputError, Refusal
 from .terms import Terms
-from .words import AnyWord, Position, lanes_of, qubits, register, same_register, site_text, struct_of, table
+from .words import (
+    MAX_WORDS,
+    AnyWord,
+    Position,
+    lanes_of,
+    qubits,
+    register,
+    same_register,
+    site_text,
+    struct_of,
+    table,
+)
 
 # Positions that leakage takes in a pass.
 _PASS = 4096
@@ -32,7 +44,7 @@ class Degree(NamedTuple):
     mu: float
 
 
-class Model:
+class Model(Sealed):
     """A model on a register of n qubits: Hamiltonian terms, jumps and Kossakowski matrices.
 
     hamiltonian   (word, number) pairs, or a mapping: {"X0 X1": 1.0, "Z0": 0.5}
@@ -71,6 +83,7 @@ class Model:
         self._touched = 256
         self._candidates = 0
         self._entries = 0
+        self._sealed = True
 
     def __repr__(self):
         terms = _given.counted(self.hamiltonian_terms, "Hamiltonian term")
@@ -155,9 +168,9 @@ class Model:
         there is room for below max_basis, or admit_basis where that is larger, and those larger than
         tau_add in magnitude, in word order."""
         self._check(basis)
-        limits = {"max_basis": _given.whole(max_basis, "max_basis")}
+        limits = {"max_basis": _given.whole(max_basis, "max_basis", most=MAX_WORDS)}
         if admit_basis is not None:
-            limits["admit_basis"] = _given.whole(admit_basis, "admit_basis")
+            limits["admit_basis"] = _given.whole(admit_basis, "admit_basis", most=MAX_WORDS)
         thresholds = {} if tau_add is None else {"tau_add": _given.real(tau_add, "tau_add")}
         passed = _library.Limits(
             limits["max_basis"],

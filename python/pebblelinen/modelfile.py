@@ -71,7 +71,7 @@ def _read(name):
 
 def _made(data):
     _keys(data, _KEYS, ["qubits"], ())
-    n = _given.whole(data["qubits"], "the number of qubits", ("qubits",))
+    n = _given.whole(data["qubits"], "the number of qubits", ("qubits",), words.MAX_QUBITS)
     model = Model(
         n,
         data.get("hamiltonian", {}),

@@ -15,11 +15,14 @@ from collections.abc import Mapping
 from types import MappingProxyType
 
 import numpy as np
+from numpy.typing import NDArray
 
 from . import _given, _library
 from .errors import InputError, Refusal
 
 MAX_QUBITS = 128
+# The most words of a list, and the largest word limit.
+MAX_WORDS = 65_536
 _LETTERS = "IXZY"  # by code
 _SITE = re.compile(r"([^\s0-9])([0-9]{1,5})")
 
@@ -27,7 +30,7 @@ _SITE = re.compile(r"([^\s0-9])([0-9]{1,5})")
 @functools.total_ordering
 class _Numbered:
     """A number that says what it counts. It is no int: two kinds are never equal, and there is no
-    arithmetic. It can index a list or an array."""
+    arithmetic."""
 
     __slots__ = ("_number",)
 
@@ -36,13 +39,10 @@ class _Numbered:
             if type(number) is not type(self):
                 raise InputError(f"{number!s} stands where a {self._kind} is needed")
             number = number._number
-        object.__setattr__(self, "_number", _given.whole(number, f"a {self._kind}"))
+        object.__setattr__(self, "_number", _given.whole(number, f"a {self._kind}", most=self._most))
 
     def __setattr__(self, name, value):
         raise AttributeError(f"a {self._kind} cannot be changed")
-
-    def __index__(self):
-        return self._number
 
     def __int__(self):
         return self._number
@@ -67,26 +67,37 @@ class _Numbered:
 
 
 class Qubit(_Numbered):
-    """A site of the device, counted from 0."""
+    """A site of the device, counted from 0. It indexes nothing, since most arrays are by position: int(qubit)
+    indexes a list of your own that is by qubit."""
 
     __slots__ = ()
     _kind = "qubit"
+    _most = MAX_QUBITS - 1
 
 
 class Position(_Numbered):
-    """A place in a basis, counted from 0: a row or column of its generator."""
+    """A place in a basis, counted from 0: a row or column of its generator. It indexes a list or an array."""
 
     __slots__ = ()
     _kind = "position"
+    _most = MAX_WORDS - 1
+
+    def __index__(self) -> int:
+        return self._number
 
 
 def register(n):
     """The qubits of a register; the library judges how many there may be."""
-    return _given.whole(n, "n, the number of qubits,")
+    return _given.whole(n, "n, the number of qubits,", most=MAX_QUBITS)
 
 
 class Word:
-    """A Pauli word on a register of n qubits. It cannot be changed."""
+    """A Pauli word on a register of n qubits. It cannot be changed.
+
+    Words are equal where their registers and letters are. A word is never equal to a text or a mapping, since
+    either can be written in many ways, of which a set or a dict would find one: comparing them raises. Compare
+    with a Word, or compare `word.by_site` or `word.text`.
+    """
 
     __slots__ = ("n", "lanes")
 
@@ -177,7 +188,12 @@ class Word:
     def struct(self):
         return struct_of(self.lanes)
 
-    def __eq__(self, other):
+    def __eq__(self, other: object) -> bool:
+        if isinstance(other, (str, Mapping)):
+            raise InputError(
+                f"the word {self.by_site} is compared with {_given.shown(other)}, which is no Word: compare with"
+                f" Word({_given.shown(other)}, n={self.n}), or compare word.by_site or word.text"
+            )
         if not isinstance(other, Word):
             return NotImplemented
         return (self.n, self.lanes) == (other.n, other.lanes)
@@ -266,6 +282,11 @@ def lanes_of(word, n, path=()):
     if parsed.status.refusal:
         raise text_refusal(parsed.status, word, n, path)
     return (*parsed.word.x, *parsed.word.z)
+
+
+def places_of(word: AnyWord, words: NDArray[np.uint64], n: int) -> NDArray[np.intp]:
+    """The places at which a word stands in an array of words."""
+    return np.flatnonzero((words == np.array(lanes_of(word, n), np.uint64)).all(axis=1))
 
 
 def bytes_of(word, n, path=()):

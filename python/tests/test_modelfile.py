@@ -156,7 +156,8 @@ class Files(unittest.TestCase):
         text = GOOD.replace('"-0.5j"', '"0.5j"')
         self.refused(text, 10, "matrices[0].k[0][1]", "matrix 0: K[0][1] is not the conjugate of K[1][0]")
         text = GOOD.replace(', [0, 0, "2"]]', "]")
-        self.refused(text, 9, "matrices[0].k", "matrix 0 has 6 entries in K, and its 3 operators need 9")
+        said = "matrix 0 has 6 entries in K (2 rows of 3), in place of 9 for 3 operators (3 rows of 3)"
+        self.refused(text, 9, "matrices[0].k", said)
         text = GOOD.replace('k = [[1, "0.5j", 0]', 'k = [[1, "half", 0]')
         self.wrong(text, "matrices[0].k[0][1]", "'half' is no number")
         text = GOOD.replace('[["Y1", "1+2j"]]', "[]")
