@@ -105,7 +105,8 @@ def _parser():
         _leakage,
         "what the model moves out of the basis",
         "What the model moves out of the file's basis, onto words neither in it nor protected: the\n"
-        "largest that there is room for, with their sums, in word order.",
+        "largest that there is room for, with their sums, in word order. The room is said, and where it is\n"
+        "full, so that others may leak too: without room nothing is listed, whatever leaks.",
     )
     made.add_argument(
         "--max-basis", type=int, required=True, metavar="N", help="room is what N leaves beside the basis"
@@ -166,7 +167,7 @@ def _action(options):
 
 
 def _leakage(options):
-    file = _loaded(options)
+    file = _loaded_with_basis(options)
     with working(f"leakage out of {len(file.basis)} entries"):
         terms = file.model.leakage(
             file.basis,
@@ -177,21 +178,32 @@ def _leakage(options):
         )
 
     def answer():
-        return {"qubits": file.model.n, "largest": _json_number(terms.largest()), "terms": _terms(terms)}
+        return {
+            "qubits": file.model.n,
+            "room": terms.room,
+            "full": terms.full,
+            "largest": _largest(terms.largest()),
+            "terms": _terms(terms),
+        }
 
     def lines():
         yield str(file.model)
         protected = f", {counted(len(file.protected), 'protected word')}" if file.protected else ""
-        yield f"basis: {counted(len(file.basis), 'position')}{protected}"
+        room = f"room for {counted(terms.room, 'word')} more"
+        yield f"basis: {counted(len(file.basis), 'position')}{protected}; {room}"
         yield ""
-        yield f"leakage: {counted(len(terms), 'word')}, largest {terms.largest()!r}"
+        if not len(terms):
+            yield f"leakage: {terms.why_empty()}"
+            return
+        full = "; the room is full, and others may leak too" if terms.full else ""
+        yield f"leakage: {counted(len(terms), 'word')}, largest {terms.largest()!r}{full}"
         yield from _listed(terms, options.all)
 
     return answer, lines
 
 
 def _generator(options):
-    file = _loaded(options)
+    file = _loaded_with_basis(options)
     with working(f"generator over {len(file.basis)} entries"):
         matrix = file.model.generator(file.basis)
     entries = list(zip(matrix.row.tolist(), matrix.col.tolist(), matrix.data.tolist()))
@@ -219,7 +231,7 @@ def _generator(options):
 
 
 def _degree(options):
-    file = _loaded(options)
+    file = _loaded_with_basis(options)
     with working(f"norm over {len(file.basis)} entries"):
         degree = file.model.degree(file.basis, dt=options.dt, drop_tol=options.drop_tol)
 
@@ -268,7 +280,9 @@ def _demo(options):
 
     def answer():
         action = _terms(model.action(demo.OBSERVABLE))
-        done = [each._asdict() for each in rounds()]
+        done = [
+            {**each._asdict(), "largest_leakage": _largest(each.largest_leakage)} for each in rounds()
+        ]
         return {
             "qubits": model.n,
             "observable": demo.OBSERVABLE,
@@ -287,8 +301,10 @@ def _demo(options):
         yield f"a basis grows around it: at most {options.limit} words, time step {options.dt!r}"
         yield "  round  leaked  largest leakage  words  entries of the generator  seconds"
         for each in rounds():
+            no_room = math.isnan(each.largest_leakage)
+            largest = "no room" if no_room else f"{each.largest_leakage:.6f}"
             yield (
-                f"  {each.number:5}  {each.leaked:6}  {each.largest_leakage:15.6f}  {each.words:5}"
+                f"  {each.number:5}  {each.leaked:6}  {largest:>15}  {each.words:5}"
                 f"  {each.entries:24}  {each.seconds:7.3f}"
             )
         yield ""
@@ -308,6 +324,13 @@ def _loaded(options):
         return modelfile.load(options.file)
 
 
+def _loaded_with_basis(options):
+    file = _loaded(options)
+    if not len(file.basis):
+        raise InputError("this file has no basis to work on: give it a [basis] with words", where=options.file)
+    return file
+
+
 # ---- what is printed ----
 
 
@@ -318,6 +341,11 @@ def _terms(terms):
 def _json_number(x):
     """JSON has no infinity and no NaN: these are texts."""
     return x if math.isfinite(x) else str(x)
+
+
+def _largest(x):
+    """The largest leakage, which is not known where there was no room to list any."""
+    return None if math.isnan(x) else _json_number(x)
 
 
 def _error(error):

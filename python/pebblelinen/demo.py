@@ -60,7 +60,7 @@ def _number(x):
 
 
 class Round(NamedTuple):
-    """What a round of growing found and did."""
+    """What a round of growing found and did. The largest leakage is NaN where there was no room to list any."""
 
     number: int
     leaked: int

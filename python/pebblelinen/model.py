@@ -10,6 +10,7 @@ from ._sealed import Sealed
 from ._tables import MOST_TOUCHED, work_tables
 from .basis import Basis, not_finite, refusal, too_short
 from .errors import InputError, Refusal
+from .leakage import Leakage
 from .terms import Terms
 from .words import (
     MAX_WORDS,
@@ -163,10 +164,11 @@ class Model(Sealed):
         admit_basis: int | None = None,
         tau_add: float | None = None,
         protected=(),
-    ) -> Terms:
+    ) -> Leakage:
         """What the model moves out of a basis, onto words neither in it nor protected: at most as many as
         there is room for below max_basis, or admit_basis where that is larger, and those larger than
-        tau_add in magnitude, in word order."""
+        tau_add in magnitude, in word order. It says the room: without room nothing is listed, whatever
+        leaks."""
         self._check(basis)
         limits = {"max_basis": _given.whole(max_basis, "max_basis", most=MAX_WORDS)}
         if admit_basis is not None:
@@ -188,7 +190,14 @@ class Model(Sealed):
             if listed.status.refusal:
                 raise refusal(listed.status, basis, "protected", fixed, limits, thresholds)
         words, values = out
-        return Terms(self.n, words[: 4 * listed.count], values[: listed.count])
+        return Leakage(
+            self.n,
+            words[: 4 * listed.count],
+            values[: listed.count],
+            room=room,
+            entries=len(basis),
+            tau_add=passed.tau_add,
+        )
 
     def _leak(self, basis, fixed, limits, room, out):
         entries = len(basis)

@@ -87,7 +87,7 @@ class Commands(Case):
             out.splitlines(),
             [
                 "Model of 3 qubits: 2 Hamiltonian terms, 1 jump, 0 pairs",
-                "basis: 2 positions, 1 protected word",
+                "basis: 2 positions, 1 protected word; room for 8 words more",
                 "",
                 "leakage: 2 words, largest 2.0",
                 "  I0      0.5",
@@ -95,7 +95,8 @@ class Commands(Case):
             ],
         )
         answer = self.json("leakage", self.path, "--max-basis", "3", "--tau-add", "0.1")
-        self.assertEqual(answer, {"qubits": 3, "largest": 2.0, "terms": [{"word": "Y0 X1", "value": 2.0}]})
+        terms = [{"word": "Y0 X1", "value": 2.0}]
+        self.assertEqual(answer, {"qubits": 3, "room": 1, "full": True, "largest": 2.0, "terms": terms})
         answer = self.json("leakage", self.path, "--max-basis", "2", "--admit-basis", "4")
         self.assertEqual(len(answer["terms"]), 2)
 
