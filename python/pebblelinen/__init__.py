@@ -11,7 +11,8 @@ proved to give it; this package carries numbers in and out.
     print(model.action("Z0"))
 """
 from .basis import Basis, Entry
-from .errors import CAUSES, InputError, LibraryMissing, PebblelinenError, Refusal
+from .errors import CAUSES, InputError, LibraryMissing, NotPositive, PebblelinenError, Refusal
+from .kossakowski import split_matrix
 from .leakage import Leakage
 from .matrix import Choice, product, row, select_ms
 from .model import Degree, Model, Norm
@@ -31,6 +32,7 @@ __all__ = [
     "Model",
     "ModelFile",
     "Norm",
+    "NotPositive",
     "PebblelinenError",
     "Position",
     "Qubit",
@@ -41,4 +43,5 @@ __all__ = [
     "product",
     "row",
     "select_ms",
+    "split_matrix",
 ]

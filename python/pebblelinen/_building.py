@@ -41,7 +41,10 @@ def hamiltonian_of(given, n, path=("hamiltonian",)):
 
 def jumps_of(given, n, path=("jumps",)):
     """(rate, terms) of each jump."""
-    items = _given.pairs(_listed_only(given, "jumps", path), "jump", path)
+    given = _listed_only(given, "jumps", path)
+    if _is_one(given, lambda rate, _: isinstance(rate, (int, float))):
+        raise InputError("jumps is one (rate, operator) pair: a list of pairs, [(rate, operator)], is needed", path)
+    items = _given.pairs(given, "jump", path)
     return [
         (
             _given.real(rate, f"the rate of jump {i}", (*path, i, "rate")),
@@ -54,7 +57,10 @@ def jumps_of(given, n, path=("jumps",)):
 def matrices_of(given, n, path=("matrices",)):
     """(operators, K, lengths of K's rows) of each matrix; K is flat."""
     found = []
-    for i, (operators, k) in enumerate(_given.pairs(_listed_only(given, "matrices", path), "matrix", path)):
+    given = _listed_only(given, "matrices", path)
+    if _is_one(given, lambda _, k: _is_matrix(k)):
+        raise InputError("matrices is one (operators, K) pair: a list of pairs, [(operators, K)], is needed", path)
+    for i, (operators, k) in enumerate(_given.pairs(given, "matrix", path)):
         where = (*path, i, "operators")
         listed = _given.listed(_listed_only(operators, "operators", where), "operators", where)
         terms = [operator_of(operator, n, (*where, j)) for j, operator in enumerate(listed)]
@@ -66,6 +72,19 @@ def _listed_only(given, what, path):
     if isinstance(given, Mapping):
         raise InputError(f"{what} is a mapping: a list is needed", path)
     return given
+
+
+def _is_one(given, is_pair):
+    """Whether one pair is given where a list of pairs is meant."""
+    return isinstance(given, (tuple, list)) and len(given) == 2 and is_pair(*given)
+
+
+def _is_matrix(given):
+    try:
+        array = np.asarray(given)
+    except ValueError:
+        return False
+    return array.ndim == 2 and array.dtype.kind in "iufc"
 
 
 def operator_of(given, n, path):
@@ -249,7 +268,7 @@ def matrix_refusal(status, n, i, before, operators, entries, rows, tables):
         needs = dict.fromkeys(("jumps", "rates"), min(_LIMITS["jumps"], before + k * (k + 1) // 2))
         return _short_table(status, what, needs, tables, sizes, values, path)
     if number == 10:
-        said = f"{what}: K[{first}][{second}] is not the conjugate of K[{second}][{first}]"
+        said = f"{what}: {_not_hermitian(first, second, entries, k)}"
         return Refusal(10, said, values | {"row": first, "column": second}, (*path, "k", first, second))
     if number == 8 and k > _LIMITS["operators"]:
         return _count(first, "operators", what, values, (*path, "operators"))
@@ -266,6 +285,16 @@ def matrix_refusal(status, n, i, before, operators, entries, rows, tables):
     if number == 8:
         return _count(first, "jumps", "the model", values, path)
     return _unexplained(status, what)
+
+
+def _not_hermitian(row, column, entries, k):
+    here, there = entries[row * k + column], entries[column * k + row]
+    if row == column:
+        return f"K[{row}][{row}] is {here}, and an entry on the diagonal must be real"
+    return (
+        f"K[{row}][{column}] is not the conjugate of K[{column}][{row}]: they are {here} and {there}; where that is"
+        " an error of the measurement, give (K + K.conj().T) / 2"
+    )
 
 
 def _alone(n, operators, entries):
@@ -317,6 +346,8 @@ def _count(count, what, of, values, path):
     }
     limit = _LIMITS[what]
     said = f"{of} has {count} {names[what]}: at most {limit}"
+    if what == "operators":
+        said += "; K can be split: pebblelinen.split_matrix(operators, K) gives matrices that add up to it"
     return Refusal(8, said, values | {"count": count, "limit": limit}, path)
 
 

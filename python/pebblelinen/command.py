@@ -7,12 +7,13 @@ import argparse
 import json
 import math
 import sys
+import warnings
 
 from . import _given, demo, modelfile
 from ._given import counted
 from ._progress import working
 from .basis import Basis
-from .errors import InputError, PebblelinenError, Refusal
+from .errors import InputError, NotPositive, PebblelinenError, Refusal
 from .words import Word, qubits
 
 # Lines of a list that are shown to people.
@@ -39,10 +40,12 @@ _FILE = "A model file:\n" + modelfile.__doc__.split("\n", 1)[1]
 
 
 def main(arguments=None):
-    options = _parser().parse_args(arguments)
+    options = _parser().parse_args(_joined(sys.argv[1:] if arguments is None else arguments))
+    options.warnings = []
     try:
         if options.json:
-            _print_json(options.run(options)[0]())
+            answer = options.run(options)[0]()
+            _print_json({**answer, "warnings": options.warnings} if options.warnings else answer)
         else:
             for line in options.run(options)[1]():
                 print(line, flush=True)
@@ -52,6 +55,25 @@ def main(arguments=None):
             _print_json({"error": _error(error)})
         return 1 if isinstance(error, Refusal) else 2
     return 0
+
+
+def _joined(arguments):
+    """The arguments, with --dt -1e-3 as --dt=-1e-3: argparse takes a number below 0 with an exponent for an
+    option."""
+    joined = []
+    for argument in arguments:
+        if joined and joined[-1].startswith("--") and argument.startswith("-") and _is_number(argument):
+            argument = f"{joined.pop()}={argument}"
+        joined.append(argument)
+    return joined
+
+
+def _is_number(text):
+    try:
+        float(text)
+    except ValueError:
+        return False
+    return True
 
 
 def _parser():
@@ -320,8 +342,14 @@ def _demo(options):
 
 
 def _loaded(options):
-    with working(f"reading {options.file}"):
-        return modelfile.load(options.file)
+    """What the file holds. A warning goes to standard error, and is kept for the answer to programs."""
+    with working(f"reading {options.file}"), warnings.catch_warnings(record=True) as caught:
+        warnings.simplefilter("always", NotPositive)
+        file = modelfile.load(options.file)
+    for warning in caught:
+        options.warnings.append(f"{options.file}: {warning.message}")
+        print(f"pebblelinen: warning: {options.warnings[-1]}", file=sys.stderr)
+    return file
 
 
 def _loaded_with_basis(options):

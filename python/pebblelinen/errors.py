@@ -1,6 +1,6 @@
 # SPDX-FileCopyrightText: 2026 The PPVM Authors
 # SPDX-License-Identifier: Apache-2.0
-"""What is raised: refusals of the library, and input that cannot be handed to it."""
+"""What is raised: refusals of the library, and input that cannot be handed to it. And what is warned of."""
 
 # The causes for which the library refuses a call, by number.
 CAUSES = {
@@ -76,3 +76,8 @@ class Refusal(PebblelinenError, ValueError):
 
     def __reduce__(self):
         return type(self), (self.number, self.said, self.values, self.path, self.where)
+
+
+class NotPositive(UserWarning):
+    """A Kossakowski matrix has an eigenvalue below 0 by more than rounding. It is accepted, and the curve may
+    grow beyond what a state allows."""

@@ -63,7 +63,7 @@ def product(matrix, vector, *, out: np.ndarray | None = None, add: bool = False)
             "dot", rows, offsets, columns, values, given, not add, out, work
         )
     if status.refusal:
-        raise _product_refusal(status, rows, offsets, columns, values, given, out, add)
+        raise _product_refusal(status, rows, offsets, columns, values, given, out)
     return out
 
 
@@ -167,40 +167,71 @@ def _check_out(out, read):
             raise InputError(f"out shares memory with {what}")
 
 
-def _product_refusal(status, rows, offsets, columns, values, vector, out, add):
+def _product_refusal(status, rows, offsets, columns, values, vector, out):
     if status.refusal == 14:
         said = f"the product's sum at position {status.first} is not finite"
         return Refusal(14, said, {"position": Position(status.first)})
+    if status.refusal == 7:
+        wrong = _places_refusal(status.first, rows, offsets, columns)
+        return wrong or _numbers_refusal(status.first, offsets, columns, values, vector, out)
     lengths = {
         "offsets": (rows + 1, len(offsets)),
         "values": (len(columns), len(values)),
         "entries of the vector": (rows, len(vector)),
         "places in out": (rows, len(out)),
     }
-    tables = _wrong_table(rows, offsets, columns), _not_finite(values, vector)
-    return _matrix_refusal(status, lengths, next(filter(None, tables), "out"))
+    return _count_refusal(status, lengths)
 
 
 def _row_refusal(status, rows, offsets, columns, p):
-    table = _wrong_table(rows, offsets, columns)
-    if status.refusal == 7 and table is None:
+    if status.refusal == 7:
         said = f"position {p} is outside the matrix of {_given.counted(rows, 'row')}"
-        return Refusal(7, said, {"position": Position(p)})
-    return _matrix_refusal(status, {"offsets": (rows + 1, len(offsets))}, table)
+        wrong = _places_refusal(status.first, rows, offsets, columns)
+        return wrong or Refusal(7, said, {"position": Position(p)})
+    return _count_refusal(status, {"offsets": (rows + 1, len(offsets))})
 
 
-def _matrix_refusal(status, lengths, table):
-    """Of a matrix with other tables: lengths are those that the library compares, needed and given, and table is
-    the first one that holds what it must not."""
-    number, first, second = status.refusal, status.first, status.second
-    if number == 8:
+def _count_refusal(status, lengths):
+    """Of too many rows, or of lengths that disagree: those that the library compares, needed and given."""
+    first, second = status.first, status.second
+    if status.refusal == 8:
         said = f"the matrix has {first} rows: at most {_MAX_ROWS}"
         return Refusal(8, said, {"count": first, "limit": _MAX_ROWS})
-    if number == 9:
-        what = next((what for what, pair in lengths.items() if pair == (first, second)), "places")
-        return Refusal(9, f"{second} {what}: {first} are needed", {"needed": first, "given": second})
-    said = f"place {first} of the {table} holds what it must not"
-    return Refusal(number, said, {"table": table, "place": first})
+    what = next((what for what, pair in lengths.items() if pair == (first, second)), "places")
+    return Refusal(9, f"{second} {what}: {first} are needed", {"needed": first, "given": second})
+
+
+def _places_refusal(place, rows, offsets, columns):
+    """Of the offsets or columns, where a number in them is out of range."""
+    table = _wrong_table(rows, offsets, columns)
+    if table is None:
+        return None
+    if table == "offsets":
+        said = (
+            f"indptr[{place}] of the matrix is {offsets.view(np.int64)[place]}: indptr begins with 0, never falls, and"
+            f" ends with {len(columns)}, the number of entries"
+        )
+    elif columns[place] >= rows:
+        given = "below 0 or above 2^32 - 2" if columns[place] == _NO_COLUMN else columns[place]
+        said = f"indices[{place}] of the matrix is {given}: from 0 to {rows - 1} is needed"
+    else:
+        said = (
+            f"indices[{place}] of the matrix is {columns[place]}, after {columns[place - 1]} in the same row: columns must"
+            " rise in every row, and matrix.sum_duplicates() sorts them and adds up what comes twice"
+        )
+    return Refusal(7, said, {"table": table, "place": place})
+
+
+def _numbers_refusal(place, offsets, columns, values, vector, out):
+    """Of a number that is not finite: values are tested first, then the vector, then out."""
+    if not np.isfinite(values).all():
+        at = int(np.searchsorted(offsets.view(np.int64), place, "right")) - 1
+        table, said = "values", f"the matrix has {values[place]} in row {at}, column {columns[place]}"
+    elif not np.isfinite(vector).all():
+        table, said = "vector", f"the vector has {vector[place]} at position {place}"
+    else:
+        table, said = "out", f"out has {out[place]} at position {place}"
+    return Refusal(7, f"{said}: a finite number is needed", {"table": table, "place": place})
 
 
 def _wrong_table(rows, offsets, columns):
@@ -215,12 +246,4 @@ def _wrong_table(rows, offsets, columns):
     rising = np.diff(columns.astype(np.int64)) > 0
     if (columns >= rows).any() or not (rising | starts[1 : len(columns)]).all():
         return "columns"
-    return None
-
-
-def _not_finite(values, vector):
-    """The first of the two with a number that is not finite."""
-    for table, what in (values, "values"), (vector, "vector"):
-        if not np.isfinite(table).all():
-            return what
     return None

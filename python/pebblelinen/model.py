@@ -5,7 +5,7 @@ from typing import NamedTuple
 
 import numpy as np
 
-from . import _building, _given, _library, matrix
+from . import _building, _given, _library, kossakowski, matrix
 from ._sealed import Sealed
 from ._tables import MOST_TOUCHED, work_tables
 from .basis import Basis, not_finite, refusal, too_short
@@ -53,7 +53,17 @@ class Model(Sealed):
     matrices      (operators, K) pairs, K Hermitian with a row for each operator
 
     An operator is (word, number) pairs, or a mapping, with complex numbers; a word alone has the number 1.
+    (X + iY)/2 is |0><1|, which takes a qubit from 1 to 0: QuTiP's sigmap() and destroy(2).
     Words are texts, or letters by site; see pebblelinen.words. A model cannot be changed.
+
+    A matrix K over operators A adds, summed over all n and m, to the rate of change of an observable p and of
+    a state ρ
+
+        K[n][m] (A_n† p A_m - (A_n† A_m p + p A_n† A_m) / 2)
+        K[n][m] (A_m ρ A_n† - (A_n† A_m ρ + ρ A_n† A_m) / 2)
+
+    If yours is K[n][m] A_n ρ A_m†, give K.T. A K with an eigenvalue below 0 by more than rounding is accepted,
+    with the warning NotPositive; split_matrix gives one over more than 64 operators in parts.
     """
 
     def __init__(self, n: int, hamiltonian=(), jumps=(), matrices=()):
@@ -72,6 +82,7 @@ class Model(Sealed):
                 before = counts.jumps
                 raise _building.matrix_refusal(added.status, n, i, before, operators, entries, rows, tables)
             counts = added.model
+        kossakowski.warn_if_not_positive(matrices)
 
         self.n = n
         self.hamiltonian_terms = counts.hamiltonian

@@ -17,8 +17,8 @@
     rate = 0.2
     operator = "Z1"                     # one word with the number 1
 
-    [[matrices]]
-    operators = ["X0", "X1"]
+    [[matrices]]                        # adds K[n][m] A_m ρ A_n† to the rate of change of a state ρ:
+    operators = ["X0", "X1"]            # if yours is K[n][m] A_n ρ A_m†, give K transposed
     k = [[1, "0.5j"], ["-0.5j", 1]]
 
     [basis]                             # words with their coefficients; positions count from 0

@@ -24,7 +24,8 @@ MAX_QUBITS = 128
 # The most words of a list, and the largest word limit.
 MAX_WORDS = 65_536
 _LETTERS = "IXZY"  # by code
-_SITE = re.compile(r"([^\s0-9])([0-9]{1,5})")
+_CODES = "I is 0, X 1, Z 2, Y 3"
+_SITE = re.compile(r"([^\s0-9])0*([0-9]+)")
 
 
 @functools.total_ordering
@@ -122,13 +123,14 @@ class Word:
         """The word of codes, one for each qubit: I 0, X 1, Z 2, Y 3."""
         if isinstance(codes, (bytes, bytearray)):
             codes = list(codes)
-        given = _given.lanes(_given.array(codes, "codes").reshape(-1), "codes")
-        if given.size and given.max() > 255:
-            raise InputError(f"code {given.max()}: a code has 8 bits")
-        parsed = _library.call("word_from_codes", given.astype(np.uint8))
+        given = _given.array(codes, "codes").reshape(-1)
+        outside = given[(given < 0) | (given > 255)] if given.dtype.kind in "iu" else given[:0]
+        if outside.size:
+            raise InputError(f"code {outside[0]}: {_CODES}")
+        parsed = _library.call("word_from_codes", _given.lanes(given, "codes").astype(np.uint8))
         status = parsed.status
         if status.refusal == 4:
-            raise Refusal(4, f"code {status.first}: I is 0, X 1, Z 2, Y 3", {"code": status.first})
+            raise Refusal(4, f"code {status.first}: {_CODES}", {"code": status.first})
         if status.refusal:
             raise text_refusal(status, codes, given.size)
         return made((*parsed.word.x, *parsed.word.z), given.size)
@@ -294,7 +296,7 @@ def bytes_of(word, n, path=()):
     qubit is given that is outside it, and the library refuses its length."""
     if isinstance(word, Word):
         return np.frombuffer(same_register(word, n, path=path).text.encode(), np.uint8)
-    if isinstance(word, str) and not re.search("[0-9]", word):
+    if not _is_by_site(word):
         return np.frombuffer(_encoded(word), np.uint8)
     sites = _by_site(word, path)
     # A larger register is refused, whatever the text.
@@ -312,6 +314,10 @@ def _encoded(text):
         return text.encode("utf-8", "surrogatepass")
 
 
+def _is_by_site(word):
+    return not isinstance(word, Word) and not (isinstance(word, str) and not re.search("[0-9]", word))
+
+
 def _by_site(word, path):
     """The letters that are given by their qubits."""
     if isinstance(word, str):
@@ -320,10 +326,12 @@ def _by_site(word, path):
             match = _SITE.fullmatch(token)
             if not match:
                 raise InputError(
-                    f"{token!r} in the word {_given.shown(word)} is no letter with its qubit, such as"
-                    " X12",
+                    f"{_given.shown(token)} in the word {_given.shown(word)} is no letter with its qubit"
+                    + (_advice(token) or ", such as X12"),
                     path,
                 )
+            if len(match[2]) > 5:
+                raise _no_qubit(match[2], path)
             given.append((int(match[2]), match[1]))
     elif isinstance(word, Mapping):
         given = [(_site(qubit, path), letter) for qubit, letter in word.items()]
@@ -347,14 +355,38 @@ def _site(qubit, path):
     except InputError as error:
         raise InputError(error.said, path) from None
     if q > 99_999:
-        raise InputError(f"qubit {q}: a register has at most {MAX_QUBITS} qubits", path)
+        raise _no_qubit(str(q), path)
     return q
+
+
+def _no_qubit(digits, path):
+    """Of a number above every register, for which no text is made."""
+    shown = digits if len(digits) <= 20 else digits[:20] + ".."
+    return InputError(f"qubit {shown}: a register has at most {MAX_QUBITS} qubits, 0 to {MAX_QUBITS - 1}", path)
+
+
+def _advice(text):
+    """What to write instead of a text that is written as words are elsewhere."""
+    bare = text.strip()
+    if re.match(r"[-+−]|i[IXYZ]", bare):
+        return "; a word has no sign or phase: give it to the word's number"
+    if "σ" in bare:
+        return "; write X, Y, Z for σx, σy, σz"
+    if re.fullmatch(r"([A-Za-z][0-9]+){2,}", bare):
+        return f"; write {' '.join(re.findall('[A-Z][0-9]+', bare.upper()))!r}, with a space between"
+    if re.fullmatch(r"[IXYZ](\s+[IXYZ])+", bare.upper()):
+        return f"; write {''.join(bare.upper().split())!r}, without spaces, or letters with their qubits"
+    if re.search("[ixyz]", bare) and re.fullmatch(r"[IXYZ_0-9\s]+", bare.upper()):
+        return f"; letters are capitals: {_given.shown(bare.upper())}"
+    return ""
 
 
 def text_refusal(status, word, n, path=()):
     """The refusal of a word's text."""
     first, second = status.first, status.second
     shown = f"the word {word.by_site}" if isinstance(word, Word) else f"the word {_given.shown(word)}"
+    text = chr(first) if isinstance(word, Mapping) and first < 128 else word
+    advice = _advice(text) if isinstance(text, str) else ""
     if status.refusal == 1:
         values = {"count": first, "limit": second}
         return Refusal(1, f"a register of {first} qubits: at most {second}", values, path)
@@ -366,14 +398,14 @@ def text_refusal(status, word, n, path=()):
             said = f"{shown} has a letter at qubit {outside}, and the register has {qubits(n)}"
             return Refusal(2, said + (f", 0 to {n - 1}" if n else ""), values, path)
         said = f"{shown} has {_given.counted(second, 'letter')}, and the register has {qubits(n)}"
-        return Refusal(2, said, values, path)
+        return Refusal(2, said + advice, values, path)
     byte = f"byte {first}" + (f" ({chr(first)!r})" if first < 128 else "")
-    said = f"{byte} at place {second} of {shown} is not I, X, Y or Z"
+    # Letters by site are handed over with a place for each qubit.
+    at = f"at {'qubit' if _is_by_site(word) else 'place'} {second}"
+    said = f"{byte} {at} of {shown} is not I, X, Y or Z{advice}"
     return Refusal(3, said, {"byte": first, "place": second}, path)
 
 
 def _outside(word, n):
     """The first qubit outside the register that a word by site names."""
-    if isinstance(word, Word) or isinstance(word, str) and not re.search("[0-9]", word):
-        return None
-    return min((q for q in _by_site(word, ()) if q >= n), default=None)
+    return min((q for q in _by_site(word, ()) if q >= n), default=None) if _is_by_site(word) else None
