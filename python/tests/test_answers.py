@@ -45,7 +45,7 @@ class LongOperators(test_refusals.Case):
         said = "operator 1 of matrix 0 has 17 terms: at most 16"
         path = ("matrices", 0, "operators", 1)
         self.refused(8, values | {"operator": 1}, said, model(np.eye(2), 16, 17), path)
-        said = "matrix 0: K[0][0] is not the conjugate of K[0][0]"
+        said = "matrix 0: K[0][0] is 1j, and an entry on the diagonal must be real"
         values = {"matrix": 0, "row": 0, "column": 0}
         self.refused(10, values, said, model([[1j]], 17), ("matrices", 0, "k", 0, 0))
         needed = "0, or 2^-200 to 2^200 in magnitude, is needed"
