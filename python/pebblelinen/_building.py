@@ -5,7 +5,8 @@ item that is to blame.
 
 The library says by which cause and index it refused. Which item has the text or the number that is meant is
 found by asking it again about one item at a time."""
-from collections.abc import Mapping
+from collections.abc import Callable, Hashable, Mapping, Sequence
+from typing import Any
 
 import numpy as np
 
@@ -74,12 +75,12 @@ def _listed_only(given, what, path):
     return given
 
 
-def _is_one(given, is_pair):
+def _is_one(given: Any, is_pair: Callable[[Any, Any], bool]) -> bool:
     """Whether one pair is given where a list of pairs is meant."""
     return isinstance(given, (tuple, list)) and len(given) == 2 and is_pair(*given)
 
 
-def _is_matrix(given):
+def _is_matrix(given: Any) -> bool:
     try:
         array = np.asarray(given)
     except ValueError:
@@ -129,6 +130,11 @@ def _rows_said(lengths):
         return _given.counted(len(lengths), "row") + each
     more = ", .." if len(lengths) > 8 else ""
     return f"rows of {', '.join(map(str, lengths[:8]))}{more}"
+
+
+def keys_of(operators: Sequence[Any]) -> list[Hashable]:
+    """What is equal for operators that have the same terms."""
+    return [tuple((bytes(text), x) for text, x, _ in operator) for operator in operators]
 
 
 def flat(operators):
@@ -287,7 +293,8 @@ def matrix_refusal(status, n, i, before, operators, entries, rows, tables):
     return _unexplained(status, what)
 
 
-def _not_hermitian(row, column, entries, k):
+def _not_hermitian(row: int, column: int, entries: Sequence[complex], k: int) -> str:
+    """What is wrong with an entry of K and its counterpart."""
     here, there = entries[row * k + column], entries[column * k + row]
     if row == column:
         return f"K[{row}][{row}] is {here}, and an entry on the diagonal must be real"

@@ -8,6 +8,7 @@ import json
 import math
 import sys
 import warnings
+from collections.abc import Sequence
 
 from . import _given, demo, modelfile
 from ._given import counted
@@ -57,10 +58,10 @@ def main(arguments=None):
     return 0
 
 
-def _joined(arguments):
+def _joined(arguments: Sequence[str]) -> list[str]:
     """The arguments, with --dt -1e-3 as --dt=-1e-3: argparse takes a number below 0 with an exponent for an
     option."""
-    joined = []
+    joined: list[str] = []
     for argument in arguments:
         if joined and joined[-1].startswith("--") and argument.startswith("-") and _is_number(argument):
             argument = f"{joined.pop()}={argument}"
@@ -68,7 +69,7 @@ def _joined(arguments):
     return joined
 
 
-def _is_number(text):
+def _is_number(text: str) -> bool:
     try:
         float(text)
     except ValueError:
@@ -352,7 +353,8 @@ def _loaded(options):
     return file
 
 
-def _loaded_with_basis(options):
+def _loaded_with_basis(options: argparse.Namespace) -> modelfile.ModelFile:
+    """What the file holds, where it has a basis to work on."""
     file = _loaded(options)
     if not len(file.basis):
         raise InputError("this file has no basis to work on: give it a [basis] with words", where=options.file)
@@ -371,7 +373,7 @@ def _json_number(x):
     return x if math.isfinite(x) else str(x)
 
 
-def _largest(x):
+def _largest(x: float) -> float | str | None:
     """The largest leakage, which is not known where there was no room to list any."""
     return None if math.isnan(x) else _json_number(x)
 

@@ -11,7 +11,7 @@ state ρ
 If yours is K[n][m] A_n ρ A_m†, give K.T.
 """
 import warnings
-from collections.abc import Hashable, Sequence
+from collections.abc import Callable, Hashable, Sequence
 from typing import Any
 
 import numpy as np
@@ -27,16 +27,18 @@ MOST_OPERATORS = 64
 _ROUNDING = 1e-12
 
 
-def warn_if_not_positive(matrices: Sequence[tuple[Any, Any, Any]]) -> None:
-    """Warns where a K has an eigenvalue below 0, unless all matrices together, which add up where they have the
-    same operators, have none. Matrices are given as they were read for building."""
-    lowest = [_below_zero(_hermitian(entries)) for _, entries, _ in matrices]
+def warn_if_not_positive(
+    ks: Sequence[NDArray[np.complex128]], operators: Callable[[], Sequence[Sequence[Hashable]]]
+) -> None:
+    """Warns where a K has an eigenvalue below 0, unless all matrices together have none: they add up where they
+    have the same operators. Those of each matrix are asked for where they are needed."""
+    lowest = [_below_zero(k) for k in ks]
     if not any(lowest):
         return
-    together = _below_zero(_together(matrices))
+    together = _below_zero(_together(ks, operators()))
     if together:
         i = next(i for i, eigenvalue in enumerate(lowest) if eigenvalue)
-        others = f", and {together:.6g} with all matrices added up" if len(matrices) > 1 else ""
+        others = f", and {together:.6g} with all matrices added up" if len(ks) > 1 else ""
         warnings.warn(
             f"matrix {i}: K has the eigenvalue {lowest[i]:.6g}, below 0{others}: it is accepted, and the curve may"
             " grow beyond what a state allows",
@@ -46,29 +48,25 @@ def warn_if_not_positive(matrices: Sequence[tuple[Any, Any, Any]]) -> None:
 
 
 def _below_zero(k: NDArray[np.complex128]) -> float:
-    """The lowest eigenvalue where it is below 0 by more than rounding, else 0."""
-    eigenvalues = np.linalg.eigvalsh(k) if len(k) else np.zeros(1)
+    """The lowest eigenvalue where it is below 0 by more than rounding, else 0. The library reads the entries of K on
+    and above the diagonal, and so does this."""
+    if not len(k):
+        return 0.0
+    eigenvalues = np.linalg.eigvalsh(k, UPLO="U")
     lowest = float(eigenvalues[0])
     return lowest if lowest < -_ROUNDING * abs(eigenvalues).max() else 0.0
 
 
-def _hermitian(entries: Sequence[complex]) -> NDArray[np.complex128]:
-    """K as the library reads it: by its entries on and above the diagonal."""
-    size = round(len(entries) ** 0.5)
-    above = np.triu(np.array(entries, np.complex128).reshape(size, size))
-    return above + np.triu(above, 1).conj().T
-
-
-def _together(matrices: Sequence[tuple[Any, Any, Any]]) -> NDArray[np.complex128]:
+def _together(
+    ks: Sequence[NDArray[np.complex128]], operators: Sequence[Sequence[Hashable]]
+) -> NDArray[np.complex128]:
     """One K over all operators: what is given for the same ones adds up."""
     places: dict[Hashable, int] = {}
-    found = []
-    for operators, entries, _ in matrices:
-        keys = [tuple((bytes(text), x) for text, x, *_ in operator) for operator in operators]
-        found.append(([places.setdefault(key, len(places)) for key in keys], _hermitian(entries)))
+    found = [[places.setdefault(each, len(places)) for each in listed] for listed in operators]
     whole = np.zeros((len(places), len(places)), np.complex128)
-    for at, k in found:
-        np.add.at(whole, np.ix_(at, at), k)
+    for at, k in zip(found, ks):
+        above = np.triu(k)
+        np.add.at(whole, np.ix_(at, at), above + np.triu(above, 1).conj().T)
     return whole
 
 

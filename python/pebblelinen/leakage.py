@@ -2,6 +2,7 @@
 # SPDX-License-Identifier: Apache-2.0
 """What leaks out of a basis, with the room that there was to list it."""
 import math
+from typing import Any
 
 from ._given import counted
 from .terms import Terms
@@ -14,11 +15,13 @@ class Leakage(Terms):
     entries    how many entries the basis had
     tau_add    sums above it in magnitude were asked for
 
-    A list that has as many words as there was room for says nothing about others: `full` is true, and
-    smaller ones may leak too. Without room nothing can be listed, whatever leaks.
+    A list that has as many words as there was room for says nothing about others: `full` is true, and others
+    may leak too. Without room nothing can be listed, whatever leaks.
     """
 
-    def __init__(self, n: int, words, values, *, room: int, entries: int, tau_add: float = 0.0):
+    def __init__(
+        self, n: int, words: Any, values: Any, *, room: int, entries: int, tau_add: float = 0.0
+    ) -> None:
         self.room = room
         self.entries = entries
         self.tau_add = tau_add

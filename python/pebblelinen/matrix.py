@@ -5,9 +5,11 @@
 Columns and values of a matrix are the arrays that the library wrote; scipy counts with sign, and every
 place here is below 2^31, so the same bytes serve both."""
 import weakref
-from typing import NamedTuple
+from collections.abc import Mapping
+from typing import Any, NamedTuple
 
 import numpy as np
+from numpy.typing import NDArray
 
 from . import _given, _library
 from ._sealed import read_only
@@ -191,7 +193,7 @@ def _row_refusal(status, rows, offsets, columns, p):
     return _count_refusal(status, {"offsets": (rows + 1, len(offsets))})
 
 
-def _count_refusal(status, lengths):
+def _count_refusal(status: Any, lengths: Mapping[str, tuple[int, int]]) -> Refusal:
     """Of too many rows, or of lengths that disagree: those that the library compares, needed and given."""
     first, second = status.first, status.second
     if status.refusal == 8:
@@ -201,7 +203,9 @@ def _count_refusal(status, lengths):
     return Refusal(9, f"{second} {what}: {first} are needed", {"needed": first, "given": second})
 
 
-def _places_refusal(place, rows, offsets, columns):
+def _places_refusal(
+    place: int, rows: int, offsets: NDArray[np.uint64], columns: NDArray[np.uint32]
+) -> Refusal | None:
     """Of the offsets or columns, where a number in them is out of range."""
     table = _wrong_table(rows, offsets, columns)
     if table is None:
@@ -222,7 +226,14 @@ def _places_refusal(place, rows, offsets, columns):
     return Refusal(7, said, {"table": table, "place": place})
 
 
-def _numbers_refusal(place, offsets, columns, values, vector, out):
+def _numbers_refusal(
+    place: int,
+    offsets: NDArray[np.uint64],
+    columns: NDArray[np.uint32],
+    values: NDArray[np.float64],
+    vector: NDArray[np.float64],
+    out: NDArray[np.float64],
+) -> Refusal:
     """Of a number that is not finite: values are tested first, then the vector, then out."""
     if not np.isfinite(values).all():
         at = int(np.searchsorted(offsets.view(np.int64), place, "right")) - 1

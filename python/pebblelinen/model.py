@@ -82,7 +82,10 @@ class Model(Sealed):
                 before = counts.jumps
                 raise _building.matrix_refusal(added.status, n, i, before, operators, entries, rows, tables)
             counts = added.model
-        kossakowski.warn_if_not_positive(matrices)
+        kossakowski.warn_if_not_positive(
+            [np.array(k, np.complex128).reshape(2 * [len(operators)]) for operators, k, _ in matrices],
+            lambda: [_building.keys_of(operators) for operators, *_ in matrices],
+        )
 
         self.n = n
         self.hamiltonian_terms = counts.hamiltonian

@@ -13,6 +13,7 @@ import functools
 import re
 from collections.abc import Mapping
 from types import MappingProxyType
+from typing import Any
 
 import numpy as np
 from numpy.typing import NDArray
@@ -314,8 +315,9 @@ def _encoded(text):
         return text.encode("utf-8", "surrogatepass")
 
 
-def _is_by_site(word):
-    return not isinstance(word, Word) and not (isinstance(word, str) and not re.search("[0-9]", word))
+def _is_by_site(word: Any) -> bool:
+    """Whether letters are given with their qubits: a text that has no numbers has a letter for each qubit."""
+    return not isinstance(word, Word) and (not isinstance(word, str) or bool(re.search("[0-9]", word)))
 
 
 def _by_site(word, path):
@@ -359,13 +361,13 @@ def _site(qubit, path):
     return q
 
 
-def _no_qubit(digits, path):
+def _no_qubit(digits: str, path: tuple[str | int, ...]) -> InputError:
     """Of a number above every register, for which no text is made."""
     shown = digits if len(digits) <= 20 else digits[:20] + ".."
     return InputError(f"qubit {shown}: a register has at most {MAX_QUBITS} qubits, 0 to {MAX_QUBITS - 1}", path)
 
 
-def _advice(text):
+def _advice(text: str) -> str:
     """What to write instead of a text that is written as words are elsewhere."""
     bare = text.strip()
     if re.match(r"[-+−]|i[IXYZ]", bare):

@@ -189,6 +189,11 @@ class Parts(unittest.TestCase):
 
 
 class Command(test_command.Case):
+    def test_help(self):
+        for name in "action", "leakage", "generator", "degree":
+            _, out, _ = self.run_command(name, "--help")
+            self.assertIn("if yours is K[n][m] A_n ρ A_m†, give K transposed", out)
+
     def test_warnings(self):
         self.write('qubits = 1\n[[matrices]]\noperators = ["Z"]\nk = [[-0.5]]')
         status, out, error = self.run_command("action", self.path, "X")
