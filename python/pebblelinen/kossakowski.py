@@ -78,9 +78,11 @@ def split_matrix(operators: Sequence[Any], k: ArrayLike) -> list[tuple[list[Any]
     Each pair of operators stands in one of them. Pairs count towards the 4,096 jumps and pairs of a model, so
     that a full K has at most 90 operators; entries of K that are 0 do not count."""
     operators = _given.listed(operators, "operators")
-    whole, count = np.asarray(k), len(operators)
+    whole, count = _given.array(k, "K"), len(operators)
     if whole.shape != (count, count):
         raise InputError(f"K has the shape {whole.shape}: {(count, count)} is needed, for {count} operators")
+    if whole.dtype.kind not in "iufc":
+        raise InputError(f"K is an array of {whole.dtype}: numbers are needed")
     if count <= MOST_OPERATORS:
         return [(operators, whole)]
     half = MOST_OPERATORS // 2

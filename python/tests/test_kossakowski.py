@@ -183,8 +183,11 @@ class Parts(unittest.TestCase):
             Model(128, matrices=split_matrix(words, np.ones((91, 91))))
 
     def test_other_shapes(self):
-        for k in [[1, 2]], [[1]], np.zeros((3, 2)), 5:
+        for k in [[1, 2]], [[1]], np.zeros((3, 2)):
             with self.assertRaisesRegex(InputError, r"K has the shape .*: \(2, 2\) is needed, for 2 operators"):
+                split_matrix(["X0", "X1"], k)
+        for k in 5, "K", [["1", "0"], ["0", "1"]], [[1, 0], [1]], [[None, 0], [0, 1]]:
+            with self.assertRaises(InputError):
                 split_matrix(["X0", "X1"], k)
 
 
