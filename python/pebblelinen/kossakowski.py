@@ -77,14 +77,14 @@ def split_matrix(operators: Sequence[Any], k: ArrayLike) -> list[tuple[list[Any]
 
     Each pair of operators stands in one of them. Pairs count towards the 4,096 jumps and pairs of a model, so
     that a full K has at most 90 operators; entries of K that are 0 do not count."""
-    operators = _given.listed(operators, "operators")
-    whole, count = _given.array(k, "K"), len(operators)
+    listed, whole = _given.listed(operators, "operators"), _given.array(k, "K")
+    count = len(listed)
     if whole.shape != (count, count):
         raise InputError(f"K has the shape {whole.shape}: {(count, count)} is needed, for {count} operators")
     if whole.dtype.kind not in "iufc":
         raise InputError(f"K is an array of {whole.dtype}: numbers are needed")
     if count <= MOST_OPERATORS:
-        return [(operators, whole)]
+        return [(listed, whole)]
     half = MOST_OPERATORS // 2
     blocks = [range(start, min(start + half, count)) for start in range(0, count, half)]
     parts = []
@@ -97,5 +97,5 @@ def split_matrix(operators: Sequence[Any], k: ArrayLike) -> list[tuple[list[Any]
                 part[: len(left), : len(left)] = 0
             if right is not blocks[-1] or left is not blocks[-2]:
                 part[len(left) :, len(left) :] = 0
-            parts.append(([operators[place] for place in at], part))
-    return [(listed, part) for listed, part in parts if part.any()]
+            parts.append(([listed[place] for place in at], part))
+    return [(some, part) for some, part in parts if part.any()]
