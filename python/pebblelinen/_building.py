@@ -13,6 +13,7 @@ import numpy as np
 from . import _given, _library, words
 from ._tables import work_tables, zeros
 from .errors import CAUSES, InputError, Refusal
+from .kossakowski import MOST_OPERATORS
 from .words import Word
 
 TABLES = "h_words h_coeffs jumps rates t_words t_numbers".split()
@@ -21,7 +22,7 @@ _LANES = {"h_words", "jumps", "t_words"}
 _EACH = dict(h_words=4, h_coeffs=1, jumps=8, rates=1, t_words=4, t_numbers=2)
 
 _RANGE = "0, or 2^-200 to 2^200 in magnitude, is needed"
-_LIMITS = {"hamiltonian": 4096, "jumps": 4096, "terms": 16, "operators": 64}
+_LIMITS = {"hamiltonian": 4096, "jumps": 4096, "terms": 16, "operators": MOST_OPERATORS}
 
 
 # ---- what was given ----

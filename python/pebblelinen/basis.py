@@ -5,6 +5,7 @@ import threading
 from typing import NamedTuple
 
 import numpy as np
+from numpy.typing import NDArray
 
 from . import _given, _library
 from ._sealed import Sealed, read_only
@@ -94,7 +95,7 @@ class Basis(Sealed):
         return self.copy()
 
     def __reduce__(self):
-        return Basis.from_arrays, (self.n, self.words, self.coefficients)
+        return _copied, (self.n, self.words, self.coefficients)
 
     @property
     def lanes(self):
@@ -262,6 +263,11 @@ class Basis(Sealed):
         lanes[: 4 * self._len] = self.lanes
         coefficients[: self._len] = self.coefficients
         self._lanes, self._coefficients = lanes, coefficients
+
+
+def _copied(n: int, words: NDArray[np.uint64], coefficients: NDArray[np.float64]) -> Basis:
+    """A basis that has the arrays for its own."""
+    return Basis.from_arrays(n, words, coefficients).copy()
 
 
 def refusal(status, basis, others="", lanes=(), limits={}, thresholds={}, values=None):

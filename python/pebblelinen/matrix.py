@@ -216,7 +216,8 @@ def _places_refusal(
             f" ends with {len(columns)}, the number of entries"
         )
     elif columns[place] >= rows:
-        given = "below 0 or above 2^32 - 2" if columns[place] == _NO_COLUMN else columns[place]
+        # What was given with a sign, or with more bits, reads here as a large number.
+        given = columns[place] if columns[place] < 1 << 31 else "below 0 or above 2^31 - 1"
         said = f"indices[{place}] of the matrix is {given}: from 0 to {rows - 1} is needed"
     else:
         said = (

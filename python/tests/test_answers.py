@@ -117,7 +117,7 @@ class Rows(test_refusals.Case):
                 csr(3, [0, 2, 2, 3], [0, 2, -1]),
                 "columns",
                 2,
-                "indices[2] of the matrix is below 0 or above 2^32 - 2: from 0 to 2 is needed",
+                "indices[2] of the matrix is below 0 or above 2^31 - 1: from 0 to 2 is needed",
             ),
         ]:
             for position in 0, 9:

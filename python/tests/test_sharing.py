@@ -51,9 +51,11 @@ class Arrays(unittest.TestCase):
         basis.coefficients[0] = 7.0
         self.assertEqual(basis.by_site(), {"X0": 7.0, "Y1": 4.0})
         self.read_only(basis.words, basis.lanes)
-        other = basis.copy()
-        other.coefficients *= 2
-        self.assertEqual(basis.by_site(), {"X0": 7.0, "Y1": 4.0})
+        for given in basis, Basis.from_arrays(2, basis.words, basis.coefficients):
+            for other in given.copy(), copy.copy(given), copy.deepcopy(given), pickle.loads(pickle.dumps(given)):
+                other.coefficients *= 2
+                self.assertEqual(other.by_site(), {"X0": 14.0, "Y1": 8.0})
+                self.assertEqual(basis.by_site(), {"X0": 7.0, "Y1": 4.0})
 
     def test_terms(self):
         model = Model(2, {"XX": 1.0, "ZI": 0.5})
