@@ -13,7 +13,7 @@ import functools
 import re
 from collections.abc import Mapping
 from types import MappingProxyType
-from typing import Any
+from typing import ClassVar
 
 import numpy as np
 from numpy.typing import NDArray
@@ -35,6 +35,7 @@ class _Numbered:
     arithmetic."""
 
     __slots__ = ("_number",)
+    _most: ClassVar[int]
 
     def __init__(self, number):
         if isinstance(number, _Numbered):
@@ -297,7 +298,7 @@ def bytes_of(word, n, path=()):
     qubit is given that is outside it, and the library refuses its length."""
     if isinstance(word, Word):
         return np.frombuffer(same_register(word, n, path=path).text.encode(), np.uint8)
-    if not _is_by_site(word):
+    if isinstance(word, str) and not _has_qubits(word):
         return np.frombuffer(_encoded(word), np.uint8)
     sites = _by_site(word, path)
     # A larger register is refused, whatever the text.
@@ -315,9 +316,9 @@ def _encoded(text):
         return text.encode("utf-8", "surrogatepass")
 
 
-def _is_by_site(word: Any) -> bool:
-    """Whether letters are given with their qubits: a text that has no numbers has a letter for each qubit."""
-    return not isinstance(word, Word) and (not isinstance(word, str) or bool(re.search("[0-9]", word)))
+def _has_qubits(text: str) -> bool:
+    """Whether a text is by site: one without numbers has a letter for each qubit."""
+    return re.search("[0-9]", text) is not None
 
 
 def _by_site(word, path):
@@ -403,11 +404,14 @@ def text_refusal(status, word, n, path=()):
         return Refusal(2, said + advice, values, path)
     byte = f"byte {first}" + (f" ({chr(first)!r})" if first < 128 else "")
     # Letters by site are handed over with a place for each qubit.
-    at = f"at {'qubit' if _is_by_site(word) else 'place'} {second}"
+    by_site = isinstance(word, Mapping) or isinstance(word, str) and _has_qubits(word)
+    at = f"at {'qubit' if by_site else 'place'} {second}"
     said = f"{byte} {at} of {shown} is not I, X, Y or Z{advice}"
     return Refusal(3, said, {"byte": first, "place": second}, path)
 
 
 def _outside(word, n):
     """The first qubit outside the register that a word by site names."""
-    return min((q for q in _by_site(word, ()) if q >= n), default=None) if _is_by_site(word) else None
+    if isinstance(word, Word) or isinstance(word, str) and not _has_qubits(word):
+        return None
+    return min((q for q in _by_site(word, ()) if q >= n), default=None)
