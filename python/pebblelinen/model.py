@@ -70,21 +70,21 @@ class Model(Sealed):
         n = register(n)
         hamiltonian = _building.hamiltonian_of(hamiltonian, n)
         jumps = _building.jumps_of(jumps, n)
-        matrices = _building.matrices_of(matrices, n)
+        given_matrices = _building.matrices_of(matrices, n)
 
         built, tables = _building.build(n, hamiltonian, jumps)
         if built.status.refusal:
             raise _building.model_refusal(built.status, n, hamiltonian, jumps, tables)
         counts = built.model
-        for i, (operators, entries, rows) in enumerate(matrices):
+        for i, (operators, entries, rows) in enumerate(given_matrices):
             added, tables = _building.add_matrix(counts, tables, operators, entries)
             if added.status.refusal:
                 before = counts.jumps
                 raise _building.matrix_refusal(added.status, n, i, before, operators, entries, rows, tables)
             counts = added.model
         kossakowski.warn_if_not_positive(
-            [np.array(k, np.complex128).reshape(2 * [len(operators)]) for operators, k, _ in matrices],
-            lambda: [_building.keys_of(operators) for operators, *_ in matrices],
+            [np.array(k, np.complex128).reshape(2 * [len(operators)]) for operators, k, _ in given_matrices],
+            lambda: [_building.keys_of(operators) for operators, *_ in given_matrices],
         )
 
         self.n = n
