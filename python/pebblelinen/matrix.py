@@ -71,7 +71,8 @@ def product(matrix, vector, *, out: np.ndarray | None = None, add: bool = False)
 
 def row(matrix, *, position: Position | int) -> tuple[np.ndarray, np.ndarray]:
     """The row of a CSR matrix at a position: its columns, which are positions, and its values, as parts
-    of the matrix' arrays, to be read only. The matrix is tested whole where its first row is read, and then row by row."""
+    of the matrix' arrays, to be read only. The matrix is tested whole where its first row is read, and then
+    row by row."""
     p = int(Position(position))
     _check_matrix(matrix)
     places = _row_of_accepted(matrix, p)
@@ -212,8 +213,8 @@ def _places_refusal(
         return None
     if table == "offsets":
         said = (
-            f"indptr[{place}] of the matrix is {offsets.view(np.int64)[place]}: indptr begins with 0, never falls, and"
-            f" ends with {len(columns)}, the number of entries"
+            f"indptr[{place}] of the matrix is {offsets.view(np.int64)[place]}: indptr begins with 0, never falls,"
+            f" and ends with {len(columns)}, the number of entries"
         )
     elif columns[place] >= rows:
         # What was given with a sign, or with more bits, reads here as a large number.
@@ -221,8 +222,8 @@ def _places_refusal(
         said = f"indices[{place}] of the matrix is {given}: from 0 to {rows - 1} is needed"
     else:
         said = (
-            f"indices[{place}] of the matrix is {columns[place]}, after {columns[place - 1]} in the same row: columns must"
-            " rise in every row, and matrix.sum_duplicates() sorts them and adds up what comes twice"
+            f"indices[{place}] of the matrix is {columns[place]}, after {columns[place - 1]} in the same row:"
+            " columns must rise in every row, and matrix.sum_duplicates() sorts them and adds up what comes twice"
         )
     return Refusal(7, said, {"table": table, "place": place})
 

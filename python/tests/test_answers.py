@@ -111,7 +111,12 @@ class Rows(test_refusals.Case):
             (csr(3, [0, 2, 1, 3], [3, 3, 3]), "offsets", 2, f"indptr[2] of the matrix is 1: {begins}"),
             (csr(3, [0, 2, 2, 2], [0, 2, 1]), "offsets", 3, f"indptr[3] of the matrix is 2: {begins}"),
             (csr(3, [0, -1, 2, 3], [0, 2, 1]), "offsets", 2, f"indptr[2] of the matrix is 2: {begins}"),
-            (csr(3, [0, 2, 2, 3], [2, 2, 1]), "columns", 1, f"indices[1] of the matrix is 2, after 2 in the same row: {rise}"),
+            (
+                csr(3, [0, 2, 2, 3], [2, 2, 1]),
+                "columns",
+                1,
+                f"indices[1] of the matrix is 2, after 2 in the same row: {rise}",
+            ),
             (csr(3, [0, 2, 2, 3], [0, 3, 1]), "columns", 1, "indices[1] of the matrix is 3: from 0 to 2 is needed"),
             (
                 csr(3, [0, 2, 2, 3], [0, 2, -1]),

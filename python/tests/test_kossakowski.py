@@ -75,8 +75,9 @@ class Convention(unittest.TestCase):
         texts = {"guide": guide, "Model": inspect.getdoc(Model), "kossakowski": kossakowski.__doc__}
         for name, text in texts.items():
             with self.subTest(name):
-                for said in "K[n][m] (A_m ρ A_n†", "K[n][m] (A_n† p A_m", "If yours is K[n][m] A_n ρ A_m†, give K.T":
+                for said in "K[n][m] (A_m ρ A_n†", "K[n][m] (A_n† p A_m":
                     self.assertIn(said, text)
+                self.assertIn("If yours is K[n][m] A_n ρ A_m†, give K.T", text)
         for name in "guide", "Model":
             for said in "(X + iY)/2", "sigmap()", "destroy(2)", "NotPositive":
                 self.assertIn(said, texts[name])

@@ -17,7 +17,12 @@ NO_BASIS = "this file has no basis to work on: give it a [basis] with words"
 class Lists(unittest.TestCase):
     def test_room(self):
         basis = Basis(2, {"XY": 1.0})
-        for max_basis, admit_basis, room, full in [(9, None, 8, False), (3, None, 2, True), (1, 4, 3, True), (4, 2, 3, True)]:
+        for max_basis, admit_basis, room, full in [
+            (9, None, 8, False),
+            (3, None, 2, True),
+            (1, 4, 3, True),
+            (4, 2, 3, True),
+        ]:
             leaked = MODEL.leakage(basis, max_basis=max_basis, admit_basis=admit_basis)
             self.assertEqual((leaked.room, leaked.full, leaked.entries), (room, full, 1))
             self.assertEqual(repr(leaked), f"Leakage of {len(leaked)} words on 2 qubits, room for {room}")
@@ -73,8 +78,8 @@ class Command(test_command.Case):
     def test_a_file_without_a_basis(self):
         for text in 'qubits = 1\n[hamiltonian]\n"Z" = 1', "qubits = 1\n[basis]":
             self.write(text)
-            for arguments in ("leakage", self.path, "--max-basis", "9"), ("generator", self.path), ("degree", self.path, "--dt", "1"):
-                status, out, error = self.run_command(*arguments)
+            for command in ["leakage", "--max-basis", "9"], ["generator"], ["degree", "--dt", "1"]:
+                status, out, error = self.run_command(*command, self.path)
                 self.assertEqual((status, out, error), (2, "", f"pebblelinen: {self.path}: {NO_BASIS}\n"))
 
     def test_the_demonstration(self):

@@ -28,7 +28,8 @@ class Words(Case):
         self.told(kind, said, lambda: word in Basis(n))
 
     def test_lower_case(self):
-        self.word(Refusal, "byte 120 ('x') at qubit 1 of the word 'x1' is not I, X, Y or Z; letters are capitals: 'X1'", "x1")
+        said = "byte 120 ('x') at qubit 1 of the word 'x1' is not I, X, Y or Z; letters are capitals: 'X1'"
+        self.word(Refusal, said, "x1")
         self.word(Refusal, "at place 2 of the word 'XIz' is not I, X, Y or Z; letters are capitals: 'XIZ'", "XIz")
         self.word(Refusal, "letters are capitals: 'X0 Z1'", "X0 z1")
         self.word(Refusal, "at qubit 2 of the word {2: 'y'} is not I, X, Y or Z; letters are capitals: 'Y'", {2: "y"})
@@ -93,9 +94,9 @@ class Matrices(Case):
     def test_not_hermitian(self):
         said = "matrix 0: K[0][0] is 1j, and an entry on the diagonal must be real"
         self.told(Refusal, said, self.model(["Z0"], [[1j]]))
-        said = "K[0][1] is not the conjugate of K[1][0]: they are (0.5+0.25j) and (0.5+0j); where that is an error of the"
+        said = "K[0][1] is not the conjugate of K[1][0]: they are (0.5+0.25j) and (0.5+0j); where that is an error of"
         k = [[1, 0.5 + 0.25j], [0.5, 1]]
-        self.told(Refusal, f"{said} measurement, give (K + K.conj().T) / 2", self.model(["Z0", "Z1"], k))
+        self.told(Refusal, f"{said} the measurement, give (K + K.conj().T) / 2", self.model(["Z0", "Z1"], k))
         self.model(["Z0", "Z1"], (np.array(k) + np.array(k).conj().T) / 2)()
 
     def test_one_where_a_list_is_meant(self):
@@ -162,7 +163,11 @@ class Command(test_command.Case):
             load(self.path)
 
     def test_words(self):
-        for word, said in [("σz1", "write X, Y, Z for σx, σy, σz"), ("X0Z1", "write 'X0 Z1'"), ("z0", "letters are capitals: 'Z0'")]:
+        for word, said in [
+            ("σz1", "write X, Y, Z for σx, σy, σz"),
+            ("X0Z1", "write 'X0 Z1'"),
+            ("z0", "letters are capitals: 'Z0'"),
+        ]:
             status, _, error = self.run_command("action", self.path, word)
             self.assertNotEqual(status, 0)
             self.assertIn(said, error)
