@@ -10,9 +10,8 @@ from typing import Annotated, Any, TypeVar, get_origin, get_type_hints
 
 import numpy as np
 
+from . import _tree
 from .errors import LibraryMissing
-
-NAME = "libpebblelinen.so"
 
 
 # A field as Python sees it, and as C does.
@@ -287,18 +286,24 @@ _SOMEWHERE = _somewhere.__array_interface__["data"][0]
 
 
 def path() -> Path:
-    """Where the shared object is: as PEBBLELINEN_LIBRARY says, beside this file, or where
-    tools/build-shared makes it."""
+    """Where the shared object is: as PEBBLELINEN_LIBRARY says, that of the source tree's own library, or, of a
+    package that was installed, beside this file."""
     if "PEBBLELINEN_LIBRARY" in os.environ:
-        places = [Path(os.environ["PEBBLELINEN_LIBRARY"])]
+        place, advice = Path(os.environ["PEBBLELINEN_LIBRARY"]), "PEBBLELINEN_LIBRARY is to name one, or not to be set"
+    elif _tree.is_tree():
+        return _of_the_tree()
     else:
-        here = Path(__file__).resolve().parent
-        places = [here / NAME, here.parent.parent / "target" / "shared" / NAME]
-    for place in places:
-        if place.is_file():
-            return place
-    tried = ", ".join(map(str, places))
-    raise LibraryMissing(f"no shared object at {tried}: run tools/build-shared")
+        place, advice = Path(__file__).resolve().parent / _tree.NAME, "install the package again"
+    if not place.is_file():
+        raise LibraryMissing(f"no shared object at {place}: {advice}")
+    return place
+
+
+def _of_the_tree() -> Path:
+    try:
+        return _tree.library() / _tree.NAME
+    except _tree.NotBuilt as error:
+        raise LibraryMissing(str(error)) from None
 
 
 _library: ctypes.CDLL | None = None
@@ -317,7 +322,7 @@ def _function(name: str) -> Any:
         function = getattr(_library, "pebblelinen_" + name)
     except AttributeError:
         raise LibraryMissing(
-            f"{_library._name} has no function pebblelinen_{name}: run tools/build-shared"
+            f"{_library._name} has no function pebblelinen_{name}: it is not the library of this package"
         ) from None
     function.restype, function.argtypes = _FUNCTIONS[name]
     _functions[name] = function

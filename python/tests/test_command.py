@@ -179,7 +179,7 @@ class Errors(Case):
         environment = {**os.environ, "PEBBLELINEN_LIBRARY": self.path + "x"}
         ran = self.process("action", self.path, env=environment)
         self.assertEqual(ran.returncode, 2)
-        self.assertIn("run tools/build-shared", ran.stderr)
+        self.assertIn(f"no shared object at {self.path}x: PEBBLELINEN_LIBRARY is to name one", ran.stderr)
         environment["PEBBLELINEN_LIBRARY"] = self.path
         ran = self.process("action", self.path, env=environment)
         self.assertIn("cannot be loaded", ran.stderr)
