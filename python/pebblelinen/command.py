@@ -6,13 +6,15 @@ Exit status: 0 answered, 1 refused by the library, 2 bad usage (options, file, w
 import argparse
 import json
 import math
+import signal
 import sys
 from collections.abc import Callable, Iterable, Iterator, Sequence
-from typing import Any
+from typing import Any, NoReturn
 
 from . import _given, demo, modelfile
 from ._given import counted
 from ._progress import working
+from ._version import __version__
 from .basis import Basis
 from .errors import InputError, PebblelinenError, Refusal
 from .model import Degree
@@ -45,6 +47,14 @@ _Answers = tuple[Callable[[], dict[str, Any]], Callable[[], Iterable[str]]]
 _FILE = "A model file:\n" + modelfile.__doc__.split("\n", 1)[1]
 
 
+def run() -> NoReturn:
+    """The command as a process. An interrupt ends it at once, also in the library, and so does a reader of its
+    lines that has gone."""
+    signal.signal(signal.SIGINT, signal.SIG_DFL)
+    signal.signal(signal.SIGPIPE, signal.SIG_DFL)
+    sys.exit(main())
+
+
 def main(arguments: Sequence[str] | None = None) -> int:
     """Runs the command with these arguments, or those of the process, and returns its exit status."""
     options = _parser().parse_args(arguments)
@@ -66,6 +76,7 @@ def _parser() -> argparse.ArgumentParser:
     parser = argparse.ArgumentParser(
         prog="pebblelinen", description=_ABOUT, formatter_class=argparse.RawDescriptionHelpFormatter
     )
+    parser.add_argument("--version", action="version", version=f"pebblelinen {__version__}")
     commands = parser.add_subparsers(title="commands", metavar="COMMAND", required=True)
 
     def command(

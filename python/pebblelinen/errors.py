@@ -51,7 +51,7 @@ class InputError(PebblelinenError, ValueError):
 
 
 class LibraryMissing(PebblelinenError, OSError):
-    """The shared object is not there, or cannot be loaded."""
+    """The shared object, or scipy where a matrix is asked for, is not there or cannot be loaded."""
 
 
 class Refusal(PebblelinenError, ValueError):

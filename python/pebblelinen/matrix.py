@@ -14,7 +14,7 @@ from numpy.typing import NDArray
 from . import _given, _library
 from ._tables import work_tables
 from ._types import ColumnTable, LaneTable, NumberTable
-from .errors import InputError, Refusal
+from .errors import InputError, LibraryMissing, Refusal
 from .words import Position
 
 # The most rows of a matrix.
@@ -29,20 +29,27 @@ class Choice(NamedTuple):
     s: int
 
 
+def sparse() -> Any:
+    """scipy.sparse, which is needed for matrices alone."""
+    try:
+        import scipy.sparse
+    except ImportError as error:
+        said = f"a generator is a scipy matrix, and scipy cannot be imported ({error}): pip install 'pebblelinen[scipy]'"
+        raise LibraryMissing(said) from None
+    return scipy.sparse
+
+
 def coo(len_: int, rows: ColumnTable, columns: ColumnTable, values: NumberTable) -> Any:
     """A scipy COO matrix of the library's arrays."""
-    from scipy.sparse import coo_matrix
-
     places = rows.view(np.int32), columns.view(np.int32)
-    return coo_matrix((values, places), shape=(len_, len_), copy=False)
+    return sparse().coo_matrix((values, places), shape=(len_, len_), copy=False)
 
 
 def csr(offsets: LaneTable, columns: ColumnTable, values: NumberTable) -> Any:
     """A scipy CSR matrix of the library's arrays."""
-    from scipy.sparse import csr_matrix
-
     len_ = len(offsets) - 1
-    made = csr_matrix((values, columns.view(np.int32), offsets.view(np.int64)), (len_, len_), copy=False)
+    places = columns.view(np.int32), offsets.view(np.int64)
+    made = sparse().csr_matrix((values, *places), (len_, len_), copy=False)
     made.has_sorted_indices = True
     made.has_canonical_format = True
     return made
@@ -139,9 +146,7 @@ def select_ms(t: float, drop_tol: float = 0.0) -> Choice:
 
 
 def _check_matrix(matrix: Any) -> None:
-    from scipy.sparse import isspmatrix_csr
-
-    if not isspmatrix_csr(matrix):
+    if not sparse().isspmatrix_csr(matrix):
         raise InputError(f"{_given.shown(matrix)} is no CSR matrix")
     if matrix.shape[0] != matrix.shape[1]:
         raise InputError(f"the matrix has the shape {matrix.shape}: as many columns as rows are needed")
