@@ -16,7 +16,7 @@ TREE = runpy.run_path(str(ROOT / "python" / "pebblelinen" / "_tree.py"))
 class BuildWithLibrary(build_py):
     """The modules, from nothing, and the shared object beside them."""
 
-    def run(self):
+    def run(self) -> None:
         made = Path(self.build_lib) / "pebblelinen"
         if not self.editable_mode:
             # What an earlier build left there would be packed too.

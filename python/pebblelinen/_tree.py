@@ -64,11 +64,14 @@ def _folders() -> Iterator[Path]:
 def _changed(folder: Path, made_from: str) -> list[str]:
     """What is not as it was when the library in a folder was made."""
     try:
-        made = (folder / "made-from").read_text().splitlines()[1:]
+        made = (folder / "made-from").read_text(errors="replace").partition("\n")[2]
         now = "".join(_line(folder / name, name) for name in (_STATIC, NAME)) + made_from
     except OSError as error:
-        return [error.filename]
-    return sorted({line.split()[-1] for line in set(made) ^ set(now.splitlines())})
+        return [os.path.relpath(error.filename, ROOT)]
+    if made == now:
+        return []
+    lines = set(made.splitlines()) ^ set(now.splitlines())
+    return sorted({line.partition("  ")[2] for line in lines} - {""}) or ["made-from"]
 
 
 def library() -> Path:

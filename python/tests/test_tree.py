@@ -146,7 +146,8 @@ class Libraries(Case):
     def test_changed_sources_are_built_once_on_all_cores(self):
         self.write("crates/word/src/lib.rt", "changed")
         self.assertIn("building the library with its proofs", self.answered())
-        self.assertEqual(self.asked()[-1], f"staticlib pebblelinen, {len(os.sched_getaffinity(0))} jobs")
+        cores = subprocess.run(["nproc"], capture_output=True, text=True).stdout.strip()
+        self.assertEqual(self.asked()[-1], f"staticlib pebblelinen, {cores} jobs")
         self.assertEqual(self.builds(), 2)
         self.assertEqual(self.answered(), "")
         self.assertEqual(self.builds(), 2)
@@ -165,6 +166,7 @@ class Libraries(Case):
             ("the shared object", lambda: self.damage("libpebblelinen.so")),
             ("the static library", lambda: self.damage("libpebblelinen.a")),
             ("no checksums", lambda: (self.tree / "dist" / "made-from").unlink()),
+            ("other checksums", lambda: self.damage("made-from")),
             ("no library", lambda: shutil.rmtree(self.tree / "dist")),
         ]
         for what, change in changes:
@@ -183,7 +185,7 @@ class Libraries(Case):
 
     def damage(self, name):
         with open(self.tree / "dist" / name, "ab") as file:
-            file.write(b"\0")
+            file.write(b"\n\xff")
 
     def test_a_build_that_fails(self):
         self.write("crates/word/src/lib.rt", "wrong")
@@ -194,6 +196,18 @@ class Libraries(Case):
         self.assertIn("the library was not built from the sources that stand here", done.stderr)
         self.assertTrue(done.stdout.startswith('{"error"'))
         self.assertFalse((self.tree / "target" / "shared" / "made-from").exists())
+
+
+    def test_no_wheel_has_an_old_library(self):
+        for file in "pyproject.toml", "setup.py", "README.md", "LICENSE", "NOTICE":
+            shutil.copy(ROOT / file, self.tree)
+        script = "exec /usr/bin/python3 -m pip wheel --no-index --no-deps --no-build-isolation --no-cache-dir ."
+        self.write("wheel", f"#!{shutil.which('bash')}\n{script}\n").chmod(0o755)
+        self.ran("wheel", path=self.bare())
+        self.write("crates/word/src/lib.rt", "changed")
+        done = self.run_in_tree("wheel", path=self.bare())
+        self.assertEqual(done.returncode, 1)
+        self.assertIn("not made from the sources that stand here (crates/word)", done.stdout + done.stderr)
 
 
 class Dist(Case):
