@@ -289,11 +289,13 @@ def path() -> Path:
     """Where the shared object is: as PEBBLELINEN_LIBRARY says, that of the source tree's own library, or, of a
     package that was installed, beside this file."""
     if "PEBBLELINEN_LIBRARY" in os.environ:
-        place, advice = Path(os.environ["PEBBLELINEN_LIBRARY"]), "PEBBLELINEN_LIBRARY is to name one, or not to be set"
+        place = Path(os.environ["PEBBLELINEN_LIBRARY"])
+        advice = "PEBBLELINEN_LIBRARY is to name one, or not to be set"
     elif _tree.is_tree():
         return _of_the_tree()
     else:
-        place, advice = Path(__file__).resolve().parent / _tree.NAME, "install the package again"
+        place = Path(__file__).resolve().parent / _tree.NAME
+        advice = "install the package again"
     if not place.is_file():
         raise LibraryMissing(f"no shared object at {place}: {advice}")
     return place

@@ -34,8 +34,9 @@ def sparse() -> Any:
     try:
         import scipy.sparse
     except ImportError as error:
-        said = f"a generator is a scipy matrix, and scipy cannot be imported ({error}): pip install 'pebblelinen[scipy]'"
-        raise LibraryMissing(said) from None
+        raise LibraryMissing(
+            f"a generator is a scipy matrix, and scipy cannot be imported ({error}): pip install 'pebblelinen[scipy]'"
+        ) from None
     return scipy.sparse
 
 

@@ -6,8 +6,11 @@ import os
 import shutil
 import subprocess
 import tempfile
+import timeit
 import unittest
 from pathlib import Path
+
+from pebblelinen import _tree
 
 ROOT = Path(__file__).resolve().parent.parent.parent
 FILES = "libpebblelinen.a", "libpebblelinen.so", "made-from"
@@ -180,7 +183,7 @@ class Libraries(Case):
 
     def library(self):
         """The folder of the library that is used."""
-        self.write("find", "#!/bin/sh\nexec /usr/bin/python3 python/pebblelinen/_tree.py\n").chmod(0o755)
+        self.write("find", "#!/bin/sh\nexec /usr/bin/python3 -P python/pebblelinen/_tree.py\n").chmod(0o755)
         return str(Path(self.ran("find").stdout.strip()).relative_to(self.tree))
 
     def damage(self, name):
@@ -197,6 +200,10 @@ class Libraries(Case):
         self.assertTrue(done.stdout.startswith('{"error"'))
         self.assertFalse((self.tree / "target" / "shared" / "made-from").exists())
 
+
+    def test_comparing_is_quick(self):
+        """On this tree, at each start."""
+        self.assertLess(min(timeit.repeat(_tree.current, number=1, repeat=5)), 0.3)
 
     def test_no_wheel_has_an_old_library(self):
         for file in "pyproject.toml", "setup.py", "README.md", "LICENSE", "NOTICE":
