@@ -6,15 +6,20 @@ Exit status: 0 answered, 1 refused by the library, 2 bad usage (options, file, w
 import argparse
 import json
 import math
+import signal
 import sys
 import warnings
-from collections.abc import Sequence
+from collections.abc import Callable, Iterable, Iterator, Sequence
+from typing import Any, NoReturn
 
 from . import _given, demo, modelfile
 from ._given import counted
 from ._progress import working
+from ._version import __version__
 from .basis import Basis
 from .errors import InputError, NotPositive, PebblelinenError, Refusal
+from .model import Degree
+from .terms import Terms
 from .words import Word, qubits
 
 # Lines of a list that are shown to people.
@@ -37,10 +42,22 @@ _WORDS = """\
 A word is given by site, "X12 Z40" for X on qubit 12 and Z on qubit 40 (the identity is "I0"), or as a text
 with a letter for each qubit, qubit 0 first."""
 
+# What a command gives: an answer for programs, and lines for people, both when asked.
+_Answers = tuple[Callable[[], dict[str, Any]], Callable[[], Iterable[str]]]
+
 _FILE = "A model file:\n" + modelfile.__doc__.split("\n", 1)[1]
 
 
-def main(arguments=None):
+def run() -> NoReturn:
+    """The command as a process. An interrupt ends it at once, also in the library, and so does a reader of its
+    lines that has gone."""
+    signal.signal(signal.SIGINT, signal.SIG_DFL)
+    signal.signal(signal.SIGPIPE, signal.SIG_DFL)
+    sys.exit(main())
+
+
+def main(arguments: Sequence[str] | None = None) -> int:
+    """Runs the command with these arguments, or those of the process, and returns its exit status."""
     options = _parser().parse_args(_joined(sys.argv[1:] if arguments is None else arguments))
     options.warnings = []
     try:
@@ -77,13 +94,16 @@ def _is_number(text: str) -> bool:
     return True
 
 
-def _parser():
+def _parser() -> argparse.ArgumentParser:
     parser = argparse.ArgumentParser(
         prog="pebblelinen", description=_ABOUT, formatter_class=argparse.RawDescriptionHelpFormatter
     )
+    parser.add_argument("--version", action="version", version=f"pebblelinen {__version__}")
     commands = parser.add_subparsers(title="commands", metavar="COMMAND", required=True)
 
-    def command(name, run, help_, about, file=True):
+    def command(
+        name: str, run: Callable[[argparse.Namespace], _Answers], help_: str, about: str, file: bool = True
+    ) -> argparse.ArgumentParser:
         made = commands.add_parser(
             name,
             help=help_,
@@ -159,27 +179,27 @@ def _parser():
     return parser
 
 
-# ---- commands: each gives an answer for programs, and lines for people, both when asked ----
+# ---- commands ----
 
 
-def _action(options):
+def _action(options: argparse.Namespace) -> _Answers:
     file = _loaded(options)
     model = file.model
     words = [Word(word, n=model.n) for word in options.words] or [entry.word for entry in file.basis]
     if not words:
         raise InputError("name a word, or give the file a basis", where=options.file)
 
-    def act():
+    def act() -> Iterator[tuple[Word, Terms]]:
         for word in words:
             with working(f"action on {word.by_site}"):
                 terms = model.action(word)
             yield word, terms
 
-    def answer():
+    def answer() -> dict[str, Any]:
         actions = [{"word": word.by_site, "terms": _terms(terms)} for word, terms in act()]
         return {"qubits": model.n, "actions": actions}
 
-    def lines():
+    def lines() -> Iterator[str]:
         yield str(model)
         for word, terms in act():
             yield ""
@@ -189,7 +209,7 @@ def _action(options):
     return answer, lines
 
 
-def _leakage(options):
+def _leakage(options: argparse.Namespace) -> _Answers:
     file = _loaded_with_basis(options)
     with working(f"leakage out of {len(file.basis)} entries"):
         terms = file.model.leakage(
@@ -200,7 +220,7 @@ def _leakage(options):
             protected=file.protected,
         )
 
-    def answer():
+    def answer() -> dict[str, Any]:
         return {
             "qubits": file.model.n,
             "room": terms.room,
@@ -209,7 +229,7 @@ def _leakage(options):
             "terms": _terms(terms),
         }
 
-    def lines():
+    def lines() -> Iterator[str]:
         yield str(file.model)
         protected = f", {counted(len(file.protected), 'protected word')}" if file.protected else ""
         room = f"room for {counted(terms.room, 'word')} more"
@@ -225,18 +245,18 @@ def _leakage(options):
     return answer, lines
 
 
-def _generator(options):
+def _generator(options: argparse.Namespace) -> _Answers:
     file = _loaded_with_basis(options)
     with working(f"generator over {len(file.basis)} entries"):
         matrix = file.model.generator(file.basis)
     entries = list(zip(matrix.row.tolist(), matrix.col.tolist(), matrix.data.tolist()))
     words = [entry.word.by_site for entry in file.basis]
 
-    def answer():
+    def answer() -> dict[str, Any]:
         named = [{"row": row, "column": column, "value": value} for row, column, value in entries]
         return {"qubits": file.model.n, "basis": words, "entries": named}
 
-    def lines():
+    def lines() -> Iterator[str]:
         yield str(file.model)
         yield ""
         yield (
@@ -253,26 +273,26 @@ def _generator(options):
     return answer, lines
 
 
-def _degree(options):
+def _degree(options: argparse.Namespace) -> _Answers:
     file = _loaded_with_basis(options)
     with working(f"norm over {len(file.basis)} entries"):
         degree = file.model.degree(file.basis, dt=options.dt, drop_tol=options.drop_tol)
 
-    def answer():
+    def answer() -> dict[str, Any]:
         return {"qubits": file.model.n, "positions": len(file.basis), **_degree_answer(degree)}
 
-    def lines():
+    def lines() -> Iterator[str]:
         yield str(file.model)
         yield from _degree_lines(len(file.basis), options.dt, degree)
 
     return answer, lines
 
 
-def _degree_answer(degree):
+def _degree_answer(degree: Degree) -> dict[str, Any]:
     return {name: _json_number(x) for name, x in degree._asdict().items()}
 
 
-def _degree_lines(positions, dt, degree):
+def _degree_lines(positions: int, dt: float, degree: Degree) -> Iterator[str]:
     yield f"generator over {counted(positions, 'position')}:"
     yield from _aligned(
         [
@@ -283,7 +303,7 @@ def _degree_lines(positions, dt, degree):
     )
 
 
-def _demo(options):
+def _demo(options: argparse.Namespace) -> _Answers:
     if options.model:
         return lambda: {"model": demo.as_file()}, lambda: [demo.as_file().rstrip("\n")]
     count = _given.whole(options.rounds, "--rounds")
@@ -291,17 +311,17 @@ def _demo(options):
         model = demo.chain()
     basis = Basis(model.n, {demo.OBSERVABLE: 1.0})
 
-    def rounds():
+    def rounds() -> Iterator[demo.Round]:
         grown = demo.rounds(model, basis, limit=options.limit, count=count, dt=options.dt)
         for number in range(1, count + 1):
             with working(f"round {number}"):
                 each = next(grown)
             yield each
 
-    def degree():
+    def degree() -> Degree:
         return model.degree(basis, dt=options.dt)
 
-    def answer():
+    def answer() -> dict[str, Any]:
         action = _terms(model.action(demo.OBSERVABLE))
         done = [
             {**each._asdict(), "largest_leakage": _largest(each.largest_leakage)} for each in rounds()
@@ -314,7 +334,7 @@ def _demo(options):
             **_degree_answer(degree()),
         }
 
-    def lines():
+    def lines() -> Iterator[str]:
         yield f"a chain of {qubits(model.n)} with couplings, fields, decay and dephasing"
         yield str(model)
         yield ""
@@ -342,7 +362,7 @@ def _demo(options):
     return answer, lines
 
 
-def _loaded(options):
+def _loaded(options: argparse.Namespace) -> modelfile.ModelFile:
     """What the file holds. A warning goes to standard error, and is kept for the answer to programs."""
     with working(f"reading {options.file}"), warnings.catch_warnings(record=True) as caught:
         warnings.simplefilter("always", NotPositive)
@@ -364,11 +384,11 @@ def _loaded_with_basis(options: argparse.Namespace) -> modelfile.ModelFile:
 # ---- what is printed ----
 
 
-def _terms(terms):
+def _terms(terms: Terms) -> list[dict[str, Any]]:
     return [{"word": word.by_site, "value": _json_number(value)} for word, value in terms]
 
 
-def _json_number(x):
+def _json_number(x: float) -> float | str:
     """JSON has no infinity and no NaN: these are texts."""
     return x if math.isfinite(x) else str(x)
 
@@ -378,32 +398,33 @@ def _largest(x: float) -> float | str | None:
     return None if math.isnan(x) else _json_number(x)
 
 
-def _error(error):
-    told = {"said": str(error)}
+def _error(error: Exception) -> dict[str, Any]:
+    told: dict[str, Any] = {"said": str(error)}
     if isinstance(error, Refusal):
         values = {name: x if isinstance(x, (int, str)) else int(x) for name, x in error.values.items()}
         told |= {"refusal": error.number, "cause": error.cause, "values": values}
-    if getattr(error, "where", ""):
-        told |= {"where": error.where}
+    where = getattr(error, "where", "")
+    if where:
+        told |= {"where": where}
     return told
 
 
-def _print_json(answer):
+def _print_json(answer: dict[str, Any]) -> None:
     print(json.dumps(answer, allow_nan=False))
 
 
-def _listed(terms, all_):
+def _listed(terms: Terms, all_: bool) -> Iterator[str]:
     rows = [(word.by_site, repr(value)) for word, value in terms]
     yield from _aligned(rows if all_ else rows[:_SHOWN])
     yield from _more(len(rows), all_)
 
 
-def _more(count, all_):
+def _more(count: int, all_: bool) -> Iterator[str]:
     if count > _SHOWN and not all_:
         yield f"  .. and {count - _SHOWN} more: --all shows them"
 
 
-def _aligned(rows):
+def _aligned(rows: Sequence[Sequence[str]]) -> Iterator[str]:
     """Columns of one width each, indented; what stands last has room for a sign."""
     widths = [max(len(cell) for cell in column) for column in zip(*rows)]
     for row in rows:

@@ -5,7 +5,7 @@
 Columns and values of a matrix are the arrays that the library wrote; scipy counts with sign, and every
 place here is below 2^31, so the same bytes serve both."""
 import weakref
-from collections.abc import Mapping
+from collections.abc import Callable, Iterable, Mapping
 from typing import Any, NamedTuple
 
 import numpy as np
@@ -14,7 +14,8 @@ from numpy.typing import NDArray
 from . import _given, _library
 from ._sealed import read_only
 from ._tables import work_tables
-from .errors import InputError, Refusal
+from ._types import ColumnTable, LaneTable, NumberTable
+from .errors import InputError, LibraryMissing, Refusal
 from .words import Position
 
 # The most rows of a matrix.
@@ -29,24 +30,40 @@ class Choice(NamedTuple):
     s: int
 
 
-def coo(len_, rows, columns, values):
-    from scipy.sparse import coo_matrix
+def sparse() -> Any:
+    """scipy.sparse, which is needed for matrices alone."""
+    try:
+        import scipy.sparse
+    except ImportError as error:
+        raise LibraryMissing(
+            f"a generator is a scipy matrix, and scipy cannot be imported ({error}): pip install 'pebblelinen[scipy]'"
+        ) from None
+    return scipy.sparse
 
+
+def coo(len_: int, rows: ColumnTable, columns: ColumnTable, values: NumberTable) -> Any:
+    """A scipy COO matrix of the library's arrays."""
     places = rows.view(np.int32), columns.view(np.int32)
-    return coo_matrix((values, places), shape=(len_, len_), copy=False)
+    return sparse().coo_matrix((values, places), shape=(len_, len_), copy=False)
 
 
-def csr(offsets, columns, values):
-    from scipy.sparse import csr_matrix
-
+def csr(offsets: LaneTable, columns: ColumnTable, values: NumberTable) -> Any:
+    """A scipy CSR matrix of the library's arrays."""
     len_ = len(offsets) - 1
-    made = csr_matrix((values, columns.view(np.int32), offsets.view(np.int64)), (len_, len_), copy=False)
+    places = columns.view(np.int32), offsets.view(np.int64)
+    made = sparse().csr_matrix((values, *places), (len_, len_), copy=False)
     made.has_sorted_indices = True
     made.has_canonical_format = True
     return made
 
 
-def product(matrix, vector, *, out: np.ndarray | None = None, add: bool = False) -> np.ndarray:
+def product(
+    matrix: Any,
+    vector: Iterable[float] | NDArray[Any],
+    *,
+    out: NumberTable | None = None,
+    add: bool = False,
+) -> NumberTable:
     """The product of a CSR matrix, as Model.csr gives it, with a vector: by row, summed in the order of
     columns, zeros of the vector skipped. It is written to `out`, or added to what is there, where an
     array of float64 is given; `out` is returned."""
@@ -61,7 +78,7 @@ def product(matrix, vector, *, out: np.ndarray | None = None, add: bool = False)
     with work_tables() as tables:
         # One work table, named after one of the same type.
         work = tables.table("raws", min(rows, _MAX_ROWS))
-        status = _library.call(
+        status: _library.Status = _library.call(
             "dot", rows, offsets, columns, values, given, not add, out, work
         )
     if status.refusal:
@@ -69,7 +86,7 @@ def product(matrix, vector, *, out: np.ndarray | None = None, add: bool = False)
     return out
 
 
-def row(matrix, *, position: Position | int) -> tuple[np.ndarray, np.ndarray]:
+def row(matrix: Any, *, position: Position | int) -> tuple[ColumnTable, NumberTable]:
     """The row of a CSR matrix at a position: its columns, which are positions, and its values, as parts
     of the matrix' arrays, to be read only. The matrix is tested whole where its first row is read, and then
     row by row."""
@@ -83,18 +100,18 @@ def row(matrix, *, position: Position | int) -> tuple[np.ndarray, np.ndarray]:
     return read_only(_columns(columns)), read_only(_given.numbers(values, "the values of the matrix"))
 
 
-def _row(matrix, p):
+def _row(matrix: Any, p: int) -> tuple[int, int]:
     """Where a row stands, as the library says."""
     rows = matrix.shape[0]
     offsets, columns, _ = _parts(matrix)
-    found = _library.call("csr_row", rows, offsets, columns, p)
+    found: _library.Row = _library.call("csr_row", rows, offsets, columns, p)
     if found.status.refusal:
         raise _row_refusal(found.status, rows, offsets, columns, p)
     _accept(matrix)
     return found.start, found.end
 
 
-def _row_of_accepted(matrix, p):
+def _row_of_accepted(matrix: Any, p: int) -> tuple[int, int] | None:
     """The same for a row of a matrix that the library accepted: the library would test all its columns for each
     row. A row that was changed since is left to the library."""
     rows, indptr, indices = matrix.shape[0], matrix.indptr, matrix.indices
@@ -110,30 +127,29 @@ def _row_of_accepted(matrix, p):
 
 
 # Of each matrix that was accepted: its arrays and its rows, by the columns, and no longer than these are there.
-_accepted = {}
+_accepted: dict[int, tuple[Callable[[], Any], Callable[[], Any], int]] = {}
 
 
-def _accept(matrix):
+def _accept(matrix: Any) -> None:
     key = id(matrix.indices)
     columns = weakref.ref(matrix.indices, lambda _: _accepted.pop(key, None))
     _accepted[key] = columns, weakref.ref(matrix.indptr), matrix.shape[0]
 
 
-def _is_accepted(matrix):
+def _is_accepted(matrix: Any) -> bool:
     columns, offsets, rows = _accepted.get(id(matrix.indices), (lambda: None, lambda: None, 0))
-    return columns() is matrix.indices and offsets() is matrix.indptr and rows == matrix.shape[0]
+    same = columns() is matrix.indices and offsets() is matrix.indptr
+    return same and bool(rows == matrix.shape[0])
 
 
 def select_ms(t: float, drop_tol: float = 0.0) -> Choice:
     """How an exponential whose exponent has the norm t is to be computed: s stages of m products."""
-    degree = _library.call("select_ms", _given.real(t, "t"), _given.real(drop_tol, "drop_tol"))
+    degree: _library.Degree = _library.call("select_ms", _given.real(t, "t"), _given.real(drop_tol, "drop_tol"))
     return Choice(degree.m, degree.s)
 
 
-def _check_matrix(matrix):
-    from scipy.sparse import isspmatrix_csr
-
-    if not isspmatrix_csr(matrix):
+def _check_matrix(matrix: Any) -> None:
+    if not sparse().isspmatrix_csr(matrix):
         raise InputError(f"{_given.shown(matrix)} is no CSR matrix")
     if matrix.shape[0] != matrix.shape[1]:
         raise InputError(f"the matrix has the shape {matrix.shape}: as many columns as rows are needed")
@@ -142,7 +158,7 @@ def _check_matrix(matrix):
             raise InputError("indptr and indices of the matrix are to be lists of whole numbers")
 
 
-def _parts(matrix):
+def _parts(matrix: Any) -> tuple[LaneTable, ColumnTable, NumberTable]:
     """Offsets, columns and values of a CSR matrix as the library takes them. What it cannot count, it is
     given as what it refuses."""
     _check_matrix(matrix)
@@ -150,7 +166,7 @@ def _parts(matrix):
     return offsets, _columns(matrix.indices), _given.numbers(matrix.data, "the values of the matrix")
 
 
-def _columns(indices):
+def _columns(indices: NDArray[Any]) -> ColumnTable:
     columns = np.require(indices, requirements=["C", "A"])
     if columns.dtype == np.int32:
         return columns.view(np.uint32)
@@ -158,7 +174,7 @@ def _columns(indices):
     return np.where(outside, _NO_COLUMN, columns).astype(np.uint32)
 
 
-def _check_out(out, read):
+def _check_out(out: Any, read: Mapping[str, NDArray[Any]]) -> None:
     if not isinstance(out, np.ndarray) or out.dtype != np.float64 or out.ndim != 1:
         raise InputError(f"out is {_given.shown(out)}: an array of float64 with 1 dimension is needed")
     if not out.flags.c_contiguous or not out.flags.aligned:
@@ -170,7 +186,15 @@ def _check_out(out, read):
             raise InputError(f"out shares memory with {what}")
 
 
-def _product_refusal(status, rows, offsets, columns, values, vector, out):
+def _product_refusal(
+    status: _library.Status,
+    rows: int,
+    offsets: LaneTable,
+    columns: ColumnTable,
+    values: NumberTable,
+    vector: NumberTable,
+    out: NumberTable,
+) -> Refusal:
     if status.refusal == 14:
         said = f"the product's sum at position {status.first} is not finite"
         return Refusal(14, said, {"position": Position(status.first)})
@@ -186,7 +210,9 @@ def _product_refusal(status, rows, offsets, columns, values, vector, out):
     return _count_refusal(status, lengths)
 
 
-def _row_refusal(status, rows, offsets, columns, p):
+def _row_refusal(
+    status: _library.Status, rows: int, offsets: LaneTable, columns: ColumnTable, p: int
+) -> Refusal:
     if status.refusal == 7:
         said = f"position {p} is outside the matrix of {_given.counted(rows, 'row')}"
         wrong = _places_refusal(status.first, rows, offsets, columns)
@@ -194,7 +220,7 @@ def _row_refusal(status, rows, offsets, columns, p):
     return _count_refusal(status, {"offsets": (rows + 1, len(offsets))})
 
 
-def _count_refusal(status: Any, lengths: Mapping[str, tuple[int, int]]) -> Refusal:
+def _count_refusal(status: _library.Status, lengths: Mapping[str, tuple[int, int]]) -> Refusal:
     """Of too many rows, or of lengths that disagree: those that the library compares, needed and given."""
     first, second = status.first, status.second
     if status.refusal == 8:
@@ -247,7 +273,7 @@ def _numbers_refusal(
     return Refusal(7, f"{said}: a finite number is needed", {"table": table, "place": place})
 
 
-def _wrong_table(rows, offsets, columns):
+def _wrong_table(rows: int, offsets: LaneTable, columns: ColumnTable) -> str | None:
     """Offsets or columns, where a number in them is out of range: offsets are tested first."""
     ends = offsets.view(np.int64)
     if len(ends) != rows + 1:
