@@ -8,7 +8,7 @@
  *
  * Every function takes any input. Where an input is not accepted, the function says so by a
  * pebblelinen_status and changes nothing that it was lent, but for work tables, where the function
- * says so. Build the library with `rt staticlib pebblelinen` and link
+ * says so. Link dist/libpebblelinen.a, or build it with its proofs: `rt staticlib pebblelinen` writes
  * target/staticlib/libpebblelinen.a.
  *
  * A slice is passed as a pointer, which is not NULL even where the length is 0, and a length.

@@ -91,6 +91,12 @@ def calls(rng):
         "entry": lambda: basis.entry(position=any_of(1)),
         "positions": lambda: basis.positions(any_of(*words)),
         "touching": lambda: basis.touching(qubit=any_of(1)),
+        "in": lambda: any_of(*words) in rng.choice([basis, model.action("XYZ")]),
+        "terms": lambda: model.action("XYZ")[any_of(*words)],
+        "get": lambda: model.action("XYZ").get(any_of(*words), 0.0),
+        "split_matrix": lambda: pebblelinen.split_matrix(
+            any_of(["X0", "Y1"], ["XYZ"] * 65), any_of([[1, 1j], [-1j, 1]], np.eye(65))
+        ),
     }
     if hasattr(_library.ctypes.CDLL(str(_library.path())), "pebblelinen_generator"):
         csr = model.csr(basis)

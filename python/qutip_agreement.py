@@ -74,6 +74,8 @@ def main():
     parser.add_argument("--seed", type=int, default=1)
     options = parser.parse_args()
     rng = random.Random(options.seed)
+    # What the guide says of the lowering operator.
+    assert operator(1, [("X", 0.5), ("Y", 0.5j)]) == qutip.tensor(qutip.sigmap()) == qutip.tensor(qutip.destroy(2))
     largest = {"action": 0.0, "generator": 0.0}
     actions = disagreements = 0
     for case in range(options.models):

@@ -10,8 +10,11 @@ proved to give it; this package carries numbers in and out.
     model = Model(2, {"X0 X1": 1.0}, [(0.1, {"X0": 0.5, "Y0": 0.5j})])
     print(model.action("Z0"))
 """
+from ._version import __version__
 from .basis import Basis, Entry
-from .errors import CAUSES, InputError, LibraryMissing, PebblelinenError, Refusal
+from .errors import CAUSES, InputError, LibraryMissing, NotPositive, PebblelinenError, Refusal
+from .kossakowski import split_matrix
+from .leakage import Leakage
 from .matrix import Choice, product, row, select_ms
 from .model import Degree, Model, Norm
 from .modelfile import ModelFile, load
@@ -25,18 +28,22 @@ __all__ = [
     "Degree",
     "Entry",
     "InputError",
+    "Leakage",
     "LibraryMissing",
     "Model",
     "ModelFile",
     "Norm",
+    "NotPositive",
     "PebblelinenError",
     "Position",
     "Qubit",
     "Refusal",
     "Terms",
     "Word",
+    "__version__",
     "load",
     "product",
     "row",
     "select_ms",
+    "split_matrix",
 ]

@@ -1,11 +1,6 @@
 # SPDX-FileCopyrightText: 2026 The PPVM Authors
 # SPDX-License-Identifier: Apache-2.0
-import signal
-import sys
+"""python -m pebblelinen: the command."""
+from .command import run
 
-from .command import main
-
-# An interrupt ends the command at once, also in the library, and so does a reader that has gone.
-signal.signal(signal.SIGINT, signal.SIG_DFL)
-signal.signal(signal.SIGPIPE, signal.SIG_DFL)
-sys.exit(main())
+run()

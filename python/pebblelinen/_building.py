@@ -5,14 +5,30 @@ item that is to blame.
 
 The library says by which cause and index it refused. Which item has the text or the number that is meant is
 found by asking it again about one item at a time."""
-from collections.abc import Mapping
+from collections.abc import Callable, Hashable, Iterable, Mapping, Sequence
+from typing import Any
 
 import numpy as np
+from numpy.typing import NDArray
 
 from . import _given, _library, words
-from ._tables import work_tables, zeros
+from ._tables import WorkTables, work_tables, zeros
+from ._types import ByteTable, ItemPath, LaneTable, NumberTable
 from .errors import CAUSES, InputError, Refusal
-from .words import Word
+from .kossakowski import MOST_OPERATORS
+from .words import AnyWord, Word
+
+# The ways to give an operator, and K: rows of numbers, which may be of several types.
+AnyOperator = AnyWord | Mapping[str, complex] | Mapping[Word, complex] | Iterable[tuple[AnyWord, complex]]
+AnyMatrix = Iterable[Any] | NDArray[Any]
+
+# What was given: a text, its number and the word as given; a rate and terms; operators, the entries of K and
+# the lengths of its rows. And the library's tables by their names.
+Item = tuple[ByteTable, float, Any]
+Term = tuple[ByteTable, complex, Any]
+Jump = tuple[float, list[Term]]
+Matrix = tuple[list[list[Term]], list[complex], list[int]]
+Tables = dict[str, NDArray[Any]]
 
 TABLES = "h_words h_coeffs jumps rates t_words t_numbers".split()
 _LANES = {"h_words", "jumps", "t_words"}
@@ -20,13 +36,13 @@ _LANES = {"h_words", "jumps", "t_words"}
 _EACH = dict(h_words=4, h_coeffs=1, jumps=8, rates=1, t_words=4, t_numbers=2)
 
 _RANGE = "0, or 2^-200 to 2^200 in magnitude, is needed"
-_LIMITS = {"hamiltonian": 4096, "jumps": 4096, "terms": 16, "operators": 64}
+_LIMITS = {"hamiltonian": 4096, "jumps": 4096, "terms": 16, "operators": MOST_OPERATORS}
 
 
 # ---- what was given ----
 
 
-def hamiltonian_of(given, n, path=("hamiltonian",)):
+def hamiltonian_of(given: Any, n: int, path: ItemPath = ("hamiltonian",)) -> list[Item]:
     """(text, number, word as given) of each item."""
     items = _given.pairs(given, "Hamiltonian item", path)
     return [
@@ -39,9 +55,12 @@ def hamiltonian_of(given, n, path=("hamiltonian",)):
     ]
 
 
-def jumps_of(given, n, path=("jumps",)):
+def jumps_of(given: Any, n: int, path: ItemPath = ("jumps",)) -> list[Jump]:
     """(rate, terms) of each jump."""
-    items = _given.pairs(_listed_only(given, "jumps", path), "jump", path)
+    given = _listed_only(given, "jumps", path)
+    if _is_one(given, lambda rate, _: isinstance(rate, (int, float))):
+        raise InputError("jumps is one (rate, operator) pair: a list of pairs, [(rate, operator)], is needed", path)
+    items = _given.pairs(given, "jump", path)
     return [
         (
             _given.real(rate, f"the rate of jump {i}", (*path, i, "rate")),
@@ -51,10 +70,13 @@ def jumps_of(given, n, path=("jumps",)):
     ]
 
 
-def matrices_of(given, n, path=("matrices",)):
+def matrices_of(given: Any, n: int, path: ItemPath = ("matrices",)) -> list[Matrix]:
     """(operators, K, lengths of K's rows) of each matrix; K is flat."""
     found = []
-    for i, (operators, k) in enumerate(_given.pairs(_listed_only(given, "matrices", path), "matrix", path)):
+    given = _listed_only(given, "matrices", path)
+    if _is_one(given, lambda _, k: _is_matrix(k)):
+        raise InputError("matrices is one (operators, K) pair: a list of pairs, [(operators, K)], is needed", path)
+    for i, (operators, k) in enumerate(_given.pairs(given, "matrix", path)):
         where = (*path, i, "operators")
         listed = _given.listed(_listed_only(operators, "operators", where), "operators", where)
         terms = [operator_of(operator, n, (*where, j)) for j, operator in enumerate(listed)]
@@ -62,13 +84,26 @@ def matrices_of(given, n, path=("matrices",)):
     return found
 
 
-def _listed_only(given, what, path):
+def _listed_only(given: Any, what: str, path: ItemPath) -> Any:
     if isinstance(given, Mapping):
         raise InputError(f"{what} is a mapping: a list is needed", path)
     return given
 
 
-def operator_of(given, n, path):
+def _is_one(given: Any, is_pair: Callable[[Any, Any], bool]) -> bool:
+    """Whether one pair is given where a list of pairs is meant."""
+    return isinstance(given, (tuple, list)) and len(given) == 2 and is_pair(*given)
+
+
+def _is_matrix(given: Any) -> bool:
+    try:
+        array = np.asarray(given)
+    except ValueError:
+        return False
+    return array.ndim == 2 and array.dtype.kind in "iufc"
+
+
+def operator_of(given: Any, n: int, path: ItemPath) -> list[Term]:
     """(text, number, word as given) of each term. A word alone is an operator of one term with the
     number 1."""
     alone = isinstance(given, (str, Word)) or (
@@ -86,7 +121,7 @@ def operator_of(given, n, path):
     ]
 
 
-def entries_of(given, k, path):
+def entries_of(given: Any, k: int, path: ItemPath) -> tuple[list[complex], list[int]]:
     """The entries of K, row by row, and how many each row has. As many rows as operators are asked for, of as
     many entries each: the library sees only how many entries there are, and judges that."""
     if isinstance(given, np.ndarray) and given.dtype.kind in "fciu":
@@ -103,7 +138,7 @@ def entries_of(given, k, path):
     return entries, lengths
 
 
-def _rows_said(lengths):
+def _rows_said(lengths: Sequence[int]) -> str:
     """The rows of K, in few words, however many they are."""
     if len(set(lengths)) < 2:
         each = f" of {lengths[0]}" if lengths else ""
@@ -112,14 +147,19 @@ def _rows_said(lengths):
     return f"rows of {', '.join(map(str, lengths[:8]))}{more}"
 
 
-def flat(operators):
+def keys_of(operators: Sequence[Any]) -> list[Hashable]:
+    """What is equal for operators that have the same terms."""
+    return [tuple((bytes(text), x) for text, x, _ in operator) for operator in operators]
+
+
+def flat(operators: Sequence[Sequence[Term]]) -> tuple[list[ByteTable], LaneTable, NumberTable]:
     """Counts of terms and their numbers, and the texts of the terms."""
     terms = [term for operator in operators for term in operator]
     counts = np.array([len(operator) for operator in operators], np.uint64)
     return [text for text, *_ in terms], counts, _given.parts([x for _, x, _ in terms])
 
 
-def joined(texts):
+def joined(texts: Sequence[ByteTable]) -> tuple[ByteTable, LaneTable]:
     """The bytes of all texts, and the length of each."""
     bytes_ = np.concatenate(texts) if texts else np.zeros(0, np.uint8)
     return bytes_, np.array([len(text) for text in texts], np.uint64)
@@ -128,10 +168,10 @@ def joined(texts):
 # ---- the library's tables ----
 
 
-def build(n, hamiltonian, jumps):
+def build(n: int, hamiltonian: Sequence[Item], jumps: Sequence[Jump]) -> tuple[_library.Built, Tables]:
     """The answer and the tables of a model."""
     longest = max((len(terms) for _, terms in jumps), default=0)
-    sizes = _library.call("model_sizes", len(hamiltonian), len(jumps), longest)
+    sizes: _library.Sizes = _library.call("model_sizes", len(hamiltonian), len(jumps), longest)
     texts, counts, numbers = flat([terms for _, terms in jumps])
     given = [
         *joined([text for text, *_ in hamiltonian] + texts),
@@ -146,7 +186,9 @@ def build(n, hamiltonian, jumps):
     return built, tables
 
 
-def add_matrix(counts, tables, operators, entries):
+def add_matrix(
+    counts: _library.Model, tables: Tables, operators: Sequence[Sequence[Term]], entries: Sequence[complex]
+) -> tuple[_library.Built, Tables]:
     """The answer and the tables, which become longer where they must."""
     longest = max((len(terms) for terms in operators), default=0)
     sizes = _library.call("matrix_sizes", len(operators), longest)
@@ -160,23 +202,23 @@ def add_matrix(counts, tables, operators, entries):
     return added, tables
 
 
-def _lent(work, sizes):
+def _lent(work: WorkTables, sizes: _library.Sizes) -> list[NDArray[Any]]:
     return [
         work.table("work_words", sizes.work_words),
         work.table("work_numbers", sizes.work_numbers),
     ]
 
 
-def _table(name, length):
+def _table(name: str, length: int) -> NDArray[Any]:
     return zeros(length, np.uint64 if name in _LANES else np.float64)
 
 
-def _in_use(name, counts):
+def _in_use(name: str, counts: _library.Model) -> int:
     places = dict(h_words="hamiltonian", h_coeffs="hamiltonian", jumps="jumps", rates="jumps")
-    return _EACH[name] * getattr(counts, places.get(name, "terms"))
+    return _EACH[name] * int(getattr(counts, places.get(name, "terms")))
 
 
-def _longer(name, table, counts, more):
+def _longer(name: str, table: NDArray[Any], counts: _library.Model, more: int) -> NDArray[Any]:
     used = _in_use(name, counts)
     if len(table) >= used + more:
         return table
@@ -185,7 +227,7 @@ def _longer(name, table, counts, more):
     return made
 
 
-def trimmed(tables, counts):
+def trimmed(tables: Tables, counts: _library.Model) -> Tables:
     """The places in use, so that a model holds no more than it needs."""
     return {name: table[: _in_use(name, counts)].copy() for name, table in tables.items()}
 
@@ -193,7 +235,9 @@ def trimmed(tables, counts):
 # ---- refusals ----
 
 
-def model_refusal(status, n, hamiltonian, jumps, tables):
+def model_refusal(
+    status: _library.Status, n: int, hamiltonian: Sequence[Item], jumps: Sequence[Jump], tables: Tables
+) -> Refusal:
     """The refusal of building."""
     number, first = status.refusal, status.first
     if number == 1:
@@ -204,8 +248,8 @@ def model_refusal(status, n, hamiltonian, jumps, tables):
         needs = dict(h_words=len(hamiltonian), h_coeffs=len(hamiltonian), jumps=len(jumps), rates=len(jumps))
         return _short_table(status, "the model", needs, tables, sizes, {}, ())
     if number == 8:
-        for what, items in ("hamiltonian", hamiltonian), ("jumps", jumps):
-            if len(items) > _LIMITS[what]:
+        for what, count in ("hamiltonian", len(hamiltonian)), ("jumps", len(jumps)):
+            if count > _LIMITS[what]:
                 return _count(first, what, "the model", {}, (what,))
     for i, item in enumerate(hamiltonian):
         if build(n, [item], [])[0].status.refusal:
@@ -216,7 +260,7 @@ def model_refusal(status, n, hamiltonian, jumps, tables):
     return _unexplained(status, "the model")
 
 
-def _hamiltonian_refusal(status, n, i, item):
+def _hamiltonian_refusal(status: _library.Status, n: int, i: int, item: Item) -> Refusal:
     _, x, word = item
     what, path = f"Hamiltonian item {i}", ("hamiltonian", i)
     if status.refusal == 7:
@@ -224,17 +268,26 @@ def _hamiltonian_refusal(status, n, i, item):
     return _text_refusal(status, word, n, what, {"item": i}, path)
 
 
-def _jump_refusal(status, n, i, rate, terms):
+def _jump_refusal(status: _library.Status, n: int, i: int, rate: float, terms: Sequence[Term]) -> Refusal:
     what, path, values = f"jump {i}", ("jumps", i), {"jump": i}
     if status.refusal == 5:
         return Refusal(5, f"{what} has the rate {rate}, below 0", values, (*path, "rate"))
-    sound = [(np.frombuffer(b"I" * n, np.uint8), 1, None)]
+    sound: list[Term] = [(np.frombuffer(b"I" * n, np.uint8), 1, None)]
     if build(n, [], [(rate, sound)])[0].status.refusal:
         return Refusal(7, f"{what} has the rate {rate}: {_RANGE}", values, (*path, "rate"))
     return _operator_refusal(status, n, what, terms, values, (*path, "operator"))
 
 
-def matrix_refusal(status, n, i, before, operators, entries, rows, tables):
+def matrix_refusal(
+    status: _library.Status,
+    n: int,
+    i: int,
+    before: int,
+    operators: Sequence[Sequence[Term]],
+    entries: Sequence[complex],
+    rows: Sequence[int],
+    tables: Tables,
+) -> Refusal:
     """The refusal of matrix i, which was added to `before` jumps and pairs."""
     number, first, second = status.refusal, status.first, status.second
     what, values, path = f"matrix {i}", {"matrix": i}, ("matrices", i)
@@ -249,7 +302,7 @@ def matrix_refusal(status, n, i, before, operators, entries, rows, tables):
         needs = dict.fromkeys(("jumps", "rates"), min(_LIMITS["jumps"], before + k * (k + 1) // 2))
         return _short_table(status, what, needs, tables, sizes, values, path)
     if number == 10:
-        said = f"{what}: K[{first}][{second}] is not the conjugate of K[{second}][{first}]"
+        said = f"{what}: {_not_hermitian(first, second, entries, k)}"
         return Refusal(10, said, values | {"row": first, "column": second}, (*path, "k", first, second))
     if number == 8 and k > _LIMITS["operators"]:
         return _count(first, "operators", what, values, (*path, "operators"))
@@ -268,13 +321,31 @@ def matrix_refusal(status, n, i, before, operators, entries, rows, tables):
     return _unexplained(status, what)
 
 
-def _alone(n, operators, entries):
+def _not_hermitian(row: int, column: int, entries: Sequence[complex], k: int) -> str:
+    """What is wrong with an entry of K and its counterpart."""
+    here, there = entries[row * k + column], entries[column * k + row]
+    if row == column:
+        return f"K[{row}][{row}] is {here}, and an entry on the diagonal must be real"
+    return (
+        f"K[{row}][{column}] is not the conjugate of K[{column}][{row}]: they are {here} and {there}; where that is"
+        " an error of the measurement, give (K + K.conj().T) / 2"
+    )
+
+
+def _alone(n: int, operators: Sequence[Sequence[Term]], entries: Sequence[complex]) -> int:
     """The number by which a matrix is refused that is added to an empty model, or 0."""
     built, tables = build(n, [], [])
     return add_matrix(built.model, tables, operators, entries)[0].status.refusal
 
 
-def _operator_refusal(status, n, what, terms, values, path):
+def _operator_refusal(
+    status: _library.Status,
+    n: int,
+    what: str,
+    terms: Sequence[Term],
+    values: dict[str, int],
+    path: ItemPath,
+) -> Refusal:
     """The refusal of an operator's terms."""
     if status.refusal == 6:
         return Refusal(6, f"{what} has no terms", values, path)
@@ -290,12 +361,22 @@ def _operator_refusal(status, n, what, terms, values, path):
     return _unexplained(status, what)
 
 
-def _text_refusal(status, word, n, what, values, path):
+def _text_refusal(
+    status: _library.Status, word: Any, n: int, what: str, values: dict[str, int], path: ItemPath
+) -> Refusal:
     found = words.text_refusal(status, word, n, path)
     return Refusal(found.number, f"{what}: {found.said}", values | found.values, path)
 
 
-def _short_table(status, what, needs, tables, sizes, values, path):
+def _short_table(
+    status: _library.Status,
+    what: str,
+    needs: Mapping[str, int],
+    tables: Tables,
+    sizes: _library.Sizes,
+    values: dict[str, int],
+    path: ItemPath,
+) -> Refusal:
     """A table that was lent too short: nothing that was given is to blame. Tables with a place for each item
     are tested in the order of TABLES, then the work tables, whose needs the library alone knows."""
     first, second = status.first, status.second
@@ -303,12 +384,12 @@ def _short_table(status, what, needs, tables, sizes, values, path):
     work = dict(work_words=sizes.work_words // 4, work_numbers=sizes.work_numbers // 2)
     lent += [(name, places) for name, places in work.items() if places < first]
     name = next((name for name, places in lent if places == second), "a table")
-    lent = f"{_given.counted(second, 'place')} in {name}, in place of {first}"
-    said = f"{what} was lent {lent}: nothing that was given is to blame"
+    short = f"{_given.counted(second, 'place')} in {name}, in place of {first}"
+    said = f"{what} was lent {short}: nothing that was given is to blame"
     return Refusal(9, said, values | {"needed": first, "given": second}, path)
 
 
-def _count(count, what, of, values, path):
+def _count(count: int, what: str, of: str, values: dict[str, int], path: ItemPath) -> Refusal:
     names = {
         "hamiltonian": "Hamiltonian items",
         "terms": "terms",
@@ -317,9 +398,11 @@ def _count(count, what, of, values, path):
     }
     limit = _LIMITS[what]
     said = f"{of} has {count} {names[what]}: at most {limit}"
+    if what == "operators":
+        said += "; K can be split: pebblelinen.split_matrix(operators, K) gives matrices that add up to it"
     return Refusal(8, said, values | {"count": count, "limit": limit}, path)
 
 
-def _unexplained(status, what):
+def _unexplained(status: _library.Status, what: str) -> Refusal:
     values = {"first": status.first, "second": status.second}
     return Refusal(status.refusal, f"{what}: {CAUSES[status.refusal]} {tuple(values.values())}", values)

@@ -6,18 +6,21 @@ Only what cannot be handed over is turned away here. Ranges and limits are the l
 a rate below 0 or 70,000 words go through."""
 import operator
 import reprlib
-from collections.abc import Mapping
+from collections.abc import Mapping, Sequence
+from typing import Any
 
 import numpy as np
+from numpy.typing import NDArray
 
+from ._types import ItemPath, LaneTable, NumberTable
 from .errors import InputError
 
 _short = reprlib.Repr()
 _short.maxstring = _short.maxother = _short.maxlong = 60
 
 
-def whole(given, what, path=()):
-    """A number of 64 bits."""
+def whole(given: Any, what: str, path: ItemPath = (), most: int | str = "2^64 - 1") -> int:
+    """A number of 64 bits. Where it has another limit, a user is told that; the library judges it."""
     if _is_number(given):
         try:
             value = operator.index(given)
@@ -26,11 +29,12 @@ def whole(given, what, path=()):
         else:
             if 0 <= value < 1 << 64:
                 return value
-            raise InputError(f"{what} is {shown(value)}: from 0 to 2^64 - 1 is needed", path)
+            raise InputError(f"{what} is {shown(value)}: from 0 to {most} is needed", path)
     raise InputError(f"{what} is {shown(given)}: a whole number is needed", path)
 
 
-def real(given, what, path=()):
+def real(given: Any, what: str, path: ItemPath = ()) -> float:
+    """A number of 64 bits with a fraction."""
     if _is_number(given) and not isinstance(given, (complex, np.complexfloating)):
         try:
             return float(given)
@@ -39,7 +43,7 @@ def real(given, what, path=()):
     raise InputError(f"{what} is {shown(given)}: a real number is needed", path)
 
 
-def number(given, what, path=()):
+def number(given: Any, what: str, path: ItemPath = ()) -> complex:
     """A complex number."""
     if _is_number(given):
         try:
@@ -49,14 +53,14 @@ def number(given, what, path=()):
     raise InputError(f"{what} is {shown(given)}: a number is needed", path)
 
 
-def _is_number(given):
+def _is_number(given: Any) -> bool:
     # Texts and truth values have a float, arrays of one number too; and a qubit or a position is no
     # number of anything else.
     others = str, bytes, bytearray, bool, np.bool_, np.ndarray
     return not isinstance(given, others) and not hasattr(given, "_kind")
 
 
-def shown(given):
+def shown(given: Any) -> str:
     """What was given, in few letters, and quickly, however much it is."""
     try:
         return _short.repr(given)
@@ -64,12 +68,12 @@ def shown(given):
         return f"a {type(given).__name__}"
 
 
-def counted(count, one, many=None):
+def counted(count: int, one: str, many: str | None = None) -> str:
     """1 word, 2 words."""
     return f"{count} {one if count == 1 else many or one + 's'}"
 
 
-def pairs(given, what, path=()):
+def pairs(given: Any, what: str, path: ItemPath = ()) -> list[Sequence[Any]]:
     """A list of pairs, given as such or as a mapping."""
     items = listed(given.items() if isinstance(given, Mapping) else given, what, path)
     for place, item in enumerate(items):
@@ -78,7 +82,8 @@ def pairs(given, what, path=()):
     return items
 
 
-def listed(given, what, path=()):
+def listed(given: Any, what: str, path: ItemPath = ()) -> list[Any]:
+    """What was given as a list; a text is none."""
     if isinstance(given, (str, bytes)):
         raise InputError(f"{what} is the text {shown(given)}: a list is needed", path)
     try:
@@ -87,7 +92,7 @@ def listed(given, what, path=()):
         raise InputError(f"{what} is {shown(given)}: a list is needed", path) from None
 
 
-def array(given, what):
+def array(given: Any, what: str) -> NDArray[Any]:
     """An array of whatever type was given, which is not copied."""
     if isinstance(given, np.ma.MaskedArray):
         raise InputError(f"{what} is a masked array: fill it first")
@@ -101,7 +106,7 @@ def array(given, what):
     return made if made.size else np.zeros(made.shape, np.uint64)
 
 
-def numbers(given, what):
+def numbers(given: Any, what: str) -> NumberTable:
     """A table of real numbers: the array itself, where it can be lent."""
     made = array(given, what)
     if made.size and (made.dtype.kind not in "fiu" or not np.can_cast(made.dtype, np.float64)):
@@ -111,7 +116,7 @@ def numbers(given, what):
     return np.require(made, np.float64, ["C", "A"])
 
 
-def lanes(given, what):
+def lanes(given: Any, what: str) -> LaneTable:
     """A flat table of words, four lanes each: the array itself, where it can be lent. A last word may
     be cut off, for the library to refuse."""
     if not hasattr(given, "__len__"):
@@ -129,12 +134,12 @@ def lanes(given, what):
     return np.require(made, np.uint64, ["C", "A"]).reshape(-1)
 
 
-def _whole_array(given, what):
+def _whole_array(given: Any, what: str) -> LaneTable:
     objects = np.array(given, object)
     lanes = [whole(x, f"a lane of {what}") for x in objects.reshape(-1)]
     return np.array(lanes, np.uint64).reshape(objects.shape)
 
 
-def parts(given):
+def parts(given: Sequence[complex]) -> NumberTable:
     """Real part, imaginary part of each number."""
     return np.array(given, np.complex128).view(np.float64)

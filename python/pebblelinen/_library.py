@@ -3,72 +3,244 @@
 """The shared object and its functions, as include/pebblelinen.h declares them."""
 import ctypes
 import os
-from ctypes import c_bool, c_double, c_int32, c_size_t, c_uint32, c_uint64, c_void_p
+from collections.abc import Sequence
+from ctypes import Structure, c_bool, c_double, c_int32, c_size_t, c_uint32, c_uint64, c_void_p
 from pathlib import Path
+from typing import Annotated, Any, TypeVar, get_origin, get_type_hints
 
 import numpy as np
 
+from . import _tree
 from .errors import LibraryMissing
 
-NAME = "libpebblelinen.so"
+
+# A field as Python sees it, and as C does.
+Flag = Annotated[bool, c_bool]
+Size = Annotated[int, c_size_t]
+Small = Annotated[int, c_uint32]
+Large = Annotated[int, c_uint64]
+Real = Annotated[float, c_double]
+Lanes = Annotated[Sequence[int], c_uint64 * 2]
+
+_Made = TypeVar("_Made", bound=type[Structure])
 
 
-def _struct(name, **fields):
-    return type(name, (ctypes.Structure,), {"_fields_": list(fields.items())})
+def _struct(made: _Made) -> _Made:
+    """A class whose fields are those that it names, in their order."""
+    hints = get_type_hints(made, include_extras=True)
+    made._fields_ = [(name, _c_type(hints[name])) for name in made.__annotations__]
+    return made
 
 
-def _sizes(name, fields):
-    return _struct(name, **{field: c_size_t for field in fields.split()})
+def _c_type(hint: Any) -> Any:
+    return hint.__metadata__[0] if get_origin(hint) is Annotated else hint
 
 
-Status = _struct("Status", refusal=c_uint64, first=c_uint64, second=c_uint64)
-Word = _struct("Word", x=c_uint64 * 2, z=c_uint64 * 2)
-Parsed = _struct("Parsed", status=Status, word=Word)
-Fitting = _struct("Fitting", status=Status, fits=c_bool)
-Phased = _struct("Phased", word=Word, phase=c_uint32)
-Commutator = _struct("Commutator", word=Word, eps=c_double)
-Model = _sizes("Model", "qubits hamiltonian jumps terms")
-Built = _struct("Built", status=Status, model=Model)
-Sizes = _sizes(
-    "Sizes", "h_words h_coeffs jumps rates t_words t_numbers work_words work_numbers"
-)
-Listed = _struct("Listed", status=Status, count=c_size_t)
-Kept = _struct("Kept", status=Status, entries=c_size_t)
-BasisWork = _sizes("BasisWork", "order work fixed kept")
-Limits = _struct(
-    "Limits",
-    max_basis=c_size_t,
-    admit_given=c_uint64,
-    admit_basis=c_size_t,
-    tau_given=c_uint64,
-    tau_add=c_double,
-)
-LeakageLengths = _sizes(
-    "LeakageLengths",
-    "h_index j_index mask work_words work_sums order heads nexts fixed_heads fixed_nexts log_words"
-    " log_values cand_words cand_sums next_words next_sums place_order place_work place_kept",
-)
-GeneratorLengths = _sizes(
-    "GeneratorLengths",
-    "h_index j_index mask heads nexts work_words work_sums stage_rows stage_columns stage_values",
-)
-Row = _struct("Row", status=Status, start=c_size_t, end=c_size_t)
-Degree = _struct("Degree", m=c_uint32, s=c_uint32)
-Normed = _struct("Normed", status=Status, mu=c_double, norm=c_double)
-Partition = _struct(
-    "Partition", status=Status, mu=c_double, norm=c_double, m=c_uint32, s=c_uint32
-)
+@_struct
+class Status(Structure):
+    """A refusal with its values, or 0."""
+
+    refusal: Large
+    first: Large
+    second: Large
 
 
-def slices(count):
+@_struct
+class Word(Structure):
+    """A word as its lanes."""
+
+    x: Lanes
+    z: Lanes
+
+
+@_struct
+class Parsed(Structure):
+    """A word that was read."""
+
+    status: Status
+    word: Word
+
+
+@_struct
+class Fitting(Structure):
+    """Whether a word fits a register."""
+
+    status: Status
+    fits: Flag
+
+
+@_struct
+class Phased(Structure):
+    """A word times i^phase."""
+
+    word: Word
+    phase: Small
+
+
+@_struct
+class Commutator(Structure):
+    """A word with the sign of its commutator."""
+
+    word: Word
+    eps: Real
+
+
+@_struct
+class Model(Structure):
+    """What a model's tables hold."""
+
+    qubits: Size
+    hamiltonian: Size
+    jumps: Size
+    terms: Size
+
+
+@_struct
+class Built(Structure):
+    """A model that was built or added to."""
+
+    status: Status
+    model: Model
+
+
+@_struct
+class Sizes(Structure):
+    """The lengths of a model's tables."""
+
+    h_words: Size
+    h_coeffs: Size
+    jumps: Size
+    rates: Size
+    t_words: Size
+    t_numbers: Size
+    work_words: Size
+    work_numbers: Size
+
+
+@_struct
+class Listed(Structure):
+    """How many words or entries were listed."""
+
+    status: Status
+    count: Size
+
+
+@_struct
+class Kept(Structure):
+    """How many entries a basis has then."""
+
+    status: Status
+    entries: Size
+
+
+@_struct
+class BasisWork(Structure):
+    """The lengths of the work tables of prune, cap and admission."""
+
+    order: Size
+    work: Size
+    fixed: Size
+    kept: Size
+
+
+@_struct
+class Limits(Structure):
+    """Word limits and threshold of leakage, each with whether it was given."""
+
+    max_basis: Size
+    admit_given: Large
+    admit_basis: Size
+    tau_given: Large
+    tau_add: Real
+
+
+@_struct
+class LeakageLengths(Structure):
+    """The lengths of the work tables of leakage."""
+
+    h_index: Size
+    j_index: Size
+    mask: Size
+    work_words: Size
+    work_sums: Size
+    order: Size
+    heads: Size
+    nexts: Size
+    fixed_heads: Size
+    fixed_nexts: Size
+    log_words: Size
+    log_values: Size
+    cand_words: Size
+    cand_sums: Size
+    next_words: Size
+    next_sums: Size
+    place_order: Size
+    place_work: Size
+    place_kept: Size
+
+
+@_struct
+class GeneratorLengths(Structure):
+    """The lengths of the work tables of the generator."""
+
+    h_index: Size
+    j_index: Size
+    mask: Size
+    heads: Size
+    nexts: Size
+    work_words: Size
+    work_sums: Size
+    stage_rows: Size
+    stage_columns: Size
+    stage_values: Size
+
+
+@_struct
+class Row(Structure):
+    """Where a row stands."""
+
+    status: Status
+    start: Size
+    end: Size
+
+
+@_struct
+class Degree(Structure):
+    """Products and stages."""
+
+    m: Small
+    s: Small
+
+
+@_struct
+class Normed(Structure):
+    """The norm of a generator less mu."""
+
+    status: Status
+    mu: Real
+    norm: Real
+
+
+@_struct
+class Partition(Structure):
+    """The same, with products and stages."""
+
+    status: Status
+    mu: Real
+    norm: Real
+    m: Small
+    s: Small
+
+
+def slices(count: int) -> list[Any]:
     """The types of so many slices: a pointer and a length each."""
     return [c_void_p, c_size_t] * count
 
 
-_LENT_MODEL = [Model, *slices(6)]
+_LENT_MODEL: list[Any] = [Model, *slices(6)]
 
 # What each function answers and takes.
-_FUNCTIONS = {
+_FUNCTIONS: dict[str, tuple[Any, list[Any]]] = {
     "parse_pauli_string": (Parsed, [*slices(1), c_size_t]),
     "word_from_codes": (Parsed, slices(1)),
     "codes_from_word": (Status, [Word, c_size_t, *slices(1)]),
@@ -113,26 +285,34 @@ _somewhere = np.zeros(1, np.uint64)
 _SOMEWHERE = _somewhere.__array_interface__["data"][0]
 
 
-def path():
-    """Where the shared object is: as PEBBLELINEN_LIBRARY says, beside this file, or where
-    tools/build-shared makes it."""
+def path() -> Path:
+    """Where the shared object is: as PEBBLELINEN_LIBRARY says, that of the source tree's own library, or, of a
+    package that was installed, beside this file."""
     if "PEBBLELINEN_LIBRARY" in os.environ:
-        places = [Path(os.environ["PEBBLELINEN_LIBRARY"])]
+        place = Path(os.environ["PEBBLELINEN_LIBRARY"])
+        advice = "PEBBLELINEN_LIBRARY is to name one, or not to be set"
+    elif _tree.is_tree():
+        return _of_the_tree()
     else:
-        here = Path(__file__).resolve().parent
-        places = [here / NAME, here.parent.parent / "target" / "shared" / NAME]
-    for place in places:
-        if place.is_file():
-            return place
-    tried = ", ".join(map(str, places))
-    raise LibraryMissing(f"no shared object at {tried}: run tools/build-shared")
+        place = Path(__file__).resolve().parent / _tree.NAME
+        advice = "install the package again"
+    if not place.is_file():
+        raise LibraryMissing(f"no shared object at {place}: {advice}")
+    return place
 
 
-_library = None
-_functions = {}
+def _of_the_tree() -> Path:
+    try:
+        return _tree.library() / _tree.NAME
+    except _tree.NotBuilt as error:
+        raise LibraryMissing(str(error)) from None
 
 
-def _function(name):
+_library: ctypes.CDLL | None = None
+_functions: dict[str, Any] = {}
+
+
+def _function(name: str) -> Any:
     global _library
     if _library is None:
         where = path()
@@ -144,17 +324,17 @@ def _function(name):
         function = getattr(_library, "pebblelinen_" + name)
     except AttributeError:
         raise LibraryMissing(
-            f"{_library._name} has no function pebblelinen_{name}: run tools/build-shared"
+            f"{_library._name} has no function pebblelinen_{name}: it is not the library of this package"
         ) from None
     function.restype, function.argtypes = _FUNCTIONS[name]
     _functions[name] = function
     return function
 
 
-def call(name, *arguments):
+def call(name: str, *arguments: Any) -> Any:
     """Calls a function; an array is passed as its pointer and its length. Other threads may run
     meanwhile."""
-    passed = []
+    passed: list[Any] = []
     for argument in arguments:
         if isinstance(argument, np.ndarray):
             assert argument.flags.c_contiguous and argument.flags.aligned

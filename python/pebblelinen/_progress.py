@@ -4,11 +4,12 @@
 import sys
 import threading
 import time
+from collections.abc import Iterator
 from contextlib import contextmanager
 
 
 @contextmanager
-def working(what):
+def working(what: str) -> Iterator[None]:
     """Says so after a second, and from then on each second on a terminal, each ten in a file."""
     done = threading.Event()
     thread = threading.Thread(target=_tell, args=(what, done, time.monotonic()), daemon=True)
@@ -20,7 +21,7 @@ def working(what):
         thread.join()
 
 
-def _tell(what, done, start):
+def _tell(what: str, done: threading.Event, start: float) -> None:
     terminal = sys.stderr.isatty()
     told = False
     while not done.wait(1 if terminal or not told else 10):

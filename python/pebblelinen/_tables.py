@@ -5,12 +5,16 @@ table was too short (refusal 13).
 
 The library leaves work tables zero after an accepted call and after refusals 13 and 14, and as they were
 after every other refusal. So tables that were zero once stay zero, and are kept for the next call."""
+import ctypes
+from collections.abc import Iterator
 from contextlib import contextmanager
+from typing import Any
 
 import numpy as np
+from numpy.typing import DTypeLike, NDArray
 
 # Of tables whose numbers are not of 64 bits without sign.
-_TYPES = {
+_TYPES: dict[str, DTypeLike] = {
     **dict.fromkeys(
         "work_sums work_numbers log_values cand_sums next_sums stage_values raws diags".split(),
         np.float64,
@@ -25,11 +29,11 @@ MOST_TOUCHED = 4096 + 4096 * (16 * 16 + 16 * 16)
 # What is kept from call to call, in bytes.
 _MOST_KEPT = 256 << 20
 
-_kept = []
+_kept: list["WorkTables"] = []
 
 
 @contextmanager
-def work_tables():
+def work_tables() -> Iterator["WorkTables"]:
     """Tables for one call, which nobody else has. Those of a call that was broken off are dropped."""
     try:
         tables = _kept.pop()
@@ -41,15 +45,17 @@ def work_tables():
 
 
 class WorkTables:
-    def __init__(self):
-        self._tables = {}
+    """Zeroed tables by their names, which are lent again and again."""
 
-    def lend(self, lengths, **more):
+    def __init__(self) -> None:
+        self._tables: dict[str, NDArray[Any]] = {}
+
+    def lend(self, lengths: ctypes.Structure) -> list[NDArray[Any]]:
         """A zeroed table for each length, in their order."""
-        named = {name: getattr(lengths, name) for name, _ in lengths._fields_}
-        return [self.table(name, length) for name, length in (named | more).items()]
+        return [self.table(name, getattr(lengths, name)) for name, *_ in lengths._fields_]
 
-    def table(self, name, length):
+    def table(self, name: str, length: int) -> NDArray[Any]:
+        """A zeroed table of this length."""
         table = self._tables.get(name)
         if table is None or len(table) < length:
             # The shorter one goes first, so that both are never held at once.
@@ -58,11 +64,12 @@ class WorkTables:
             table = self._tables[name] = zeros(length, _TYPES.get(name, np.uint64))
         return table[:length]
 
-    def bytes(self):
+    def bytes(self) -> int:
+        """What the tables take."""
         return sum(table.nbytes for table in self._tables.values())
 
 
-def zeros(length, dtype):
+def zeros(length: int, dtype: DTypeLike) -> NDArray[Any]:
     """A zeroed table, unless the machine has no room for it: memory that is promised and not there ends
     the process when it is used."""
     wanted = length * np.dtype(dtype).itemsize
@@ -71,7 +78,7 @@ def zeros(length, dtype):
     return np.zeros(length, dtype)
 
 
-def _available():
+def _available() -> int:
     with open("/proc/meminfo") as lines:
         for line in lines:
             if line.startswith("MemAvailable:"):

@@ -2,63 +2,74 @@
 # SPDX-License-Identifier: Apache-2.0
 """A basis: an ordered list of words with a coefficient each."""
 import threading
-from typing import NamedTuple
+from collections.abc import Iterable, Iterator, Mapping, Sequence
+from typing import Any, NamedTuple
 
 import numpy as np
+from numpy.typing import NDArray
 
 from . import _given, _library
+from ._sealed import Sealed, read_only
 from ._tables import work_tables, zeros
+from ._types import LaneTable, NumberTable
 from .errors import InputError, Refusal
-from .terms import Terms
+from .terms import AnyTerms, Terms
 from .words import (
     MAX_QUBITS,
+    MAX_WORDS,
     AnyWord,
     Position,
     Qubit,
     Word,
-    lanes_of,
     made,
+    places_of,
     qubits,
     register,
     table,
     text_refusal,
 )
 
-# The most words of a list, and the largest word limit.
-MAX_WORDS = 65_536
-
 # How many entries are shown.
 _SHOWN = 20
 
 
 class Entry(NamedTuple):
+    """A word of a basis, with its coefficient and its position."""
+
     position: Position
     word: Word
     coefficient: float
 
-    def __str__(self):
+    def __str__(self) -> str:
         return f"{self.position}: {self.word.by_site}, coefficient {self.coefficient!r}"
 
 
-class Basis:
+class Basis(Sealed):
     """Words with a coefficient each, told apart by their position.
 
-    A word may stand at several positions. Entries are given as (word, coefficient) pairs or as a
-    mapping.
+    A word may stand at several positions; `"X12 Z40" in basis` says whether it stands at one, in whichever
+    way it is written, and what is no word of the register raises. Entries are given as (word, coefficient)
+    pairs, as a mapping or as terms, and are copied.
     """
 
-    def __init__(self, n: int, entries=()):
+    def __init__(self, n: int, entries: AnyTerms = ()) -> None:
         self.n = register(n)
         terms = Terms.of(entries, n=self.n)
-        self._hold(terms.lanes, terms.values, own=not isinstance(entries, Terms))
+        self._hold(terms.lanes.copy(), terms.values.copy(), own=True)
 
     @classmethod
-    def from_arrays(cls, n: int, words, coefficients=None) -> "Basis":
+    def from_arrays(
+        cls,
+        n: int,
+        words: Iterable[Any] | NDArray[Any],
+        coefficients: Iterable[float] | NDArray[Any] | None = None,
+    ) -> "Basis":
         """The basis of an array of lanes, of the shape (entries, 4), and one of coefficients, which are
         0 where none are given.
 
         Arrays that can be lent as they are are not copied: the basis reads them where they are, and
-        takes a copy of its own before it changes anything."""
+        takes a copy of its own before it changes anything. Until then `coefficients` is to be read only; it
+        can be set at any time."""
         self = object.__new__(cls)
         self.n = register(n)
         lanes = _given.lanes(words, "words")
@@ -67,7 +78,7 @@ class Basis:
         self._hold(lanes, _given.numbers(coefficients, "coefficients"), own=False)
         return self
 
-    def _hold(self, lanes, coefficients, own):
+    def _hold(self, lanes: LaneTable, coefficients: NumberTable, own: bool) -> None:
         if 4 * len(coefficients) != len(lanes):
             raise InputError(
                 f"{len(coefficients)} coefficients beside {len(lanes)} lanes: each has a word of 4"
@@ -78,8 +89,10 @@ class Basis:
         self._own = own
         # The library reads and writes the tables while other threads run.
         self._lock = threading.RLock()
+        self._sealed = True
 
     def copy(self) -> "Basis":
+        """A basis of its own with the same entries."""
         with self._lock:
             other = object.__new__(Basis)
             other.n = self.n
@@ -88,31 +101,31 @@ class Basis:
 
     __copy__ = copy
 
-    def __deepcopy__(self, memo):
+    def __deepcopy__(self, memo: dict[int, Any]) -> "Basis":
         return self.copy()
 
-    def __reduce__(self):
-        return Basis.from_arrays, (self.n, self.words, self.coefficients)
+    def __reduce__(self) -> tuple[Any, ...]:
+        return _copied, (self.n, self.words, self.coefficients)
 
     @property
-    def lanes(self):
-        """The words in use, flat."""
-        return self._lanes[: 4 * self._len]
+    def lanes(self) -> LaneTable:
+        """The words in use, flat, to be read only."""
+        return read_only(self._lanes[: 4 * self._len])
 
     @property
-    def words(self):
+    def words(self) -> LaneTable:
         """The words, four lanes each: an array of uint64 of the shape (entries, 4), to be read only."""
-        view = self.lanes.reshape(-1, 4)
-        view.flags.writeable = False
-        return view
+        return self.lanes.reshape(-1, 4)
 
     @property
-    def coefficients(self):
-        """The coefficients by position. It is a view: after a call that changes the basis, ask again."""
-        return self._coefficients[: self._len]
+    def coefficients(self) -> NumberTable:
+        """The coefficients by position. It is a view: after a call that changes the basis, ask again. While
+        the basis reads an array that was given to from_arrays, it is to be read only."""
+        view = self._coefficients[: self._len]
+        return view if self._own else read_only(view)
 
     @coefficients.setter
-    def coefficients(self, given):
+    def coefficients(self, given: Iterable[float] | NDArray[Any]) -> None:
         given = _given.numbers(given, "coefficients")
         if len(given) != self._len:
             raise InputError(f"{len(given)} coefficients for {self._shown_len()}")
@@ -120,8 +133,12 @@ class Basis:
             self._take_over()
             self._coefficients[: self._len] = given
 
-    def __len__(self):
+    def __len__(self) -> int:
         return self._len
+
+    def __contains__(self, word: AnyWord) -> bool:
+        """Whether a word stands in the basis, in whichever way it is written. What is no word raises."""
+        return len(places_of(word, self.words, self.n)) > 0
 
     def entry(self, *, position: Position | int) -> Entry:
         """The entry at a position."""
@@ -131,14 +148,13 @@ class Basis:
         lanes = self._lanes[4 * p : 4 * p + 4].tolist()
         return Entry(Position(p), made(lanes, self.n), float(self._coefficients[p]))
 
-    def __iter__(self):
+    def __iter__(self) -> Iterator[Entry]:
         for p in range(self._len):
             yield self.entry(position=p)
 
     def positions(self, word: AnyWord) -> list[Position]:
         """The positions at which a word stands."""
-        lanes = np.array(lanes_of(word, self.n), np.uint64)
-        return [Position(p) for p in np.flatnonzero((self.words == lanes).all(axis=1)).tolist()]
+        return [Position(p) for p in places_of(word, self.words, self.n).tolist()]
 
     def touching(self, *, qubit: Qubit | int) -> list[Position]:
         """The positions whose words have a letter other than I at a qubit."""
@@ -154,41 +170,48 @@ class Basis:
         last."""
         return {entry.word.by_site: entry.coefficient for entry in self}
 
-    def __str__(self):
+    def __str__(self) -> str:
         lines = [f"basis of {self._shown_len()} on {qubits(self.n)}"]
         lines += [str(self.entry(position=p)) for p in range(min(self._len, _SHOWN))]
         if self._len > _SHOWN:
             lines.append(f".. and {self._len - _SHOWN} more")
         return "\n".join(lines)
 
-    def __repr__(self):
+    def __repr__(self) -> str:
         return f"Basis of {self._shown_len()} on {qubits(self.n)}"
 
-    def _shown_len(self):
+    def _shown_len(self) -> str:
         return _given.counted(self._len, "entry", "entries")
 
     # ---- changes ----
 
-    def prune(self, *, drop_tol: float, protected=()) -> int:
+    def prune(self, *, drop_tol: float, protected: "AnyWords" = ()) -> int:
         """Drops the entries whose coefficient is below drop_tol in magnitude, but for those of protected
         words. Returns how many entries there are then."""
         drop_tol = _given.real(drop_tol, "drop_tol")
         return self._shorten("prune_basis", drop_tol, protected, {}, {"drop_tol": drop_tol})
 
-    def cap(self, *, limit: int, protected=()) -> int:
+    def cap(self, *, limit: int, protected: "AnyWords" = ()) -> int:
         """Keeps the entries of protected words and the largest others, so many that there are limit in
         all; of equally large ones the lower positions. Returns how many entries there are then."""
-        limit = _given.whole(limit, "limit")
+        limit = _given.whole(limit, "limit", most=MAX_WORDS)
         return self._shorten("cap_basis", limit, protected, {"limit": limit}, {})
 
-    def _shorten(self, name, number, protected, limits, thresholds):
+    def _shorten(
+        self,
+        name: str,
+        number: float,
+        protected: "AnyWords",
+        limits: Mapping[str, int],
+        thresholds: Mapping[str, float],
+    ) -> int:
         fixed = table(protected, self.n, "protected")
         with self._lock:
             self._take_over()
             fixed = self._apart(fixed)
             lengths = _library.call("basis_sizes", self._len, len(fixed) // 4, 0)
             with work_tables() as tables:
-                kept = _library.call(
+                kept: _library.Kept = _library.call(
                     name,
                     self.n,
                     self._lanes,
@@ -203,14 +226,14 @@ class Basis:
             self._len = kept.entries
             return self._len
 
-    def admit(self, listed, *, limit: int) -> int:
+    def admit(self, listed: AnyTerms, *, limit: int) -> int:
         """Appends words, each with coefficient 0, in the order in which they are listed: as many as
         there is room for below limit, those whose listed value is largest in magnitude. Returns how many
         entries there are then.
 
         Words are listed by terms, as leakage gives them, by (word, value) pairs or by a mapping."""
         terms = Terms.of(listed, n=self.n)
-        limit = _given.whole(limit, "limit")
+        limit = _given.whole(limit, "limit", most=MAX_WORDS)
         with self._lock:
             self._take_over()
             list_, values = self._apart(terms.lanes), self._apart(terms.values)
@@ -218,7 +241,7 @@ class Basis:
             while True:
                 with work_tables() as tables:
                     order, work, _, flags = tables.lend(lengths)
-                    kept = _library.call(
+                    kept: _library.Kept = _library.call(
                         "add_leakage_capped",
                         self.n,
                         self._lanes,
@@ -241,25 +264,42 @@ class Basis:
             self._len = kept.entries
             return self._len
 
-    def _take_over(self):
+    def _take_over(self) -> None:
         """Before a change: the tables are to be our own."""
         if not self._own:
             self._lanes, self._coefficients = self.lanes.copy(), self.coefficients.copy()
             self._own = True
 
-    def _apart(self, given):
+    def _apart(self, given: NDArray[Any]) -> NDArray[Any]:
         """An array that shares no memory with what is to be written."""
         ours = self._lanes, self._coefficients
         return given.copy() if any(np.may_share_memory(given, table) for table in ours) else given
 
-    def _reserve(self, places):
+    def _reserve(self, places: int) -> None:
         lanes, coefficients = zeros(4 * places, np.uint64), zeros(places, np.float64)
         lanes[: 4 * self._len] = self.lanes
         coefficients[: self._len] = self.coefficients
         self._lanes, self._coefficients = lanes, coefficients
 
 
-def refusal(status, basis, others="", lanes=(), limits={}, thresholds={}, values=None):
+def _copied(n: int, words: NDArray[np.uint64], coefficients: NDArray[np.float64]) -> Basis:
+    """A basis that has the arrays for its own."""
+    return Basis.from_arrays(n, words, coefficients).copy()
+
+
+# The ways to give words without values.
+AnyWords = Terms | Basis | Iterable[AnyWord] | NDArray[Any]
+
+
+def refusal(
+    status: _library.Status,
+    basis: Basis,
+    others: str = "",
+    lanes: Sequence[Any] | LaneTable = (),
+    limits: Mapping[str, int] = {},
+    thresholds: Mapping[str, float] = {},
+    values: NumberTable | None = None,
+) -> Refusal:
     """The refusal of a call on a basis, with its values under names.
 
     others       what a second list of words is called, and its lanes; its values, where it has some
@@ -292,13 +332,15 @@ def refusal(status, basis, others="", lanes=(), limits={}, thresholds={}, values
     return too_short(status)
 
 
-def too_short(status, why=""):
+def too_short(status: _library.Status, why: str = "") -> Refusal:
     """Refusal 13, where there are no more places to lend."""
     said = f"table {status.first} needs more than {status.second} places{why}"
     return Refusal(13, said, {"table": status.first, "places": status.second})
 
 
-def _count_said(count, basis, others, lanes, limits):
+def _count_said(
+    count: int, basis: Basis, others: str, lanes: Sequence[Any] | LaneTable, limits: Mapping[str, int]
+) -> str:
     if len(basis) > MAX_WORDS:
         return f"the basis has {count} entries"
     if len(lanes) // 4 > MAX_WORDS:
@@ -306,7 +348,7 @@ def _count_said(count, basis, others, lanes, limits):
     return next((f"{name} is {count}" for name, limit in limits.items() if limit == count), f"{count}")
 
 
-def _outside(place, basis, others):
+def _outside(place: int, basis: Basis, others: str) -> Refusal:
     """The basis is tested before the other words, so the first word of it that is outside is the one
     that was found."""
     if place < len(basis):
@@ -318,7 +360,7 @@ def _outside(place, basis, others):
     return Refusal(11, said, {"place": place, "qubits": basis.n}, (place,))
 
 
-def _number_refusal(index, basis, others, thresholds):
+def _number_refusal(index: int, basis: Basis, others: str, thresholds: Mapping[str, float]) -> Refusal:
     """Coefficients are tested first, then listed values or thresholds, which count on from them."""
     if index < len(basis):
         coefficient = basis.entry(position=index).coefficient
@@ -331,7 +373,7 @@ def _number_refusal(index, basis, others, thresholds):
     return Refusal(7, said, {"place": place}, (place,))
 
 
-def not_finite(thresholds):
+def not_finite(thresholds: Mapping[str, float]) -> Refusal:
     """The refusal of the first number that is not finite."""
     name = next((name for name, x in thresholds.items() if not np.isfinite(x)), "a threshold")
     said = f"{name} is {thresholds.get(name)}: a finite number is needed"

@@ -6,13 +6,20 @@ Exit status: 0 answered, 1 refused by the library, 2 bad usage (options, file, w
 import argparse
 import json
 import math
+import signal
 import sys
+import warnings
+from collections.abc import Callable, Iterable, Iterator, Sequence
+from typing import Any, NoReturn
 
 from . import _given, demo, modelfile
 from ._given import counted
 from ._progress import working
+from ._version import __version__
 from .basis import Basis
-from .errors import InputError, PebblelinenError, Refusal
+from .errors import InputError, NotPositive, PebblelinenError, Refusal
+from .model import Degree
+from .terms import Terms
 from .words import Word, qubits
 
 # Lines of a list that are shown to people.
@@ -35,14 +42,28 @@ _WORDS = """\
 A word is given by site, "X12 Z40" for X on qubit 12 and Z on qubit 40 (the identity is "I0"), or as a text
 with a letter for each qubit, qubit 0 first."""
 
+# What a command gives: an answer for programs, and lines for people, both when asked.
+_Answers = tuple[Callable[[], dict[str, Any]], Callable[[], Iterable[str]]]
+
 _FILE = "A model file:\n" + modelfile.__doc__.split("\n", 1)[1]
 
 
-def main(arguments=None):
-    options = _parser().parse_args(arguments)
+def run() -> NoReturn:
+    """The command as a process. An interrupt ends it at once, also in the library, and so does a reader of its
+    lines that has gone."""
+    signal.signal(signal.SIGINT, signal.SIG_DFL)
+    signal.signal(signal.SIGPIPE, signal.SIG_DFL)
+    sys.exit(main())
+
+
+def main(arguments: Sequence[str] | None = None) -> int:
+    """Runs the command with these arguments, or those of the process, and returns its exit status."""
+    options = _parser().parse_args(_joined(sys.argv[1:] if arguments is None else arguments))
+    options.warnings = []
     try:
         if options.json:
-            _print_json(options.run(options)[0]())
+            answer = options.run(options)[0]()
+            _print_json({**answer, "warnings": options.warnings} if options.warnings else answer)
         else:
             for line in options.run(options)[1]():
                 print(line, flush=True)
@@ -54,13 +75,35 @@ def main(arguments=None):
     return 0
 
 
-def _parser():
+def _joined(arguments: Sequence[str]) -> list[str]:
+    """The arguments, with --dt -1e-3 as --dt=-1e-3: argparse takes a number below 0 with an exponent for an
+    option."""
+    joined: list[str] = []
+    for argument in arguments:
+        if joined and joined[-1].startswith("--") and argument.startswith("-") and _is_number(argument):
+            argument = f"{joined.pop()}={argument}"
+        joined.append(argument)
+    return joined
+
+
+def _is_number(text: str) -> bool:
+    try:
+        float(text)
+    except ValueError:
+        return False
+    return True
+
+
+def _parser() -> argparse.ArgumentParser:
     parser = argparse.ArgumentParser(
         prog="pebblelinen", description=_ABOUT, formatter_class=argparse.RawDescriptionHelpFormatter
     )
+    parser.add_argument("--version", action="version", version=f"pebblelinen {__version__}")
     commands = parser.add_subparsers(title="commands", metavar="COMMAND", required=True)
 
-    def command(name, run, help_, about, file=True):
+    def command(
+        name: str, run: Callable[[argparse.Namespace], _Answers], help_: str, about: str, file: bool = True
+    ) -> argparse.ArgumentParser:
         made = commands.add_parser(
             name,
             help=help_,
@@ -105,7 +148,8 @@ def _parser():
         _leakage,
         "what the model moves out of the basis",
         "What the model moves out of the file's basis, onto words neither in it nor protected: the\n"
-        "largest that there is room for, with their sums, in word order.",
+        "largest that there is room for, with their sums, in word order. The room is said, and where it is\n"
+        "full, so that others may leak too: without room nothing is listed, whatever leaks.",
     )
     made.add_argument(
         "--max-basis", type=int, required=True, metavar="N", help="room is what N leaves beside the basis"
@@ -135,27 +179,27 @@ def _parser():
     return parser
 
 
-# ---- commands: each gives an answer for programs, and lines for people, both when asked ----
+# ---- commands ----
 
 
-def _action(options):
+def _action(options: argparse.Namespace) -> _Answers:
     file = _loaded(options)
     model = file.model
     words = [Word(word, n=model.n) for word in options.words] or [entry.word for entry in file.basis]
     if not words:
         raise InputError("name a word, or give the file a basis", where=options.file)
 
-    def act():
+    def act() -> Iterator[tuple[Word, Terms]]:
         for word in words:
             with working(f"action on {word.by_site}"):
                 terms = model.action(word)
             yield word, terms
 
-    def answer():
+    def answer() -> dict[str, Any]:
         actions = [{"word": word.by_site, "terms": _terms(terms)} for word, terms in act()]
         return {"qubits": model.n, "actions": actions}
 
-    def lines():
+    def lines() -> Iterator[str]:
         yield str(model)
         for word, terms in act():
             yield ""
@@ -165,8 +209,8 @@ def _action(options):
     return answer, lines
 
 
-def _leakage(options):
-    file = _loaded(options)
+def _leakage(options: argparse.Namespace) -> _Answers:
+    file = _loaded_with_basis(options)
     with working(f"leakage out of {len(file.basis)} entries"):
         terms = file.model.leakage(
             file.basis,
@@ -176,32 +220,43 @@ def _leakage(options):
             protected=file.protected,
         )
 
-    def answer():
-        return {"qubits": file.model.n, "largest": _json_number(terms.largest()), "terms": _terms(terms)}
+    def answer() -> dict[str, Any]:
+        return {
+            "qubits": file.model.n,
+            "room": terms.room,
+            "full": terms.full,
+            "largest": _largest(terms.largest()),
+            "terms": _terms(terms),
+        }
 
-    def lines():
+    def lines() -> Iterator[str]:
         yield str(file.model)
         protected = f", {counted(len(file.protected), 'protected word')}" if file.protected else ""
-        yield f"basis: {counted(len(file.basis), 'position')}{protected}"
+        room = f"room for {counted(terms.room, 'word')} more"
+        yield f"basis: {counted(len(file.basis), 'position')}{protected}; {room}"
         yield ""
-        yield f"leakage: {counted(len(terms), 'word')}, largest {terms.largest()!r}"
+        if not len(terms):
+            yield f"leakage: {terms.why_empty()}"
+            return
+        full = "; the room is full, and others may leak too" if terms.full else ""
+        yield f"leakage: {counted(len(terms), 'word')}, largest {terms.largest()!r}{full}"
         yield from _listed(terms, options.all)
 
     return answer, lines
 
 
-def _generator(options):
-    file = _loaded(options)
+def _generator(options: argparse.Namespace) -> _Answers:
+    file = _loaded_with_basis(options)
     with working(f"generator over {len(file.basis)} entries"):
         matrix = file.model.generator(file.basis)
     entries = list(zip(matrix.row.tolist(), matrix.col.tolist(), matrix.data.tolist()))
     words = [entry.word.by_site for entry in file.basis]
 
-    def answer():
+    def answer() -> dict[str, Any]:
         named = [{"row": row, "column": column, "value": value} for row, column, value in entries]
         return {"qubits": file.model.n, "basis": words, "entries": named}
 
-    def lines():
+    def lines() -> Iterator[str]:
         yield str(file.model)
         yield ""
         yield (
@@ -218,26 +273,26 @@ def _generator(options):
     return answer, lines
 
 
-def _degree(options):
-    file = _loaded(options)
+def _degree(options: argparse.Namespace) -> _Answers:
+    file = _loaded_with_basis(options)
     with working(f"norm over {len(file.basis)} entries"):
         degree = file.model.degree(file.basis, dt=options.dt, drop_tol=options.drop_tol)
 
-    def answer():
+    def answer() -> dict[str, Any]:
         return {"qubits": file.model.n, "positions": len(file.basis), **_degree_answer(degree)}
 
-    def lines():
+    def lines() -> Iterator[str]:
         yield str(file.model)
         yield from _degree_lines(len(file.basis), options.dt, degree)
 
     return answer, lines
 
 
-def _degree_answer(degree):
+def _degree_answer(degree: Degree) -> dict[str, Any]:
     return {name: _json_number(x) for name, x in degree._asdict().items()}
 
 
-def _degree_lines(positions, dt, degree):
+def _degree_lines(positions: int, dt: float, degree: Degree) -> Iterator[str]:
     yield f"generator over {counted(positions, 'position')}:"
     yield from _aligned(
         [
@@ -248,7 +303,7 @@ def _degree_lines(positions, dt, degree):
     )
 
 
-def _demo(options):
+def _demo(options: argparse.Namespace) -> _Answers:
     if options.model:
         return lambda: {"model": demo.as_file()}, lambda: [demo.as_file().rstrip("\n")]
     count = _given.whole(options.rounds, "--rounds")
@@ -256,19 +311,21 @@ def _demo(options):
         model = demo.chain()
     basis = Basis(model.n, {demo.OBSERVABLE: 1.0})
 
-    def rounds():
+    def rounds() -> Iterator[demo.Round]:
         grown = demo.rounds(model, basis, limit=options.limit, count=count, dt=options.dt)
         for number in range(1, count + 1):
             with working(f"round {number}"):
                 each = next(grown)
             yield each
 
-    def degree():
+    def degree() -> Degree:
         return model.degree(basis, dt=options.dt)
 
-    def answer():
+    def answer() -> dict[str, Any]:
         action = _terms(model.action(demo.OBSERVABLE))
-        done = [each._asdict() for each in rounds()]
+        done = [
+            {**each._asdict(), "largest_leakage": _largest(each.largest_leakage)} for each in rounds()
+        ]
         return {
             "qubits": model.n,
             "observable": demo.OBSERVABLE,
@@ -277,7 +334,7 @@ def _demo(options):
             **_degree_answer(degree()),
         }
 
-    def lines():
+    def lines() -> Iterator[str]:
         yield f"a chain of {qubits(model.n)} with couplings, fields, decay and dephasing"
         yield str(model)
         yield ""
@@ -287,8 +344,10 @@ def _demo(options):
         yield f"a basis grows around it: at most {options.limit} words, time step {options.dt!r}"
         yield "  round  leaked  largest leakage  words  entries of the generator  seconds"
         for each in rounds():
+            no_room = math.isnan(each.largest_leakage)
+            largest = "no room" if no_room else f"{each.largest_leakage:.6f}"
             yield (
-                f"  {each.number:5}  {each.leaked:6}  {each.largest_leakage:15.6f}  {each.words:5}"
+                f"  {each.number:5}  {each.leaked:6}  {largest:>15}  {each.words:5}"
                 f"  {each.entries:24}  {each.seconds:7.3f}"
             )
         yield ""
@@ -303,49 +362,69 @@ def _demo(options):
     return answer, lines
 
 
-def _loaded(options):
-    with working(f"reading {options.file}"):
-        return modelfile.load(options.file)
+def _loaded(options: argparse.Namespace) -> modelfile.ModelFile:
+    """What the file holds. A warning goes to standard error, and is kept for the answer to programs."""
+    with working(f"reading {options.file}"), warnings.catch_warnings(record=True) as caught:
+        warnings.simplefilter("always", NotPositive)
+        file = modelfile.load(options.file)
+    for warning in caught:
+        options.warnings.append(f"{options.file}: {warning.message}")
+        print(f"pebblelinen: warning: {options.warnings[-1]}", file=sys.stderr)
+    return file
+
+
+def _loaded_with_basis(options: argparse.Namespace) -> modelfile.ModelFile:
+    """What the file holds, where it has a basis to work on."""
+    file = _loaded(options)
+    if not len(file.basis):
+        raise InputError("this file has no basis to work on: give it a [basis] with words", where=options.file)
+    return file
 
 
 # ---- what is printed ----
 
 
-def _terms(terms):
+def _terms(terms: Terms) -> list[dict[str, Any]]:
     return [{"word": word.by_site, "value": _json_number(value)} for word, value in terms]
 
 
-def _json_number(x):
+def _json_number(x: float) -> float | str:
     """JSON has no infinity and no NaN: these are texts."""
     return x if math.isfinite(x) else str(x)
 
 
-def _error(error):
-    told = {"said": str(error)}
+def _largest(x: float) -> float | str | None:
+    """The largest leakage, which is not known where there was no room to list any."""
+    return None if math.isnan(x) else _json_number(x)
+
+
+def _error(error: Exception) -> dict[str, Any]:
+    told: dict[str, Any] = {"said": str(error)}
     if isinstance(error, Refusal):
         values = {name: x if isinstance(x, (int, str)) else int(x) for name, x in error.values.items()}
         told |= {"refusal": error.number, "cause": error.cause, "values": values}
-    if getattr(error, "where", ""):
-        told |= {"where": error.where}
+    where = getattr(error, "where", "")
+    if where:
+        told |= {"where": where}
     return told
 
 
-def _print_json(answer):
+def _print_json(answer: dict[str, Any]) -> None:
     print(json.dumps(answer, allow_nan=False))
 
 
-def _listed(terms, all_):
+def _listed(terms: Terms, all_: bool) -> Iterator[str]:
     rows = [(word.by_site, repr(value)) for word, value in terms]
     yield from _aligned(rows if all_ else rows[:_SHOWN])
     yield from _more(len(rows), all_)
 
 
-def _more(count, all_):
+def _more(count: int, all_: bool) -> Iterator[str]:
     if count > _SHOWN and not all_:
         yield f"  .. and {count - _SHOWN} more: --all shows them"
 
 
-def _aligned(rows):
+def _aligned(rows: Sequence[Sequence[str]]) -> Iterator[str]:
     """Columns of one width each, indented; what stands last has room for a sign."""
     widths = [max(len(cell) for cell in column) for column in zip(*rows)]
     for row in rows:

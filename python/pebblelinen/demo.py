@@ -4,8 +4,11 @@
 grows around one observable."""
 import math
 import time
-from typing import NamedTuple
+from collections.abc import Iterator
+from typing import Any, NamedTuple
 
+from ._types import NumberTable
+from .basis import Basis
 from .errors import InputError
 from .matrix import product
 from .model import Model
@@ -18,7 +21,7 @@ OBSERVABLE = f"Z{SITE}"
 _MOST_PRODUCTS = 1 << 20
 
 
-def items(n=QUBITS):
+def items(n: int = QUBITS) -> tuple[dict[str, float], list[tuple[float, str | dict[str, complex]]]]:
     """Hamiltonian and jumps of the chain: XX + YY couplings and weaker ZZ ones between neighbours, fields
     that differ from qubit to qubit, decay and dephasing on each."""
     hamiltonian = {}
@@ -27,18 +30,19 @@ def items(n=QUBITS):
             hamiltonian[f"{letter}{q} {letter}{q + 1}"] = strength
     for q in range(n):
         hamiltonian[f"Z{q}"] = 0.5 + 0.125 * (q % 4)
-    jumps = []
+    jumps: list[tuple[float, str | dict[str, complex]]] = []
     for q in range(n):
         jumps.append((0.05, {f"X{q}": 0.5, f"Y{q}": 0.5j}))
         jumps.append((0.02, f"Z{q}"))
     return hamiltonian, jumps
 
 
-def chain(n=QUBITS):
+def chain(n: int = QUBITS) -> Model:
+    """The chain as a model."""
     return Model(n, *items(n))
 
 
-def as_file():
+def as_file() -> str:
     """The chain as a model file."""
     n = QUBITS
     hamiltonian, jumps = items()
@@ -55,12 +59,12 @@ def as_file():
     return "\n".join(lines)
 
 
-def _number(x):
-    return f'"{x}"' if isinstance(x, complex) else x
+def _number(x: complex) -> str:
+    return f'"{x}"' if isinstance(x, complex) else str(x)
 
 
 class Round(NamedTuple):
-    """What a round of growing found and did."""
+    """What a round of growing found and did. The largest leakage is NaN where there was no room to list any."""
 
     number: int
     leaked: int
@@ -70,7 +74,7 @@ class Round(NamedTuple):
     seconds: float
 
 
-def rounds(model, basis, *, limit, count, dt):
+def rounds(model: Model, basis: Basis, *, limit: int, count: int, dt: float) -> Iterator[Round]:
     """Lets a basis grow: what leaks out of it is admitted, then its coefficients move on by a time step.
     Yields what each round did."""
     for number in range(1, count + 1):
@@ -83,7 +87,7 @@ def rounds(model, basis, *, limit, count, dt):
         yield Round(number, len(leaked), leaked.largest(), len(basis), generator.nnz, seconds)
 
 
-def evolved(model, basis, generator, dt):
+def evolved(model: Model, basis: Basis, generator: Any, dt: float) -> NumberTable:
     """The coefficients after a time step: the exponential's Taylor series in so many stages of so many
     products as the library chooses, for the generator less mu."""
     degree = model.degree(basis, dt=dt, drop_tol=1e-4)

@@ -1,6 +1,10 @@
 # SPDX-FileCopyrightText: 2026 The PPVM Authors
 # SPDX-License-Identifier: Apache-2.0
-"""What is raised: refusals of the library, and input that cannot be handed to it."""
+"""What is raised: refusals of the library, and input that cannot be handed to it. And what is warned of."""
+from collections.abc import Iterable, Mapping
+from typing import Any
+
+from ._types import ItemPath
 
 # The causes for which the library refuses a call, by number.
 CAUSES = {
@@ -32,22 +36,22 @@ class InputError(PebblelinenError, ValueError):
     where   the file and key, where it was read from a file
     """
 
-    def __init__(self, said, path=(), where=""):
+    def __init__(self, said: str, path: Iterable[str | int] = (), where: str = "") -> None:
         super().__init__(f"{where}: {said}" if where else said)
         self.said = said
-        self.path = tuple(path)
+        self.path: ItemPath = tuple(path)
         self.where = where
 
-    def at(self, where):
+    def at(self, where: str) -> "InputError":
         """The same, read from there."""
         return type(self)(self.said, self.path, where)
 
-    def __reduce__(self):
+    def __reduce__(self) -> tuple[Any, ...]:
         return type(self), (self.said, self.path, self.where)
 
 
 class LibraryMissing(PebblelinenError, OSError):
-    """The shared object is not there, or cannot be loaded."""
+    """The shared object, or scipy where a matrix is asked for, is not there or cannot be loaded."""
 
 
 class Refusal(PebblelinenError, ValueError):
@@ -61,18 +65,30 @@ class Refusal(PebblelinenError, ValueError):
     where    the file and key, where it was read from a file
     """
 
-    def __init__(self, number, said, values, path=(), where=""):
+    def __init__(
+        self,
+        number: int,
+        said: str,
+        values: Mapping[str, Any],
+        path: Iterable[str | int] = (),
+        where: str = "",
+    ) -> None:
         super().__init__(f"{where}: " * bool(where) + f"refusal {number}: {said}")
         self.number = number
         self.cause = CAUSES[number]
         self.said = said
-        self.values = dict(values)
-        self.path = tuple(path)
+        self.values: dict[str, Any] = dict(values)
+        self.path: ItemPath = tuple(path)
         self.where = where
 
-    def at(self, where):
+    def at(self, where: str) -> "Refusal":
         """The same, read from there."""
         return type(self)(self.number, self.said, self.values, self.path, where)
 
-    def __reduce__(self):
+    def __reduce__(self) -> tuple[Any, ...]:
         return type(self), (self.number, self.said, self.values, self.path, self.where)
+
+
+class NotPositive(UserWarning):
+    """A Kossakowski matrix has an eigenvalue below 0 by more than rounding. It is accepted, and the curve may
+    grow beyond what a state allows."""

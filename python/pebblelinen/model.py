@@ -1,16 +1,34 @@
 # SPDX-FileCopyrightText: 2026 The PPVM Authors
 # SPDX-License-Identifier: Apache-2.0
 """A model of a device: what it does to words and bases."""
-from typing import NamedTuple
+from collections.abc import Callable, Iterable, Mapping
+from typing import Any, NamedTuple
 
 import numpy as np
+from numpy.typing import NDArray
 
-from . import _building, _given, _library, matrix
+from . import _building, _given, _library, kossakowski, matrix
+from ._building import AnyMatrix, AnyOperator
+from ._sealed import Sealed
 from ._tables import MOST_TOUCHED, work_tables
-from .basis import MAX_WORDS, Basis, not_finite, refusal, too_short
+from ._types import LaneTable, NumberTable
+from .basis import AnyWords, Basis, not_finite, refusal, too_short
 from .errors import InputError, Refusal
+from .leakage import Leakage
 from .terms import Terms
-from .words import AnyWord, Position, lanes_of, qubits, register, same_register, site_text, struct_of, table
+from .words import (
+    MAX_WORDS,
+    AnyWord,
+    Position,
+    Word,
+    lanes_of,
+    qubits,
+    register,
+    same_register,
+    site_text,
+    struct_of,
+    table,
+)
 
 # Positions that leakage takes in a pass.
 _PASS = 4096
@@ -32,7 +50,7 @@ class Degree(NamedTuple):
     mu: float
 
 
-class Model:
+class Model(Sealed):
     """A model on a register of n qubits: Hamiltonian terms, jumps and Kossakowski matrices.
 
     hamiltonian   (word, number) pairs, or a mapping: {"X0 X1": 1.0, "Z0": 0.5}
@@ -40,30 +58,50 @@ class Model:
     matrices      (operators, K) pairs, K Hermitian with a row for each operator
 
     An operator is (word, number) pairs, or a mapping, with complex numbers; a word alone has the number 1.
+    (X + iY)/2 is |0><1|, which takes a qubit from 1 to 0: QuTiP's sigmap() and destroy(2).
     Words are texts, or letters by site; see pebblelinen.words. A model cannot be changed.
+
+    A matrix K over operators A adds, summed over all n and m, to the rate of change of an observable p and of
+    a state ρ
+
+        K[n][m] (A_n† p A_m - (A_n† A_m p + p A_n† A_m) / 2)
+        K[n][m] (A_m ρ A_n† - (A_n† A_m ρ + ρ A_n† A_m) / 2)
+
+    If yours is K[n][m] A_n ρ A_m†, give K.T. A K with an eigenvalue below 0 by more than rounding is accepted,
+    with the warning NotPositive; split_matrix gives one over more than 64 operators in parts.
     """
 
-    def __init__(self, n: int, hamiltonian=(), jumps=(), matrices=()):
+    def __init__(
+        self,
+        n: int,
+        hamiltonian: Mapping[str, float] | Mapping[Word, float] | Iterable[tuple[AnyWord, float]] = (),
+        jumps: Iterable[tuple[float, AnyOperator]] = (),
+        matrices: Iterable[tuple[Iterable[AnyOperator], AnyMatrix]] = (),
+    ) -> None:
         n = register(n)
-        hamiltonian = _building.hamiltonian_of(hamiltonian, n)
-        jumps = _building.jumps_of(jumps, n)
-        matrices = _building.matrices_of(matrices, n)
+        items = _building.hamiltonian_of(hamiltonian, n)
+        given_jumps = _building.jumps_of(jumps, n)
+        given_matrices = _building.matrices_of(matrices, n)
 
-        built, tables = _building.build(n, hamiltonian, jumps)
+        built, tables = _building.build(n, items, given_jumps)
         if built.status.refusal:
-            raise _building.model_refusal(built.status, n, hamiltonian, jumps, tables)
+            raise _building.model_refusal(built.status, n, items, given_jumps, tables)
         counts = built.model
-        for i, (operators, entries, rows) in enumerate(matrices):
+        for i, (operators, entries, rows) in enumerate(given_matrices):
             added, tables = _building.add_matrix(counts, tables, operators, entries)
             if added.status.refusal:
                 before = counts.jumps
                 raise _building.matrix_refusal(added.status, n, i, before, operators, entries, rows, tables)
             counts = added.model
+        kossakowski.warn_if_not_positive(
+            [np.array(k, np.complex128).reshape(2 * [len(operators)]) for operators, k, _ in given_matrices],
+            lambda: [_building.keys_of(operators) for operators, *_ in given_matrices],
+        )
 
         self.n = n
         self.hamiltonian_terms = counts.hamiltonian
-        self.jumps = len(jumps)
-        self.pairs = counts.jumps - len(jumps)
+        self.jumps = len(given_jumps)
+        self.pairs = counts.jumps - len(given_jumps)
         self._counts = (counts.qubits, counts.hamiltonian, counts.jumps, counts.terms)
         self._tables = _building.trimmed(tables, counts)
         # Places to begin with: words that an action touches, candidates, and entries of a generator. They
@@ -71,33 +109,39 @@ class Model:
         self._touched = 256
         self._candidates = 0
         self._entries = 0
+        self._sealed = True
 
-    def __repr__(self):
+    def __repr__(self) -> str:
         terms = _given.counted(self.hamiltonian_terms, "Hamiltonian term")
         jumps, pairs = _given.counted(self.jumps, "jump"), _given.counted(self.pairs, "pair")
         return f"Model of {qubits(self.n)}: {terms}, {jumps}, {pairs}"
 
-    def _check(self, basis):
+    def _check(self, basis: Basis) -> None:
         if not isinstance(basis, Basis):
             raise InputError(f"{_given.shown(basis)} stands where a basis is needed")
         same_register(basis, self.n, "basis")
 
-    def _lent(self):
+    def _lent(self) -> list[Any]:
         return [_library.Model(*self._counts), *self._tables.values()]
 
-    def _lending(self, attempt, places=0, most=lambda touched: 0):
+    def _lending(
+        self,
+        attempt: Callable[[int, int], Any],
+        places: int = 0,
+        most: Callable[[int], int] = lambda touched: 0,
+    ) -> tuple[Any, int]:
         """The answer of attempt(touched, places), where touched are the places of table 1 and `places` those
         of table 2 or 3. They are more each time that the library refuses them as too few, up to what can be
         needed: every word that a model can touch, and `most` of the others. Also those other places."""
-        status = None
+        answer: Any = None
         while True:
             touched = self._touched
             try:
                 answer = attempt(touched, places)
             except MemoryError:
-                if status is None:
+                if answer is None:
                     raise
-                raise too_short(status, ": there is no memory for more") from None
+                raise too_short(answer.status, ": there is no memory for more") from None
             status = answer.status
             if status.refusal != 13:
                 break
@@ -115,9 +159,9 @@ class Model:
         """What the model does to a word, in the Heisenberg picture: the words with their numbers, in word
         order."""
         lanes = lanes_of(word, self.n)
-        out = []
+        out: list[NDArray[Any]] = []
 
-        def attempt(touched, _):
+        def attempt(touched: int, _: int) -> Any:
             # An action lists no more words than it touches.
             out[:] = np.empty(4 * touched, np.uint64), np.empty(touched)
             with work_tables() as work:
@@ -149,15 +193,16 @@ class Model:
         max_basis: int,
         admit_basis: int | None = None,
         tau_add: float | None = None,
-        protected=(),
-    ) -> Terms:
+        protected: AnyWords = (),
+    ) -> Leakage:
         """What the model moves out of a basis, onto words neither in it nor protected: at most as many as
         there is room for below max_basis, or admit_basis where that is larger, and those larger than
-        tau_add in magnitude, in word order."""
+        tau_add in magnitude, in word order. It says the room: without room nothing is listed, whatever
+        leaks."""
         self._check(basis)
-        limits = {"max_basis": _given.whole(max_basis, "max_basis")}
+        limits = {"max_basis": _given.whole(max_basis, "max_basis", most=MAX_WORDS)}
         if admit_basis is not None:
-            limits["admit_basis"] = _given.whole(admit_basis, "admit_basis")
+            limits["admit_basis"] = _given.whole(admit_basis, "admit_basis", most=MAX_WORDS)
         thresholds = {} if tau_add is None else {"tau_add": _given.real(tau_add, "tau_add")}
         passed = _library.Limits(
             limits["max_basis"],
@@ -175,12 +220,26 @@ class Model:
             if listed.status.refusal:
                 raise refusal(listed.status, basis, "protected", fixed, limits, thresholds)
         words, values = out
-        return Terms(self.n, words[: 4 * listed.count], values[: listed.count])
+        return Leakage(
+            self.n,
+            words[: 4 * listed.count],
+            values[: listed.count],
+            room=room,
+            entries=len(basis),
+            tau_add=passed.tau_add,
+        )
 
-    def _leak(self, basis, fixed, limits, room, out):
+    def _leak(
+        self,
+        basis: Basis,
+        fixed: LaneTable,
+        limits: _library.Limits,
+        room: int,
+        out: tuple[LaneTable, NumberTable],
+    ) -> _library.Listed:
         entries = len(basis)
 
-        def attempt(touched, candidates):
+        def attempt(touched: int, candidates: int) -> Any:
             lengths = _library.call(
                 "leakage_sizes", self.n, entries, len(fixed) // 4, touched, candidates
             )
@@ -197,44 +256,45 @@ class Model:
                     *out,
                 )
 
-        def candidates(each):
+        def candidates(each: int) -> int:
             """Those of a pass, and those of earlier passes that there was room for."""
             return min(entries, _PASS) * each + min(room, entries * each)
 
         first = min(max(candidates(32), self._candidates), candidates(self._touched))
+        listed: _library.Listed
         listed, places = self._lending(attempt, first, candidates)
         self._candidates = max(self._candidates, places)
         return listed
 
     # ---- the generator over a basis ----
 
-    def generator(self, basis: Basis):
+    def generator(self, basis: Basis) -> Any:
         """The model over a basis, as a scipy COO matrix: rows and columns are positions, and the column at
         a position holds the action on its word, as far as it stays in the basis. Entries stand by column,
         then by word."""
         rows, columns, values = self._generated("generator", basis, None)
         return matrix.coo(len(basis), rows, columns, values)
 
-    def csr(self, basis: Basis):
+    def csr(self, basis: Basis) -> Any:
         """The same as a scipy CSR matrix, with ascending columns in every row."""
         self._check(basis)
         offsets = np.empty(len(basis) + 1, np.uint64)
         return matrix.csr(offsets, *self._generated("build_csr", basis, offsets)[1:])
 
-    def _generated(self, name, basis, offsets):
+    def _generated(self, name: str, basis: Basis, offsets: LaneTable | None) -> list[NDArray[Any]]:
         """Rows or offsets, columns and values."""
         self._check(basis)
         len_ = len(basis)
-        out = []
+        out: list[NDArray[Any]] = []
 
-        def attempt(touched, entries):
-            rows = np.empty(entries, np.uint32) if offsets is None else offsets
+        def attempt(touched: int, entries: int) -> Any:
+            rows: NDArray[Any] = np.empty(entries, np.uint32) if offsets is None else offsets
             out[:] = rows, np.empty(entries, np.uint32), np.empty(entries)
             lengths = _library.call("generator_sizes", self.n, len_, touched, entries)
             with work_tables() as work:
                 return _library.call(name, *self._lent(), basis._lanes, len_, *work.lend(lengths), *out)
 
-        def entries(each):
+        def entries(each: int) -> int:
             return len_ * min(each, len_)
 
         with basis._lock:
@@ -259,11 +319,11 @@ class Model:
         found = self._normed("expm_degree", basis, numbers)
         return Degree(found.m, found.s, found.norm, found.mu)
 
-    def _normed(self, name, basis, numbers):
+    def _normed(self, name: str, basis: Basis, numbers: Mapping[str, float]) -> Any:
         self._check(basis)
         len_ = len(basis)
 
-        def attempt(touched, _):
+        def attempt(touched: int, _: int) -> Any:
             lengths = _library.call("generator_sizes", self.n, len_, touched, 0)
             names = "h_index j_index mask work_words work_sums".split()
             with work_tables() as work:

@@ -17,8 +17,8 @@
     rate = 0.2
     operator = "Z1"                     # one word with the number 1
 
-    [[matrices]]
-    operators = ["X0", "X1"]
+    [[matrices]]                        # adds K[n][m] A_m ρ A_n† to the rate of change of a state ρ:
+    operators = ["X0", "X1"]            # if yours is K[n][m] A_n ρ A_m†, give K transposed
     k = [[1, "0.5j"], ["-0.5j", 1]]
 
     [basis]                             # words with their coefficients; positions count from 0
@@ -30,9 +30,11 @@ Where an order or a word that comes twice matters, `hamiltonian`, `operator` and
 import difflib
 import os
 import tomllib
-from typing import NamedTuple
+from collections.abc import Iterable, Mapping, Sequence
+from typing import Any, NamedTuple
 
 from . import _given, words
+from ._types import ItemPath
 from .basis import Basis
 from .errors import InputError, Refusal
 from .model import Model
@@ -45,10 +47,10 @@ class ModelFile(NamedTuple):
 
     model: Model
     basis: Basis
-    protected: list
+    protected: list[words.Word]
 
 
-def load(path: str | os.PathLike) -> ModelFile:
+def load(path: str | os.PathLike[str]) -> ModelFile:
     """Reads a model file."""
     name = os.fspath(path)
     data = _read(name)
@@ -59,7 +61,7 @@ def load(path: str | os.PathLike) -> ModelFile:
         raise error.at(f"{name}: {key}" if key else name) from None
 
 
-def _read(name):
+def _read(name: str) -> dict[str, Any]:
     try:
         with open(name, "rb") as file:
             return tomllib.load(file)
@@ -69,9 +71,9 @@ def _read(name):
         raise InputError(f"this is no TOML: {error}", where=name) from None
 
 
-def _made(data):
+def _made(data: dict[str, Any]) -> ModelFile:
     _keys(data, _KEYS, ["qubits"], ())
-    n = _given.whole(data["qubits"], "the number of qubits", ("qubits",))
+    n = _given.whole(data["qubits"], "the number of qubits", ("qubits",), words.MAX_QUBITS)
     model = Model(
         n,
         data.get("hamiltonian", {}),
@@ -98,18 +100,18 @@ def _made(data):
 class _under:
     """Errors inside are about the value of a key."""
 
-    def __init__(self, key):
+    def __init__(self, key: str) -> None:
         self.key = key
 
-    def __enter__(self):
+    def __enter__(self) -> None:
         pass
 
-    def __exit__(self, kind, error, _):
+    def __exit__(self, kind: object, error: object, _: object) -> None:
         if isinstance(error, (InputError, Refusal)):
             error.path = (self.key, *error.path)
 
 
-def _tables(data, key, keys):
+def _tables(data: dict[str, Any], key: str, keys: Sequence[str]) -> Iterable[tuple[int, dict[str, Any]]]:
     """The tables of an array, with their places."""
     given = data.get(key, [])
     if not isinstance(given, list):
@@ -121,7 +123,7 @@ def _tables(data, key, keys):
     return enumerate(given)
 
 
-def _keys(table, known, needed, path):
+def _keys(table: Mapping[str, Any], known: Sequence[str], needed: Sequence[str], path: ItemPath) -> None:
     for key in table:
         if key not in known:
             near = difflib.get_close_matches(key, known, 1)
@@ -132,18 +134,18 @@ def _keys(table, known, needed, path):
             raise InputError(f"the key {key!r} is missing", path)
 
 
-def _list(matrix, i):
+def _list(matrix: Mapping[str, Any], i: int) -> list[Any]:
     return _given.listed(matrix["operators"], "operators", ("matrices", i, "operators"))
 
 
-def _operator(given, path):
+def _operator(given: Any, path: ItemPath) -> Any:
     if isinstance(given, str):
         return given
     pairs = _given.pairs(given, "term", path)
     return [(word, _number(x, (*path, i))) for i, (word, x) in enumerate(pairs)]
 
 
-def _entries(given, path):
+def _entries(given: Any, path: ItemPath) -> list[list[Any]]:
     rows = _given.listed(given, "K", path)
     return [
         [_number(x, (*path, i, j)) for j, x in enumerate(_given.listed(row, "a row of K", (*path, i)))]
@@ -151,7 +153,7 @@ def _entries(given, path):
     ]
 
 
-def _number(given, path):
+def _number(given: Any, path: ItemPath) -> Any:
     """A number, or a text as Python writes complex numbers."""
     if not isinstance(given, str):
         return given
@@ -161,15 +163,12 @@ def _number(given, path):
         raise InputError(f"{given!r} is no number: such as 0.5, '0.5j' or '1-2j' is needed", path) from None
 
 
-def _key(path, data):
+def _key(path: ItemPath, data: Any) -> str:
     """The way to an item as a reader of the file sees it: jumps[3].operator."X12"."""
     named = ""
     for step in path:
         if step == "n":
             step = "qubits"
-        inside = isinstance(data, (dict, list)) and not (isinstance(data, list) and isinstance(step, str))
-        if not inside:
-            break
         if isinstance(data, dict):
             if isinstance(step, int):
                 step = list(data)[step]
@@ -177,7 +176,9 @@ def _key(path, data):
             else:
                 named += f".{step}" if named else step
             data = data.get(step)
-        else:
+        elif isinstance(data, list) and isinstance(step, int):
             named += f"[{step}]"
             data = data[step] if step < len(data) else None
+        else:
+            break
     return named

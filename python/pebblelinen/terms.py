@@ -1,27 +1,45 @@
 # SPDX-FileCopyrightText: 2026 The PPVM Authors
 # SPDX-License-Identifier: Apache-2.0
 """Words with a value each, as actions and leakages list them."""
+from collections.abc import Iterable, Iterator, Mapping
+from typing import Any, TypeVar, Union, overload
+
+import numpy as np
+from numpy.typing import NDArray
+
 from . import _given
-from .words import made, qubits, register, same_register, site_text, table
+from ._sealed import Sealed, read_only
+from ._types import LaneTable, NumberTable
+from .errors import InputError
+from .words import AnyWord, Word, lanes_of, made, places_of, qubits, register, same_register, site_text, table
+
+_Default = TypeVar("_Default")
 
 
-class Terms:
+class Terms(Sealed):
     """Words with their values, which actions and leakages list in word order.
 
     n        the qubits of the register
     words    four lanes each: an array of uint64 of the shape (words, 4)
     values   one number each: an array of float64
 
-    Arrays that are given are not copied where they can be lent as they are.
+    `"X12 Z40" in terms`, `terms["X12 Z40"]` and `terms.get("X12 Z40")` take a word in every way of writing
+    it; what is no word of the register raises.
+
+    Arrays that are given are not copied where they can be lent as they are. Terms cannot be changed, and their
+    arrays are to be read only: `terms.values.copy()` is your own.
     """
 
-    def __init__(self, n: int, words, values):
+    def __init__(
+        self, n: int, words: Iterable[Any] | NDArray[Any], values: Iterable[float] | NDArray[Any]
+    ) -> None:
         self.n = register(n)
-        self.lanes = _given.lanes(words, "words")
-        self.values = _given.numbers(values, "values")
+        self.lanes = read_only(_given.lanes(words, "words"))
+        self.values = read_only(_given.numbers(values, "values"))
+        self._sealed = True
 
     @classmethod
-    def of(cls, given, *, n: int) -> "Terms":
+    def of(cls, given: "AnyTerms", *, n: int) -> "Terms":
         """The terms of (word, value) pairs or of a mapping; terms are taken as they are."""
         if isinstance(given, Terms):
             return same_register(given, n, "list")
@@ -30,13 +48,42 @@ class Terms:
         return cls(n, lanes, [_given.real(x, f"value {i}", (i,)) for i, (_, x) in enumerate(items)])
 
     @property
-    def words(self):
+    def words(self) -> LaneTable:
+        """The words, four lanes each: an array of uint64 of the shape (words, 4)."""
         return self.lanes[: len(self.lanes) // 4 * 4].reshape(-1, 4)
 
-    def __len__(self):
+    def __len__(self) -> int:
         return len(self.values)
 
-    def __iter__(self):
+    def __contains__(self, word: AnyWord) -> bool:
+        """Whether a word is listed, in whichever way it is written. What is no word raises."""
+        return len(self._places(word)) > 0
+
+    def __getitem__(self, word: AnyWord) -> float:
+        """The value of a word, in whichever way it is written: 0.0 where it is not listed."""
+        return self.get(word, 0.0)
+
+    @overload
+    def get(self, word: AnyWord) -> float | None: ...
+
+    @overload
+    def get(self, word: AnyWord, default: _Default) -> float | _Default: ...
+
+    def get(self, word: AnyWord, default: object = None) -> object:
+        """The value of a word, or the default where it is not listed."""
+        places = self._places(word)
+        if len(places) > 1:
+            raise InputError(
+                f"the word {site_text(lanes_of(word, self.n))} is listed in places"
+                f" {' and '.join(map(str, places[:2].tolist()))}: it has no one value, and a loop over the"
+                " terms shows all"
+            )
+        return float(self.values[places[0]]) if len(places) else default
+
+    def _places(self, word: AnyWord) -> NDArray[np.intp]:
+        return places_of(word, self.words, self.n)
+
+    def __iter__(self) -> Iterator[tuple[Word, float]]:
         """(word, value), one after another."""
         for lanes, value in zip(self.words.tolist(), self.values.tolist()):
             yield made(lanes, self.n), value
@@ -49,10 +96,14 @@ class Terms:
         """The largest magnitude; 0 where there are no words."""
         return float(abs(self.values).max(initial=0.0))
 
-    def __str__(self):
+    def __str__(self) -> str:
         shown = [(word.by_site, value) for word, value in self]
         width = max((len(text) for text, _ in shown), default=0)
         return "\n".join(f"{text:{width}}  {' ' * (value >= 0)}{value!r}" for text, value in shown)
 
-    def __repr__(self):
+    def __repr__(self) -> str:
         return f"Terms of {_given.counted(len(self), 'word')} on {qubits(self.n)}"
+
+
+# The ways to give words with a value each.
+AnyTerms = Union[Terms, Mapping[str, float], Mapping[Word, float], Iterable[tuple[AnyWord, float]]]

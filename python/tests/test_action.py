@@ -3,11 +3,18 @@
 """The action of a model on words, against full matrices."""
 import random
 import unittest
+import warnings
 
 import numpy as np
 
 import dense
-from pebblelinen import Model, Word
+from pebblelinen import Model, NotPositive, Word
+
+
+def setUpModule():
+    # Random matrices need not be positive.
+    unittest.enterModuleContext(warnings.catch_warnings())
+    warnings.simplefilter("ignore", NotPositive)
 
 
 class Action(unittest.TestCase):

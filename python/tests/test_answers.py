@@ -45,7 +45,7 @@ class LongOperators(test_refusals.Case):
         said = "operator 1 of matrix 0 has 17 terms: at most 16"
         path = ("matrices", 0, "operators", 1)
         self.refused(8, values | {"operator": 1}, said, model(np.eye(2), 16, 17), path)
-        said = "matrix 0: K[0][0] is not the conjugate of K[0][0]"
+        said = "matrix 0: K[0][0] is 1j, and an entry on the diagonal must be real"
         values = {"matrix": 0, "row": 0, "column": 0}
         self.refused(10, values, said, model([[1j]], 17), ("matrices", 0, "k", 0, 0))
         needed = "0, or 2^-200 to 2^200 in magnitude, is needed"
@@ -104,16 +104,27 @@ class Rows(test_refusals.Case):
         sound = csr(3, [0, 2, 2, 3], [0, 2, 1])
         said = "position 3 is outside the matrix of 3 rows"
         self.refused(7, {"position": Position(3)}, said, lambda: row(sound, position=3))
-        for wrong, table, place in [
-            (csr(1, [2, 3], [0, 0, 0]), "offsets", 0),
-            (csr(3, [0, 2, 1, 3], [3, 3, 3]), "offsets", 2),
-            (csr(3, [0, 2, 2, 2], [0, 2, 1]), "offsets", 3),
-            (csr(3, [0, -1, 2, 3], [0, 2, 1]), "offsets", 2),
-            (csr(3, [0, 2, 2, 3], [2, 2, 1]), "columns", 1),
-            (csr(3, [0, 2, 2, 3], [0, 3, 1]), "columns", 1),
-            (csr(3, [0, 2, 2, 3], [0, 2, -1]), "columns", 2),
+        begins = "indptr begins with 0, never falls, and ends with 3, the number of entries"
+        rise = "columns must rise in every row, and matrix.sum_duplicates() sorts them and adds up what comes twice"
+        for wrong, table, place, said in [
+            (csr(1, [2, 3], [0, 0, 0]), "offsets", 0, f"indptr[0] of the matrix is 2: {begins}"),
+            (csr(3, [0, 2, 1, 3], [3, 3, 3]), "offsets", 2, f"indptr[2] of the matrix is 1: {begins}"),
+            (csr(3, [0, 2, 2, 2], [0, 2, 1]), "offsets", 3, f"indptr[3] of the matrix is 2: {begins}"),
+            (csr(3, [0, -1, 2, 3], [0, 2, 1]), "offsets", 2, f"indptr[2] of the matrix is 2: {begins}"),
+            (
+                csr(3, [0, 2, 2, 3], [2, 2, 1]),
+                "columns",
+                1,
+                f"indices[1] of the matrix is 2, after 2 in the same row: {rise}",
+            ),
+            (csr(3, [0, 2, 2, 3], [0, 3, 1]), "columns", 1, "indices[1] of the matrix is 3: from 0 to 2 is needed"),
+            (
+                csr(3, [0, 2, 2, 3], [0, 2, -1]),
+                "columns",
+                2,
+                "indices[2] of the matrix is below 0 or above 2^31 - 1: from 0 to 2 is needed",
+            ),
         ]:
-            said = f"place {place} of the {table} holds what it must not"
             for position in 0, 9:
                 call = lambda: row(wrong, position=position)  # noqa: E731
                 self.refused(7, {"table": table, "place": place}, said, call)
@@ -139,11 +150,11 @@ class Rows(test_refusals.Case):
             row(made, position=0)
             self.assertEqual(call.call_count, 3)
         made.indices[1] = 3
-        said = "place 1 of the columns holds what it must not"
+        said = "indices[1] of the matrix is 3: from 0 to 2 is needed"
         self.refused(7, {"table": "columns", "place": 1}, said, lambda: row(made, position=0))
         made.indices[1] = 2
         made.indptr[1] = 4
-        said = "place 2 of the offsets holds what it must not"
+        said = "indptr[2] of the matrix is 2: indptr begins with 0, never falls, and ends with 3, the number of entries"
         self.refused(7, {"table": "offsets", "place": 2}, said, lambda: row(made, position=0))
 
     def test_what_is_remembered_goes_with_the_matrix(self):

@@ -6,11 +6,18 @@ import pickle
 import random
 import threading
 import unittest
+import warnings
 
 import numpy as np
 
 import dense
-from pebblelinen import Basis, Entry, InputError, Model, Position, Terms, Word
+from pebblelinen import Basis, Entry, InputError, Model, NotPositive, Position, Terms, Word
+
+
+def setUpModule():
+    # Random matrices need not be positive.
+    unittest.enterModuleContext(warnings.catch_warnings())
+    warnings.simplefilter("ignore", NotPositive)
 
 
 def pruned(entries, drop_tol, protected):

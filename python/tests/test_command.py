@@ -5,6 +5,7 @@ import contextlib
 import io
 import json
 import os
+import signal
 import subprocess
 import sys
 import tempfile
@@ -87,7 +88,7 @@ class Commands(Case):
             out.splitlines(),
             [
                 "Model of 3 qubits: 2 Hamiltonian terms, 1 jump, 0 pairs",
-                "basis: 2 positions, 1 protected word",
+                "basis: 2 positions, 1 protected word; room for 8 words more",
                 "",
                 "leakage: 2 words, largest 2.0",
                 "  I0      0.5",
@@ -95,7 +96,8 @@ class Commands(Case):
             ],
         )
         answer = self.json("leakage", self.path, "--max-basis", "3", "--tau-add", "0.1")
-        self.assertEqual(answer, {"qubits": 3, "largest": 2.0, "terms": [{"word": "Y0 X1", "value": 2.0}]})
+        terms = [{"word": "Y0 X1", "value": 2.0}]
+        self.assertEqual(answer, {"qubits": 3, "room": 1, "full": True, "largest": 2.0, "terms": terms})
         answer = self.json("leakage", self.path, "--max-basis", "2", "--admit-basis", "4")
         self.assertEqual(len(answer["terms"]), 2)
 
@@ -115,6 +117,10 @@ class Commands(Case):
             status, about, _ = self.run_command(name, "--help")
             self.assertEqual(status, 0)
             self.assertTrue(name == "demo" or "[hamiltonian]" in about)
+
+    def test_version(self):
+        self.assertRegex(pebblelinen.__version__, r"^\d+\.\d+\.\d+$")
+        self.assertEqual(self.run_command("--version"), (0, f"pebblelinen {pebblelinen.__version__}\n", ""))
 
     def test_the_demo_model_can_be_read(self):
         self.write(self.answered("demo", "--model"))
@@ -179,7 +185,7 @@ class Errors(Case):
         environment = {**os.environ, "PEBBLELINEN_LIBRARY": self.path + "x"}
         ran = self.process("action", self.path, env=environment)
         self.assertEqual(ran.returncode, 2)
-        self.assertIn("run tools/build-shared", ran.stderr)
+        self.assertIn(f"no shared object at {self.path}x: PEBBLELINEN_LIBRARY is to name one", ran.stderr)
         environment["PEBBLELINEN_LIBRARY"] = self.path
         ran = self.process("action", self.path, env=environment)
         self.assertIn("cannot be loaded", ran.stderr)
@@ -201,6 +207,41 @@ class Errors(Case):
         self.assertEqual((ran.returncode, ran.stderr), (0, ""))
         self.assertEqual(self.process("action", self.path, "z0").returncode, 1)
         self.assertEqual(self.process("action", self.path, os.fsdecode(b"\xff")).returncode, 1)
+
+
+class Readers(Case):
+    """Readers that have gone, as head does: the command ends as other programs do, and says nothing."""
+
+    def start(self, *arguments, out):
+        python = Path(pebblelinen.__file__).resolve().parent.parent
+        return subprocess.Popen(
+            [sys.executable, "-m", "pebblelinen", *arguments],
+            env={**os.environ, "PYTHONPATH": str(python)},
+            stdout=out,
+            stderr=subprocess.PIPE,
+            text=True,
+        )
+
+    def ended_quietly(self, process):
+        self.assertEqual(process.stderr.read(), "")
+        self.assertEqual(process.wait(60), -signal.SIGPIPE)
+        process.stderr.close()
+
+    def test_after_a_line(self):
+        # More than a pipe holds.
+        process = self.start("action", self.path, *["Z0"] * 2000, out=subprocess.PIPE)
+        self.assertEqual(process.stdout.readline(), "Model of 3 qubits: 2 Hamiltonian terms, 1 jump, 0 pairs\n")
+        process.stdout.close()
+        self.ended_quietly(process)
+
+    def test_before_the_first_line(self):
+        for arguments in ["action", self.path], ["action", self.path, "--json"], ["demo", "--model"]:
+            with self.subTest(arguments):
+                reader, writer = os.pipe()
+                os.close(reader)
+                process = self.start(*arguments, out=writer)
+                os.close(writer)
+                self.ended_quietly(process)
 
 
 class Progress(unittest.TestCase):

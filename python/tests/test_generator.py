@@ -3,6 +3,7 @@
 """Generators, their products, norms and degrees, against full matrices and the rules written plainly."""
 import random
 import unittest
+import warnings
 from unittest import mock
 
 import numpy as np
@@ -13,9 +14,15 @@ import dense
 import pebblelinen.model
 import test_command
 import test_refusals
-from pebblelinen import Basis, Choice, InputError, Model, Position, demo, product, row, select_ms
+from pebblelinen import Basis, Choice, InputError, Model, NotPositive, Position, demo, product, row, select_ms
 
 NAN, INF = float("nan"), float("inf")
+
+
+def setUpModule():
+    # Random matrices need not be positive.
+    unittest.enterModuleContext(warnings.catch_warnings())
+    warnings.simplefilter("ignore", NotPositive)
 
 
 def everything(n):

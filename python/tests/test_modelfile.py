@@ -100,13 +100,14 @@ class Files(unittest.TestCase):
             GOOD.replace('"Z1"', '"z1"'),
             3,
             "jumps[1].operator",
-            "term 0 of jump 1: byte 122 ('z') at place 1 of the word 'z1' is not I, X, Y or Z",
+            "term 0 of jump 1: byte 122 ('z') at qubit 1 of the word 'z1' is not I, X, Y or Z; letters are capitals:"
+            " 'Z1'",
         )
         self.refused(
             GOOD.replace('"X0 Y1" =', '"xy" ='),
             3,
             'basis."xy"',
-            "byte 120 ('x') at place 0 of the word 'xy' is not I, X, Y or Z",
+            "byte 120 ('x') at place 0 of the word 'xy' is not I, X, Y or Z; letters are capitals: 'XY'",
         )
 
     def test_a_key_twice(self):
@@ -154,7 +155,8 @@ class Files(unittest.TestCase):
 
     def test_matrices(self):
         text = GOOD.replace('"-0.5j"', '"0.5j"')
-        self.refused(text, 10, "matrices[0].k[0][1]", "matrix 0: K[0][1] is not the conjugate of K[1][0]")
+        said = "matrix 0: K[0][1] is not the conjugate of K[1][0]: they are 0.5j and 0.5j; where that is an error of"
+        self.refused(text, 10, "matrices[0].k[0][1]", f"{said} the measurement, give (K + K.conj().T) / 2")
         text = GOOD.replace(', [0, 0, "2"]]', "]")
         said = "matrix 0 has 6 entries in K (2 rows of 3), in place of 9 for 3 operators (3 rows of 3)"
         self.refused(text, 9, "matrices[0].k", said)

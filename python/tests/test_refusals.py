@@ -70,7 +70,7 @@ class Words(Case):
         self.refused(
             3,
             {"byte": 120, "place": 0},
-            "byte 120 ('x') at place 0 of the word 'xZ' is not I, X, Y or Z",
+            "byte 120 ('x') at place 0 of the word 'xZ' is not I, X, Y or Z; letters are capitals: 'XZ'",
             lambda: Word("xZ", n=2),
         )
 
@@ -101,6 +101,7 @@ class Models(Case):
         said = "Hamiltonian item 2: the word 'XXX' has 3 letters, and the register has 2 qubits"
         self.refused(2, {"item": 2, "expected": 2, "got": 3}, said, model("XXX"), path)
         said = "Hamiltonian item 2: byte 122 ('z') at place 1 of the word 'Xz' is not I, X, Y or Z"
+        said += "; letters are capitals: 'XZ'"
         self.refused(3, {"item": 2, "byte": 122, "place": 1}, said, model("Xz"), path)
         for x in NAN, INF, -INF, 2.0**201, 2.0**-201:
             said = f"Hamiltonian item 2 has the number {x}: 0, or 2^-200 to 2^200 in magnitude, is needed"
@@ -140,13 +141,15 @@ class Models(Case):
         said = "matrix 1 has 3 entries in K (1 row of 3), in place of 4 for 2 operators (2 rows of 2)"
         values = {"matrix": 1, "needed": 4, "given": 3}
         self.refused(9, values, said, model(PAIR, [[1, 2, 3]]), (*path, "k"))
-        said = "matrix 1: K[0][1] is not the conjugate of K[1][0]"
+        said = "matrix 1: K[0][1] is not the conjugate of K[1][0]: they are 1j and 1j; where that is an error of the"
+        said += " measurement, give (K + K.conj().T) / 2"
         values = {"matrix": 1, "row": 0, "column": 1}
         self.refused(10, values, said, model(PAIR, [[1, 1j], [1j, 1]]), (*path, "k", 0, 1))
         said = "matrix 1: K[1][0] is (nan+0j): 0, or 2^-200 to 2^200 in magnitude, is needed"
         values = {"matrix": 1, "place": 2, "row": 1, "column": 0}
         self.refused(7, values, said, model(PAIR, [[1, 0], [NAN, 1]]), (*path, "k", 1, 0))
-        said = "matrix 1 has 65 operators: at most 64"
+        said = "matrix 1 has 65 operators: at most 64; K can be split: pebblelinen.split_matrix(operators, K) gives"
+        said += " matrices that add up to it"
         values = {"matrix": 1, "count": 65, "limit": 64}
         self.refused(8, values, said, model(["X0"] * 65, np.zeros((65, 65))), (*path, "operators"))
         said = "the model has 4163 jumps and pairs: at most 4096"

@@ -63,7 +63,12 @@ class Words(unittest.TestCase):
         self.assertEqual(copy.deepcopy(word), word)
         with self.assertRaises(AttributeError):
             word.n = 3
-        self.assertNotEqual(word, "X0")
+        self.assertNotEqual(word, None)
+        for text in "X0", "XI", "Z0", "no word", {0: "X"}:
+            for compare in (lambda: word == text), (lambda: text != word), (lambda: word in [text]):
+                said = r"is no Word: compare with Word\(.*, n=2\), or compare word.by_site or word.text"
+                with self.assertRaisesRegex(InputError, said):
+                    compare()
 
     def test_what_is_no_word(self):
         for given in [
