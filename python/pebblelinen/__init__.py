@@ -12,6 +12,7 @@ proved to give it; this package carries numbers in and out.
 """
 from .basis import Basis, Entry
 from .errors import CAUSES, InputError, LibraryMissing, PebblelinenError, Refusal
+from .items import Jump, Matrix
 from .matrix import Choice, product, row, select_ms
 from .model import Degree, Model, Norm
 from .modelfile import ModelFile, load
@@ -25,7 +26,9 @@ __all__ = [
     "Degree",
     "Entry",
     "InputError",
+    "Jump",
     "LibraryMissing",
+    "Matrix",
     "Model",
     "ModelFile",
     "Norm",

@@ -5,14 +5,25 @@ item that is to blame.
 
 The library says by which cause and index it refused. Which item has the text or the number that is meant is
 found by asking it again about one item at a time."""
-from collections.abc import Mapping
+import bisect
+import itertools
+from collections.abc import Callable, Mapping, Sequence
+from dataclasses import dataclass
+from typing import Any
 
 import numpy as np
+from numpy.typing import NDArray
 
-from . import _given, _library, words
+from . import _given, _library, _texts, words
 from ._tables import work_tables, zeros
 from .errors import CAUSES, InputError, Refusal
+from .items import Added
 from .words import Word
+
+# The way to an item: keys and places.
+Path = tuple[Any, ...]
+# The library's tables by their names.
+Tables = dict[str, NDArray[Any]]
 
 TABLES = "h_words h_coeffs jumps rates t_words t_numbers".split()
 _LANES = {"h_words", "jumps", "t_words"}
@@ -26,67 +37,144 @@ _LIMITS = {"hamiltonian": 4096, "jumps": 4096, "terms": 16, "operators": 64}
 # ---- what was given ----
 
 
-def hamiltonian_of(given, n, path=("hamiltonian",)):
-    """(text, number, word as given) of each item."""
+@dataclass(frozen=True)
+class Items:
+    """Words as they were given, with a number each, and what each item is called, with the way to it."""
+
+    words: Sequence[Any]
+    numbers: NDArray[Any]
+    named: _texts.Named
+
+    def __len__(self) -> int:
+        return len(self.words)
+
+    def part(self, start: int, end: int) -> "Items":
+        """Those from one place to before another."""
+        return Items(self.words[start:end], self.numbers[start:end], lambda i: self.named(start + i))
+
+
+@dataclass(frozen=True)
+class Operators:
+    """Operators: how many terms each has, and the terms of all, one after another."""
+
+    counts: NDArray[np.uint64]
+    terms: Items
+
+    def __len__(self) -> int:
+        return len(self.counts)
+
+    def part(self, start: int, end: int) -> "Operators":
+        first, last = int(self.counts[:start].sum()), int(self.counts[:end].sum())
+        return Operators(self.counts[start:end], self.terms.part(first, last))
+
+    def longest(self) -> int:
+        return int(self.counts.max(initial=0))
+
+
+@dataclass(frozen=True)
+class Jumps:
+    """The rate and the operator of each jump."""
+
+    rates: NDArray[np.float64]
+    operators: Operators
+
+    def __len__(self) -> int:
+        return len(self.rates)
+
+    def part(self, start: int, end: int) -> "Jumps":
+        return Jumps(self.rates[start:end], self.operators.part(start, end))
+
+
+@dataclass(frozen=True)
+class Matrix:
+    """The operators of a matrix, the entries of K, row by row, and how many each row has."""
+
+    operators: Operators
+    entries: list[complex]
+    rows: list[int]
+
+
+def hamiltonian_of(given: Any, path: Path = ("hamiltonian",)) -> Items:
     items = _given.pairs(given, "Hamiltonian item", path)
-    return [
-        (
-            words.bytes_of(word, n, (*path, i)),
-            _given.real(x, f"the number of Hamiltonian item {i}", (*path, i)),
-            word,
-        )
-        for i, (word, x) in enumerate(items)
-    ]
+    return _items(items, lambda i: (f"Hamiltonian item {i}", (*path, i)), np.float64)
 
 
-def jumps_of(given, n, path=("jumps",)):
-    """(rate, terms) of each jump."""
+def jumps_of(given: Any, path: Path = ("jumps",)) -> Jumps:
     items = _given.pairs(_listed_only(given, "jumps", path), "jump", path)
-    return [
-        (
-            _given.real(rate, f"the rate of jump {i}", (*path, i, "rate")),
-            operator_of(operator, n, (*path, i, "operator")),
-        )
-        for i, (rate, operator) in enumerate(items)
-    ]
+    rates = [rate for rate, _ in items]
+    if not set(map(type, rates)) <= {float}:
+        rates = [
+            _given.real(rate, f"the rate of jump {i}", (*path, i, "rate")) for i, rate in enumerate(rates)
+        ]
+    listed = [operator for _, operator in items]
+    operators = operators_of(listed, lambda i: (*path, i, "operator"))
+    return Jumps(np.array(rates, np.float64), operators)
 
 
-def matrices_of(given, n, path=("matrices",)):
-    """(operators, K, lengths of K's rows) of each matrix; K is flat."""
-    found = []
-    for i, (operators, k) in enumerate(_given.pairs(_listed_only(given, "matrices", path), "matrix", path)):
-        where = (*path, i, "operators")
-        listed = _given.listed(_listed_only(operators, "operators", where), "operators", where)
-        terms = [operator_of(operator, n, (*where, j)) for j, operator in enumerate(listed)]
-        found.append((terms, *entries_of(k, len(terms), (*path, i, "k"))))
-    return found
+def matrices_of(given: Any, path: Path = ("matrices",)) -> list[Matrix]:
+    items = _given.pairs(_listed_only(given, "matrices", path), "matrix", path)
+    return [matrix_of(operators, k, (*path, i)) for i, (operators, k) in enumerate(items)]
 
 
-def _listed_only(given, what, path):
+def matrix_of(operators: Any, k: Any, path: Path) -> Matrix:
+    where = (*path, "operators")
+    listed = _given.listed(_listed_only(operators, "operators", where), "operators", where)
+    terms = operators_of(listed, lambda j: (*where, j))
+    return Matrix(terms, *entries_of(k, len(terms), (*path, "k")))
+
+
+def _listed_only(given: Any, what: str, path: Path) -> Any:
     if isinstance(given, Mapping):
         raise InputError(f"{what} is a mapping: a list is needed", path)
     return given
 
 
-def operator_of(given, n, path):
-    """(text, number, word as given) of each term. A word alone is an operator of one term with the
-    number 1."""
-    alone = isinstance(given, (str, Word)) or (
-        isinstance(given, Mapping) and given and not any(isinstance(k, (str, Word)) for k in given)
-    )
-    if alone:
-        return [(words.bytes_of(given, n, path), 1 + 0j, given)]
-    return [
-        (
-            words.bytes_of(word, n, (*path, i)),
-            _given.number(x, f"the number of term {i}", (*path, i)),
-            word,
-        )
-        for i, (word, x) in enumerate(_given.pairs(given, "term", path))
-    ]
+def operators_of(given: list[Any], path_of: Callable[[int], Path]) -> Operators:
+    """The operators of a list, to each of which path_of says the way."""
+    counts: list[int] = []
+    items: list[Any] = []
+    for i, operator in enumerate(given):
+        if type(operator) is not list and type(operator) is not tuple:
+            operator = _operator(operator, path_of(i))
+        counts.append(len(operator))
+        items += operator
+
+    ends = list(itertools.accumulate(counts))
+
+    def named(place: int) -> tuple[str, Path]:
+        i = bisect.bisect_right(ends, place)
+        j = place - ends[i] + counts[i]
+        return f"term {j}", (*path_of(i), j)
+
+    return Operators(np.fromiter(counts, np.uint64, len(counts)), _items(items, named, np.complex128))
 
 
-def entries_of(given, k, path):
+def _operator(given: Any, path: Path) -> list[Any]:
+    """The terms of an operator. A word alone is an operator of one term with the number 1."""
+    if isinstance(given, Mapping):
+        alone = given and not isinstance(next(iter(given)), (str, Word))
+        return [(given, 1 + 0j)] if alone else list(given.items())
+    if isinstance(given, (str, Word)):
+        return [(given, 1 + 0j)]
+    return _given.listed(given, "term", path)
+
+
+def _items(items: list[Any], named: _texts.Named, kind: type) -> Items:
+    """The items of a list of pairs, each of which has a name and a way to it."""
+    place = _given.unpaired(items)
+    if place is not None:
+        raise _given.no_pair(items[place], *named(place))
+    words_, numbers = [word for word, _ in items], [x for _, x in items]
+    read, plain = (_given.real, {float}) if kind is np.float64 else (_given.number, {float, complex})
+    if not set(map(type, numbers)) <= plain:
+        numbers = [
+            read(x, f"the number of {what}", path)
+            for x, (what, path) in zip(numbers, map(named, range(len(numbers))))
+        ]
+    return Items(words_, np.fromiter(numbers, kind, len(numbers)), named)
+
+
+def entries_of(given: Any, k: int, path: Path) -> tuple[list[complex], list[int]]:
     """The entries of K, row by row, and how many each row has. As many rows as operators are asked for, of as
     many entries each: the library sees only how many entries there are, and judges that."""
     if isinstance(given, np.ndarray) and given.dtype.kind in "fciu":
@@ -103,7 +191,7 @@ def entries_of(given, k, path):
     return entries, lengths
 
 
-def _rows_said(lengths):
+def _rows_said(lengths: Sequence[int]) -> str:
     """The rows of K, in few words, however many they are."""
     if len(set(lengths)) < 2:
         each = f" of {lengths[0]}" if lengths else ""
@@ -112,33 +200,24 @@ def _rows_said(lengths):
     return f"rows of {', '.join(map(str, lengths[:8]))}{more}"
 
 
-def flat(operators):
-    """Counts of terms and their numbers, and the texts of the terms."""
-    terms = [term for operator in operators for term in operator]
-    counts = np.array([len(operator) for operator in operators], np.uint64)
-    return [text for text, *_ in terms], counts, _given.parts([x for _, x, _ in terms])
-
-
-def joined(texts):
-    """The bytes of all texts, and the length of each."""
-    bytes_ = np.concatenate(texts) if texts else np.zeros(0, np.uint8)
-    return bytes_, np.array([len(text) for text in texts], np.uint64)
+NO_ITEMS = hamiltonian_of(())
+NO_JUMPS = jumps_of(())
 
 
 # ---- the library's tables ----
 
 
-def build(n, hamiltonian, jumps):
+def build(n: int, hamiltonian: Items, jumps: Jumps) -> tuple[Any, Tables]:
     """The answer and the tables of a model."""
-    longest = max((len(terms) for _, terms in jumps), default=0)
-    sizes = _library.call("model_sizes", len(hamiltonian), len(jumps), longest)
-    texts, counts, numbers = flat([terms for _, terms in jumps])
+    operators = jumps.operators
+    terms = operators.terms
+    sizes = _library.call("model_sizes", len(hamiltonian), len(jumps), operators.longest())
     given = [
-        *joined([text for text, *_ in hamiltonian] + texts),
-        np.array([x for _, x, _ in hamiltonian], np.float64),
-        np.array([rate for rate, _ in jumps], np.float64),
-        counts,
-        numbers,
+        *_texts.joined((hamiltonian, terms), n),
+        hamiltonian.numbers,
+        jumps.rates,
+        operators.counts,
+        terms.numbers.view(np.float64),
     ]
     tables = {name: _table(name, getattr(sizes, name)) for name in TABLES}
     with work_tables() as work:
@@ -146,18 +225,39 @@ def build(n, hamiltonian, jumps):
     return built, tables
 
 
-def add_matrix(counts, tables, operators, entries):
+def add_matrix(counts: Any, tables: Tables, matrix: Matrix) -> tuple[Any, Tables]:
     """The answer and the tables, which become longer where they must."""
-    longest = max((len(terms) for terms in operators), default=0)
-    sizes = _library.call("matrix_sizes", len(operators), longest)
+    operators = matrix.operators
+    sizes = _library.call("matrix_sizes", len(operators), operators.longest())
     tables = {name: _longer(name, tables[name], counts, getattr(sizes, name)) for name in TABLES}
-    texts, term_counts, numbers = flat(operators)
-    given = [*joined(texts), term_counts, numbers, _given.parts(entries)]
+    terms = operators.terms
+    given = [
+        *_texts.joined((terms,), counts.qubits),
+        operators.counts,
+        terms.numbers.view(np.float64),
+        _given.parts(matrix.entries),
+    ]
     with work_tables() as work:
         added = _library.call(
             "add_kossakowski", counts, *given, *tables.values(), *_lent(work, sizes)
         )
     return added, tables
+
+
+def with_matrices(
+    counts: Any, tables: Tables, matrices: Sequence[Matrix], first: int
+) -> tuple[Any, Tables, tuple[Added, ...]]:
+    """Counts and tables with matrices added, the first of which is counted so, and where each was added."""
+    found = []
+    for i, matrix in enumerate(matrices, first):
+        added, tables = add_matrix(counts, tables, matrix)
+        if added.status.refusal:
+            raise matrix_refusal(added.status, counts.qubits, i, counts.jumps, matrix, tables)
+        k = np.array(matrix.entries, np.complex128).reshape(2 * [len(matrix.operators)])
+        k.flags.writeable = False
+        found.append(Added(counts.jumps, counts.terms, matrix.operators.counts, k))
+        counts = added.model
+    return counts, tables, tuple(found)
 
 
 def _lent(work, sizes):
@@ -185,57 +285,67 @@ def _longer(name, table, counts, more):
     return made
 
 
-def trimmed(tables, counts):
-    """The places in use, so that a model holds no more than it needs."""
-    return {name: table[: _in_use(name, counts)].copy() for name, table in tables.items()}
+def trimmed(tables: Tables, counts: Any) -> Tables:
+    """The places in use, to be read only. A table of which less than half is in use is copied, so that a model
+    does not hold much more than it needs."""
+    used = {name: table[: _in_use(name, counts)] for name, table in tables.items()}
+    used = {name: table if 2 * len(table) >= len(tables[name]) else table.copy() for name, table in used.items()}
+    for table in used.values():
+        table.flags.writeable = False
+    return used
 
 
 # ---- refusals ----
 
 
-def model_refusal(status, n, hamiltonian, jumps, tables):
+def model_refusal(status: Any, n: int, hamiltonian: Items, jumps: Jumps, tables: Tables) -> Refusal:
     """The refusal of building."""
     number, first = status.refusal, status.first
     if number == 1:
         return words.text_refusal(status, "", n, ("n",))
     if number == 9:
-        longest = max((len(terms) for _, terms in jumps), default=0)
-        sizes = _library.call("model_sizes", len(hamiltonian), len(jumps), longest)
+        sizes = _library.call("model_sizes", len(hamiltonian), len(jumps), jumps.operators.longest())
         needs = dict(h_words=len(hamiltonian), h_coeffs=len(hamiltonian), jumps=len(jumps), rates=len(jumps))
         return _short_table(status, "the model", needs, tables, sizes, {}, ())
     if number == 8:
-        for what, items in ("hamiltonian", hamiltonian), ("jumps", jumps):
-            if len(items) > _LIMITS[what]:
+        for what, count in ("hamiltonian", len(hamiltonian)), ("jumps", len(jumps)):
+            if count > _LIMITS[what]:
                 return _count(first, what, "the model", {}, (what,))
-    for i, item in enumerate(hamiltonian):
-        if build(n, [item], [])[0].status.refusal:
-            return _hamiltonian_refusal(status, n, i, item)
-    for i, (rate, terms) in enumerate(jumps):
-        if build(n, [], [(rate, terms)])[0].status.refusal:
-            return _jump_refusal(status, n, i, rate, terms)
+    for i in range(len(hamiltonian)):
+        item = hamiltonian.part(i, i + 1)
+        if build(n, item, NO_JUMPS)[0].status.refusal:
+            return hamiltonian_refusal(status, n, i, item)
+    for i in range(len(jumps)):
+        jump = jumps.part(i, i + 1)
+        if build(n, NO_ITEMS, jump)[0].status.refusal:
+            return jump_refusal(status, n, i, jump)
     return _unexplained(status, "the model")
 
 
-def _hamiltonian_refusal(status, n, i, item):
-    _, x, word = item
+def hamiltonian_refusal(status: Any, n: int, i: int, item: Items) -> Refusal:
+    """The refusal of Hamiltonian item i."""
+    (word,), (x,) = item.words, item.numbers.tolist()
     what, path = f"Hamiltonian item {i}", ("hamiltonian", i)
     if status.refusal == 7:
         return Refusal(7, f"{what} has the number {x}: {_RANGE}", {"item": i}, path)
     return _text_refusal(status, word, n, what, {"item": i}, path)
 
 
-def _jump_refusal(status, n, i, rate, terms):
+def jump_refusal(status: Any, n: int, i: int, jump: Jumps) -> Refusal:
+    """The refusal of jump i."""
+    (rate,) = jump.rates.tolist()
     what, path, values = f"jump {i}", ("jumps", i), {"jump": i}
     if status.refusal == 5:
         return Refusal(5, f"{what} has the rate {rate}, below 0", values, (*path, "rate"))
-    sound = [(np.frombuffer(b"I" * n, np.uint8), 1, None)]
-    if build(n, [], [(rate, sound)])[0].status.refusal:
+    sound = operators_of([words.made((0, 0, 0, 0), n)], lambda i: ())
+    if build(n, NO_ITEMS, Jumps(jump.rates, sound))[0].status.refusal:
         return Refusal(7, f"{what} has the rate {rate}: {_RANGE}", values, (*path, "rate"))
-    return _operator_refusal(status, n, what, terms, values, (*path, "operator"))
+    return _operator_refusal(status, n, what, jump.operators.terms, values, (*path, "operator"))
 
 
-def matrix_refusal(status, n, i, before, operators, entries, rows, tables):
+def matrix_refusal(status: Any, n: int, i: int, before: int, matrix: Matrix, tables: Tables) -> Refusal:
     """The refusal of matrix i, which was added to `before` jumps and pairs."""
+    operators, entries, rows = matrix.operators, matrix.entries, matrix.rows
     number, first, second = status.refusal, status.first, status.second
     what, values, path = f"matrix {i}", {"matrix": i}, ("matrices", i)
     k = len(operators)
@@ -245,7 +355,7 @@ def matrix_refusal(status, n, i, before, operators, entries, rows, tables):
         values |= {"needed": first, "given": second}
         return Refusal(9, f"{what} has {given}, in place of {needed}", values, (*path, "k"))
     if number == 9:
-        sizes = _library.call("matrix_sizes", k, max((len(terms) for terms in operators), default=0))
+        sizes = _library.call("matrix_sizes", k, operators.longest())
         needs = dict.fromkeys(("jumps", "rates"), min(_LIMITS["jumps"], before + k * (k + 1) // 2))
         return _short_table(status, what, needs, tables, sizes, values, path)
     if number == 10:
@@ -253,25 +363,26 @@ def matrix_refusal(status, n, i, before, operators, entries, rows, tables):
         return Refusal(10, said, values | {"row": first, "column": second}, (*path, "k", first, second))
     if number == 8 and k > _LIMITS["operators"]:
         return _count(first, "operators", what, values, (*path, "operators"))
-    if number == 7 and _alone(n, operators, [0j] * (k * k)) != 7:
+    if number == 7 and _alone(n, Matrix(operators, [0j] * (k * k), [k] * k)) != 7:
         row, column = divmod(first, k)
         values |= {"place": first, "row": row, "column": column}
         said = f"{what}: K[{row}][{column}] is {entries[first]}: {_RANGE}"
         return Refusal(7, said, values, (*path, "k", row, column))
-    for j, terms in enumerate(operators):
-        if _alone(n, [terms], [0j]):
+    for j in range(k):
+        operator = operators.part(j, j + 1)
+        if _alone(n, Matrix(operator, [0j], [1])):
             values |= {"operator": j}
             where = (*path, "operators", j)
-            return _operator_refusal(status, n, f"operator {j} of {what}", terms, values, where)
+            return _operator_refusal(status, n, f"operator {j} of {what}", operator.terms, values, where)
     if number == 8:
         return _count(first, "jumps", "the model", values, path)
     return _unexplained(status, what)
 
 
-def _alone(n, operators, entries):
+def _alone(n: int, matrix: Matrix) -> int:
     """The number by which a matrix is refused that is added to an empty model, or 0."""
-    built, tables = build(n, [], [])
-    return add_matrix(built.model, tables, operators, entries)[0].status.refusal
+    built, tables = build(n, NO_ITEMS, NO_JUMPS)
+    return int(add_matrix(built.model, tables, matrix)[0].status.refusal)
 
 
 def _operator_refusal(status, n, what, terms, values, path):
@@ -280,9 +391,10 @@ def _operator_refusal(status, n, what, terms, values, path):
         return Refusal(6, f"{what} has no terms", values, path)
     if status.refusal == 8:
         return _count(status.first, "terms", what, values, path)
-    for j, term in enumerate(terms):
-        if build(n, [], [(0.0, [term])])[0].status.refusal:
-            _, x, word = term
+    for j in range(len(terms)):
+        term = terms.part(j, j + 1)
+        if build(n, NO_ITEMS, Jumps(np.zeros(1), Operators(np.ones(1, np.uint64), term)))[0].status.refusal:
+            (word,), (x,) = term.words, term.numbers.tolist()
             if status.refusal == 7:
                 said = f"term {j} of {what} has the number {x}: {_RANGE}"
                 return Refusal(7, said, values, (*path, j))

@@ -1,16 +1,18 @@
 # SPDX-FileCopyrightText: 2026 The PPVM Authors
 # SPDX-License-Identifier: Apache-2.0
 """A model of a device: what it does to words and bases."""
-from typing import NamedTuple
+import functools
+from typing import Any, NamedTuple
 
 import numpy as np
+from numpy.typing import NDArray
 
-from . import _building, _given, _library, matrix
+from . import _building, _given, _library, items, matrix
 from ._tables import MOST_TOUCHED, work_tables
 from .basis import MAX_WORDS, Basis, not_finite, refusal, too_short
 from .errors import InputError, Refusal
 from .terms import Terms
-from .words import AnyWord, Position, lanes_of, qubits, register, same_register, site_text, struct_of, table
+from .words import AnyWord, Position, lanes_of, made, qubits, register, same_register, site_text, struct_of, table
 
 # Positions that leakage takes in a pass.
 _PASS = 4096
@@ -32,6 +34,14 @@ class Degree(NamedTuple):
     mu: float
 
 
+def _place(given: int, count: int, what: str) -> int:
+    """A place among so many things of a kind."""
+    place = _given.whole(given, f"the place of a {what}")
+    if place >= count:
+        raise InputError(f"{what} {place} of a model with {count}, which are counted from 0")
+    return place
+
+
 class Model:
     """A model on a register of n qubits: Hamiltonian terms, jumps and Kossakowski matrices.
 
@@ -40,32 +50,35 @@ class Model:
     matrices      (operators, K) pairs, K Hermitian with a row for each operator
 
     An operator is (word, number) pairs, or a mapping, with complex numbers; a word alone has the number 1.
-    Words are texts, or letters by site; see pebblelinen.words. A model cannot be changed.
+    Words are texts, or letters by site; see pebblelinen.words. A model cannot be changed; `hamiltonian`,
+    `jumps` and `matrices` say what it was built from, in the form in which they can be given, and with_rate,
+    with_coefficient and with_k give another model, of which only the item that changes is read again.
     """
 
     def __init__(self, n: int, hamiltonian=(), jumps=(), matrices=()):
         n = register(n)
-        hamiltonian = _building.hamiltonian_of(hamiltonian, n)
-        jumps = _building.jumps_of(jumps, n)
-        matrices = _building.matrices_of(matrices, n)
-
-        built, tables = _building.build(n, hamiltonian, jumps)
+        given = _building.hamiltonian_of(hamiltonian), _building.jumps_of(jumps)
+        added = _building.matrices_of(matrices)
+        built, tables = _building.build(n, *given)
         if built.status.refusal:
-            raise _building.model_refusal(built.status, n, hamiltonian, jumps, tables)
-        counts = built.model
-        for i, (operators, entries, rows) in enumerate(matrices):
-            added, tables = _building.add_matrix(counts, tables, operators, entries)
-            if added.status.refusal:
-                before = counts.jumps
-                raise _building.matrix_refusal(added.status, n, i, before, operators, entries, rows, tables)
-            counts = added.model
+            raise _building.model_refusal(built.status, n, *given, tables)
+        self._hold(given[1].rates, *_building.with_matrices(built.model, tables, added, 0))
 
-        self.n = n
-        self.hamiltonian_terms = counts.hamiltonian
-        self.jumps = len(jumps)
-        self.pairs = counts.jumps - len(jumps)
+    def _hold(
+        self,
+        rates: NDArray[np.float64],
+        counts: Any,
+        tables: _building.Tables,
+        added: tuple[items.Added, ...],
+    ) -> None:
+        """Takes what was built: the rates as they were given, the library's counts and tables, and where
+        matrices were added."""
+        self.n: int = counts.qubits
+        self.pairs: int = counts.jumps - len(rates)
         self._counts = (counts.qubits, counts.hamiltonian, counts.jumps, counts.terms)
         self._tables = _building.trimmed(tables, counts)
+        self._rates = rates
+        self._added = added
         # Places to begin with: words that an action touches, candidates, and entries of a generator. They
         # grow where the library asks for more.
         self._touched = 256
@@ -73,9 +86,93 @@ class Model:
         self._entries = 0
 
     def __repr__(self):
-        terms = _given.counted(self.hamiltonian_terms, "Hamiltonian term")
-        jumps, pairs = _given.counted(self.jumps, "jump"), _given.counted(self.pairs, "pair")
+        terms = _given.counted(len(self.hamiltonian), "Hamiltonian term")
+        jumps, pairs = _given.counted(len(self._rates), "jump"), _given.counted(self.pairs, "pair")
         return f"Model of {qubits(self.n)}: {terms}, {jumps}, {pairs}"
+
+    # ---- what it was built from, and the same with another number ----
+
+    @property
+    def hamiltonian(self) -> Terms:
+        """The Hamiltonian terms as they were given."""
+        return Terms(self.n, self._tables["h_words"], self._tables["h_coeffs"])
+
+    @functools.cached_property
+    def jumps(self) -> tuple[items.Jump, ...]:
+        """The jumps as they were given: a rate and an operator each."""
+        return items.jumps(self.n, self._rates, self._tables)
+
+    @functools.cached_property
+    def matrices(self) -> tuple[items.Matrix, ...]:
+        """The Kossakowski matrices as they were given: operators and K each."""
+        return items.matrices(self.n, self._added, self._tables)
+
+    def with_coefficient(self, *, word: AnyWord, coefficient: float) -> "Model":
+        """The same model with another number at a word of its Hamiltonian."""
+        lanes = np.array(lanes_of(word, self.n), np.uint64)
+        places = np.flatnonzero((self.hamiltonian.words == lanes).all(axis=1)).tolist()
+        if len(places) != 1:
+            found = f"stands {len(places)} times" if places else "does not stand"
+            raise InputError(f"the word {site_text(lanes.tolist())} {found} in the Hamiltonian: once is needed")
+        (place,) = places
+        item = _building.hamiltonian_of([(made(lanes.tolist(), self.n), coefficient)])
+        built, tables = _building.build(self.n, item, _building.NO_JUMPS)
+        if built.status.refusal:
+            raise _building.hamiltonian_refusal(built.status, self.n, place, item)
+        return self._with("h_coeffs", place, tables, self._rates)
+
+    def with_rate(self, *, jump: int, rate: float) -> "Model":
+        """The same model with another rate of a jump, which is named by its place among the jumps."""
+        place = _place(jump, len(self._rates), "jump")
+        given = _building.jumps_of([(rate, self.jumps[place].operator)])
+        built, tables = _building.build(self.n, _building.NO_ITEMS, given)
+        if built.status.refusal:
+            raise _building.jump_refusal(built.status, self.n, place, given)
+        rates = self._rates.copy()
+        rates[place] = given.rates[0]
+        return self._with("rates", place, tables, rates)
+
+    def _with(self, name: str, place: int, built: _building.Tables, rates: NDArray[np.float64]) -> "Model":
+        """The same model but for one number of a table, which is the first of a model of one item that the
+        library built."""
+        table = self._tables[name].copy()
+        table[place] = built[name][0]
+        model = object.__new__(Model)
+        model._hold(rates, _library.Model(*self._counts), {**self._tables, name: table}, self._added)
+        return model
+
+    def with_k(self, *, matrix: int, k: Any) -> "Model":
+        """The same model with another K over the operators of a matrix, which is named by its place among the
+        matrices. This and later matrices are added anew."""
+        place = _place(matrix, len(self._added), "matrix")
+        later = self.matrices[place:]
+        ks = [k, *(each.k for each in later[1:])]
+        given = [
+            _building.matrix_of(each.operators, k, ("matrices", i))
+            for i, (each, k) in enumerate(zip(later, ks), place)
+        ]
+        before = self._added[place]
+        counts = _library.Model(*self._counts[:2], before.jumps, before.terms)
+        # The library writes where this model has its later matrices.
+        tables = {name: table.copy() for name, table in self._tables.items()}
+        counts, tables, added = _building.with_matrices(counts, tables, given, place)
+        model = object.__new__(Model)
+        model._hold(self._rates, counts, tables, self._added[:place] + added)
+        return model
+
+    def __eq__(self, other: object) -> bool:
+        """Whether two models were built from the same words and numbers, in the same order."""
+        if not isinstance(other, Model):
+            return NotImplemented
+        ours, theirs = (
+            [m._rates, *m._tables.values(), *(x for each in m._added for x in (each.counts, each.k))]
+            for m in (self, other)
+        )
+        same = self._counts == other._counts and len(ours) == len(theirs)
+        return same and all(map(np.array_equal, ours, theirs))
+
+    def __hash__(self) -> int:
+        return hash(self._counts)
 
     def _check(self, basis):
         if not isinstance(basis, Basis):

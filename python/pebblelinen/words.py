@@ -11,6 +11,7 @@ A word can be given in three ways:
 """
 import functools
 import re
+import struct
 from collections.abc import Mapping
 from types import MappingProxyType
 
@@ -20,7 +21,8 @@ from . import _given, _library
 from .errors import InputError, Refusal
 
 MAX_QUBITS = 128
-_LETTERS = "IXZY"  # by code
+LETTERS = "IXZY"  # by code
+_PACKED = struct.Struct("=4Q")
 _SITE = re.compile(r"([^\s0-9])([0-9]{1,5})")
 
 
@@ -88,7 +90,8 @@ def register(n):
 class Word:
     """A Pauli word on a register of n qubits. It cannot be changed."""
 
-    __slots__ = ("n", "lanes")
+    # Packed are the lanes as they stand in a table, for tables of many words.
+    __slots__ = ("n", "lanes", "packed")
 
     def __init__(self, word: "AnyWord", *, n: int):
         n = register(n)
@@ -140,7 +143,7 @@ class Word:
     @property
     def text(self) -> str:
         """One letter for each qubit, qubit 0 first."""
-        return "".join(_LETTERS[code] for code in self.codes)
+        return "".join(LETTERS[code] for code in self.codes)
 
     @property
     def letters(self) -> Mapping[Qubit, str]:
@@ -208,6 +211,7 @@ AnyWord = str | Mapping[int, str] | Word
 def _set(word, n, lanes):
     object.__setattr__(word, "n", n)
     object.__setattr__(word, "lanes", lanes)
+    object.__setattr__(word, "packed", _PACKED.pack(*lanes))
 
 
 def made(lanes, n):
@@ -234,7 +238,7 @@ def _sites(lanes):
     while left:
         q = (left & -left).bit_length() - 1
         left &= left - 1
-        yield q, _LETTERS[(x >> q & 1) + 2 * (z >> q & 1)]
+        yield q, LETTERS[(x >> q & 1) + 2 * (z >> q & 1)]
 
 
 def site_text(lanes):
