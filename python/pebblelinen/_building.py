@@ -6,8 +6,7 @@ item that is to blame.
 The library says by which cause and index it refused. Which item has the text or the number that is meant is
 found by asking it again about one item at a time."""
 import bisect
-import itertools
-from collections.abc import Callable, Mapping, Sequence
+from collections.abc import Callable, Collection, Mapping, Sequence
 from dataclasses import dataclass
 from typing import Any
 
@@ -133,30 +132,30 @@ def operators_of(given: list[Any], path_of: Callable[[int], Path]) -> Operators:
     """The operators of a list, to each of which path_of says the way."""
     counts: list[int] = []
     items: list[Any] = []
-    for i, operator in enumerate(given):
+    for operator in given:
         if type(operator) is not list and type(operator) is not tuple:
-            operator = _operator(operator, path_of(i))
+            operator = _operator(operator, path_of, len(counts))
         counts.append(len(operator))
         items += operator
-
-    ends = list(itertools.accumulate(counts))
+    lengths = np.fromiter(counts, np.uint64, len(counts))
+    ends = lengths.cumsum().tolist()
 
     def named(place: int) -> tuple[str, Path]:
         i = bisect.bisect_right(ends, place)
         j = place - ends[i] + counts[i]
         return f"term {j}", (*path_of(i), j)
 
-    return Operators(np.fromiter(counts, np.uint64, len(counts)), _items(items, named, np.complex128))
+    return Operators(lengths, _items(items, named, np.complex128))
 
 
-def _operator(given: Any, path: Path) -> list[Any]:
+def _operator(given: Any, path_of: Callable[[int], Path], place: int) -> Collection[Any]:
     """The terms of an operator. A word alone is an operator of one term with the number 1."""
-    if isinstance(given, Mapping):
+    if isinstance(given, (dict, Mapping)):
         alone = given and not isinstance(next(iter(given)), (str, Word))
-        return [(given, 1 + 0j)] if alone else list(given.items())
+        return [(given, 1 + 0j)] if alone else given.items()
     if isinstance(given, (str, Word)):
         return [(given, 1 + 0j)]
-    return _given.listed(given, "term", path)
+    return _given.listed(given, "term", path_of(place))
 
 
 def _items(items: list[Any], named: _texts.Named, kind: type) -> Items:

@@ -5,6 +5,7 @@
 Words that were read before are written by numpy, eight letters at a time: one by one they would cost more than
 the library needs for the whole model."""
 import functools
+import itertools
 from collections.abc import Callable, Sequence
 from typing import Any, Protocol
 
@@ -27,7 +28,7 @@ class Items(Protocol):
 
 def joined(lists: Sequence[Items], n: int) -> tuple[NDArray[np.uint8], NDArray[np.uint64]]:
     """The bytes of the texts of all words in some lists, one after another, and the length of each."""
-    given = [word for items in lists for word in items.words]
+    given = list(itertools.chain.from_iterable(items.words for items in lists))
     if n <= words.MAX_QUBITS and set(map(type, given)) == {Word}:
         packed = [word.packed for word in given if word.n == n]
         if len(packed) == len(given):
