@@ -154,6 +154,11 @@ class Basis:
         last."""
         return {entry.word.by_site: entry.coefficient for entry in self}
 
+    def terms(self) -> Terms:
+        """The combination of words that the entries stand for: a copy of words and coefficients, by position."""
+        with self._lock:
+            return Terms(self.n, self.lanes.copy(), self.coefficients.copy())
+
     def __str__(self):
         lines = [f"basis of {self._shown_len()} on {qubits(self.n)}"]
         lines += [str(self.entry(position=p)) for p in range(min(self._len, _SHOWN))]

@@ -2,6 +2,7 @@
 # SPDX-License-Identifier: Apache-2.0
 """A model of a device: what it does to words and bases."""
 import functools
+from collections.abc import Iterable, Mapping, Sequence
 from typing import Any, NamedTuple
 
 import numpy as np
@@ -10,9 +11,25 @@ from numpy.typing import NDArray
 from . import _building, _given, _library, items, matrix
 from ._tables import MOST_TOUCHED, work_tables
 from .basis import MAX_WORDS, Basis, not_finite, refusal, too_short
+from .combining import summed
 from .errors import InputError, Refusal
 from .terms import Terms
-from .words import AnyWord, Position, lanes_of, made, qubits, register, same_register, site_text, struct_of, table
+from .words import (
+    AnyWord,
+    Position,
+    Word,
+    lanes_of,
+    made,
+    qubits,
+    register,
+    same_register,
+    site_text,
+    struct_of,
+    table,
+)
+
+# The ways to give a combination of words.
+AnyTerms = Terms | Mapping[str, float] | Mapping[Word, float] | Iterable[tuple[AnyWord, float]]
 
 # Positions that leakage takes in a pass.
 _PASS = 4096
@@ -32,6 +49,13 @@ class Degree(NamedTuple):
     s: int
     norm: float
     mu: float
+
+
+def _is_combination(given: Any) -> bool:
+    """Whether a combination was given, not a word: a mapping from words to numbers, not from qubits to letters."""
+    if isinstance(given, Mapping):
+        return isinstance(next(iter(given), None), (str, Word))
+    return isinstance(given, Iterable) and not isinstance(given, str)
 
 
 def _place(given: int, count: int, what: str) -> int:
@@ -208,11 +232,21 @@ class Model:
 
     # ---- the action on a word ----
 
-    def action(self, word: AnyWord) -> Terms:
-        """What the model does to a word, in the Heisenberg picture: the words with their numbers, in word
-        order."""
-        lanes = lanes_of(word, self.n)
-        out = []
+    def action(self, observable: AnyWord | AnyTerms) -> Terms:
+        """What the model does to an observable, in the Heisenberg picture: the words with their numbers, in
+        word order. The observable is a word, or a combination of words: terms, (word, number) pairs or a
+        mapping from words to numbers. That of a combination is the sum of the actions on its words, each
+        times its number, added in the order in which the words stand."""
+        if not _is_combination(observable):
+            return self._action(lanes_of(observable, self.n))
+        given = Terms.of(observable, n=self.n)
+        acted = [self._action(lanes) * x for lanes, x in zip(given.words.tolist(), given.values.tolist())]
+        words = np.concatenate([np.zeros((0, 4), np.uint64), *(terms.words for terms in acted)])
+        values = np.concatenate([np.zeros(0), *(terms.values for terms in acted)])
+        return Terms(self.n, *summed(words, values))
+
+    def _action(self, lanes: Sequence[int]) -> Terms:
+        out: list[NDArray[Any]] = []
 
         def attempt(touched, _):
             # An action lists no more words than it touches.

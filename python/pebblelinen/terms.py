@@ -1,7 +1,9 @@
 # SPDX-FileCopyrightText: 2026 The PPVM Authors
 # SPDX-License-Identifier: Apache-2.0
 """Words with a value each, as actions and leakages list them."""
-from . import _given
+import numpy as np
+
+from . import _given, combining
 from .words import made, qubits, register, same_register, site_text, table
 
 
@@ -48,6 +50,42 @@ class Terms:
     def largest(self) -> float:
         """The largest magnitude; 0 where there are no words."""
         return float(abs(self.values).max(initial=0.0))
+
+    # ---- as a combination ----
+
+    def __add__(self, other: "Terms | int") -> "Terms":
+        """The sum: each word once, in word order, none with a value of 0. Values are added in the order in which
+        they stand. 0 can be added, so that sum() takes terms."""
+        if isinstance(other, int) and other == 0:
+            other = Terms(self.n, np.zeros(0, np.uint64), np.zeros(0))
+        if not isinstance(other, Terms):
+            return NotImplemented
+        same_register(other, self.n, "list")
+        words = np.concatenate((self.words, other.words))
+        return Terms(self.n, *combining.summed(words, np.concatenate((self.values, other.values))))
+
+    __radd__ = __add__
+
+    def __sub__(self, other: "Terms") -> "Terms":
+        return self + -other if isinstance(other, Terms) else NotImplemented
+
+    def __neg__(self) -> "Terms":
+        return Terms(self.n, self.lanes, -self.values)
+
+    def __mul__(self, number: float) -> "Terms":
+        """The same words, each value times a real number."""
+        return Terms(self.n, self.lanes, self.values * _given.real(number, "the factor of terms"))
+
+    __rmul__ = __mul__
+
+    def __truediv__(self, number: float) -> "Terms":
+        return Terms(self.n, self.lanes, self.values / _given.real(number, "the divisor of terms"))
+
+    def expectation(self, state: str) -> float:
+        """The expectation in a product state with one letter for each qubit, qubit 0 first: 0 and 1 are the
+        eigenstates of Z with +1 and -1, + and - those of X, r and l those of Y. In "0" * n all qubits are in
+        the ground state."""
+        return combining.expectation(self.n, self.words, self.values, state)
 
     def __str__(self):
         shown = [(word.by_site, value) for word, value in self]
