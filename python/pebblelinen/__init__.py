@@ -10,6 +10,7 @@ proved to give it; this package carries numbers in and out.
     model = Model(2, {"X0 X1": 1.0}, [(0.1, {"X0": 0.5, "Y0": 0.5j})])
     print(model.action("Z0"))
 """
+from . import noise
 from .basis import Basis, Entry
 from .errors import CAUSES, InputError, LibraryMissing, PebblelinenError, Refusal
 from .items import Jump, Matrix
@@ -39,6 +40,7 @@ __all__ = [
     "Terms",
     "Word",
     "load",
+    "noise",
     "product",
     "row",
     "select_ms",

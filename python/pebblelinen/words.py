@@ -12,8 +12,9 @@ A word can be given in three ways:
 import functools
 import re
 import struct
-from collections.abc import Mapping
+from collections.abc import Iterable, Mapping
 from types import MappingProxyType
+from typing import Any
 
 import numpy as np
 
@@ -155,6 +156,54 @@ class Word:
         """The letters other than I with their qubits: "X12 Z40". The identity is "I0"."""
         return site_text(self.lanes)
 
+    # ---- words of other packages, by their names, since each has an order and a count of its own ----
+
+    @classmethod
+    def from_qiskit(cls, label: str) -> "Word":
+        """The word of a label of Qiskit, which has a letter for each qubit, qubit 0 last: "XIZ" is Z0 X2."""
+        label = _unsigned(label, "Qiskit label", "IXYZ")
+        return cls(label[::-1], n=len(label))
+
+    def to_qiskit(self) -> str:
+        """The label of Qiskit: qubit 0 last."""
+        return self.text[::-1]
+
+    @classmethod
+    def from_openfermion(cls, term: Iterable[tuple[int, str]], *, n: int) -> "Word":
+        """The word of a term of OpenFermion's QubitOperator: ((0, "X"), (2, "Z")). Qubits count from 0; ()
+        is the identity."""
+        return cls(_each_once((_site(q, ()), letter) for q, letter in _given.pairs(term, "letter")), n=n)
+
+    def to_openfermion(self) -> tuple[tuple[int, str], ...]:
+        """The term of OpenFermion's QubitOperator."""
+        return tuple(_sites(self.lanes))
+
+    @classmethod
+    def from_stim(cls, text: str) -> "Word":
+        """The word of the text of a Pauli string of Stim: "+X_Z", a letter for each qubit, qubit 0 first, where _
+        is I. (Elsewhere in this package _ is dropped, so that "X_Z" has two letters.)"""
+        text = _unsigned(text.removeprefix("+") if isinstance(text, str) else text, "Pauli string", "I_XYZ")
+        return cls(text.replace("_", "I"), n=len(text))
+
+    def to_stim(self) -> str:
+        """The text of a Pauli string of Stim, with the sign +."""
+        return "+" + self.text.replace("I", "_")
+
+    @classmethod
+    def from_julia(cls, *letters: str | int, n: int) -> "Word":
+        """The word of letters and sites that count from 1, as ITensors' OpSum and PauliStrings.jl list them:
+        Word.from_julia("X", 1, "Z", 3, n=3) is X0 Z2."""
+        if len(letters) % 2:
+            raise InputError(f"{_given.shown(letters)}: a site is needed after each letter")
+        sites = [_given.whole(site, "a site") for site in letters[1::2]]
+        if 0 in sites:
+            raise InputError(f"{_given.shown(letters)} has the site 0: sites count from 1 here")
+        return cls(_each_once((site - 1, letter) for site, letter in zip(sites, letters[::2])), n=n)
+
+    def to_julia(self) -> tuple[str | int, ...]:
+        """Letters and sites that count from 1: ("X", 1, "Z", 3)."""
+        return tuple(x for q, letter in _sites(self.lanes) for x in (letter, q + 1))
+
     def letter(self, *, qubit: Qubit | int) -> str:
         """The letter at a qubit of the register."""
         q = int(Qubit(qubit))
@@ -219,6 +268,31 @@ def made(lanes, n):
     word = object.__new__(Word)
     _set(word, n, tuple(lanes))
     return word
+
+
+def _each_once(letters: Iterable[tuple[int, Any]]) -> dict[int, Any]:
+    """Letters by their qubits, each of which has one."""
+    found: dict[int, Any] = {}
+    for q, letter in letters:
+        if q in found:
+            raise InputError(f"qubit {q} comes twice: the product of its letters is another, with a phase")
+        found[q] = letter
+    return found
+
+
+def _unsigned(text: Any, what: str, letters: str) -> str:
+    """A text of letters; a sign before them is no part of a word."""
+    if not isinstance(text, str):
+        raise InputError(f"{_given.shown(text)} is no {what}: a text is needed")
+    if text[:1] in ("-", "+", "i"):
+        raise InputError(
+            f"the {what} {_given.shown(text)} has a sign or phase, and a word has none: give the letters alone, and"
+            " multiply the word's number by it"
+        )
+    wrong = next((letter for letter in text if letter not in letters), None)
+    if wrong is not None:
+        raise InputError(f"{wrong!r} in the {what} {_given.shown(text)}: {', '.join(letters)} are its letters")
+    return text
 
 
 def qubits(n):
