@@ -16,7 +16,7 @@ from .errors import CAUSES, InputError, LibraryMissing, PebblelinenError, Refusa
 from .items import Jump, Matrix
 from .matrix import Choice, product, row, select_ms
 from .model import Degree, Model, Norm
-from .modelfile import ModelFile, load
+from .modelfile import ModelFile, load, save
 from .terms import Terms
 from .words import Position, Qubit, Word
 
@@ -43,5 +43,6 @@ __all__ = [
     "noise",
     "product",
     "row",
+    "save",
     "select_ms",
 ]

@@ -2,11 +2,13 @@
 # SPDX-License-Identifier: Apache-2.0
 """A basis: an ordered list of words with a coefficient each."""
 import threading
+from collections.abc import Iterator
 from typing import NamedTuple
 
 import numpy as np
 
 from . import _given, _library
+from ._showing import SHOWN, Shown, Table
 from ._tables import work_tables, zeros
 from .errors import InputError, Refusal
 from .terms import Terms
@@ -27,9 +29,6 @@ from .words import (
 # The most words of a list, and the largest word limit.
 MAX_WORDS = 65_536
 
-# How many entries are shown.
-_SHOWN = 20
-
 
 class Entry(NamedTuple):
     position: Position
@@ -40,7 +39,7 @@ class Entry(NamedTuple):
         return f"{self.position}: {self.word.by_site}, coefficient {self.coefficient!r}"
 
 
-class Basis:
+class Basis(Shown):
     """Words with a coefficient each, told apart by their position.
 
     A word may stand at several positions. Entries are given as (word, coefficient) pairs or as a
@@ -161,10 +160,14 @@ class Basis:
 
     def __str__(self):
         lines = [f"basis of {self._shown_len()} on {qubits(self.n)}"]
-        lines += [str(self.entry(position=p)) for p in range(min(self._len, _SHOWN))]
-        if self._len > _SHOWN:
-            lines.append(f".. and {self._len - _SHOWN} more")
+        lines += [str(self.entry(position=p)) for p in range(min(self._len, SHOWN))]
+        if self._len > SHOWN:
+            lines.append(f".. and {self._len - SHOWN} more")
         return "\n".join(lines)
+
+    def _shown_tables(self) -> Iterator[Table]:
+        rows = ((str(int(p)), word.by_site, repr(x)) for p, word, x in self)
+        yield Table(("position", "word", "coefficient"), rows, len(self))
 
     def __repr__(self):
         return f"Basis of {self._shown_len()} on {qubits(self.n)}"

@@ -54,7 +54,16 @@ def operator_text(operator: Operator) -> str:
 
 
 def number_text(x: complex) -> str:
-    return repr(x.real) if x.imag == 0 else repr(x)
+    """A number for people: a real or imaginary one as such."""
+    if x.imag == 0:
+        return repr(x.real)
+    return repr(x) if x.real else f"{x.imag!r}j"
+
+
+def row_text(row: Sequence[complex]) -> str:
+    """A row of K in one line, cut where it is long."""
+    more = ", .." if len(row) > 6 else ""
+    return ", ".join(map(number_text, row[:6])) + more
 
 
 def jumps(n: int, rates: NDArray[np.float64], tables: Mapping[str, NDArray[Any]]) -> tuple[Jump, ...]:

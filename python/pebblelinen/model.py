@@ -2,17 +2,19 @@
 # SPDX-License-Identifier: Apache-2.0
 """A model of a device: what it does to words and bases."""
 import functools
-from collections.abc import Iterable, Mapping, Sequence
+from collections.abc import Iterable, Iterator, Mapping, Sequence
 from typing import Any, NamedTuple
 
 import numpy as np
 from numpy.typing import NDArray
 
 from . import _building, _given, _library, items, matrix
+from ._showing import Shown, Table
 from ._tables import MOST_TOUCHED, work_tables
 from .basis import MAX_WORDS, Basis, not_finite, refusal, too_short
 from .combining import summed
 from .errors import InputError, Refusal
+from .items import operator_text, row_text
 from .terms import Terms
 from .words import (
     AnyWord,
@@ -66,7 +68,7 @@ def _place(given: int, count: int, what: str) -> int:
     return place
 
 
-class Model:
+class Model(Shown):
     """A model on a register of n qubits: Hamiltonian terms, jumps and Kossakowski matrices.
 
     hamiltonian   (word, number) pairs, or a mapping: {"X0 X1": 1.0, "Z0": 0.5}
@@ -113,6 +115,24 @@ class Model:
         terms = _given.counted(len(self.hamiltonian), "Hamiltonian term")
         jumps, pairs = _given.counted(len(self._rates), "jump"), _given.counted(self.pairs, "pair")
         return f"Model of {qubits(self.n)}: {terms}, {jumps}, {pairs}"
+
+    def _shown_tables(self) -> Iterator[Table]:
+        """What it was built from. A table without rows is left out."""
+        terms = ((word.by_site, repr(x)) for word, x in self.hamiltonian)
+        jumps = ((str(i), operator_text(each.operator), repr(each.rate)) for i, each in enumerate(self.jumps))
+        rows = (
+            (str(i), operator_text(operator), row_text(row))
+            for i, each in enumerate(self.matrices)
+            for operator, row in zip(each.operators, each.k.tolist())
+        )
+        operators = sum(len(each.operators) for each in self.matrices)
+        for table in [
+            Table(("Hamiltonian term", "coefficient"), terms, len(self.hamiltonian)),
+            Table(("jump", "operator", "rate"), jumps, len(self.jumps)),
+            Table(("matrix", "operator", "row of K"), rows, operators),
+        ]:
+            if table.count:
+                yield table
 
     # ---- what it was built from, and the same with another number ----
 

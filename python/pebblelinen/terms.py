@@ -1,13 +1,16 @@
 # SPDX-FileCopyrightText: 2026 The PPVM Authors
 # SPDX-License-Identifier: Apache-2.0
 """Words with a value each, as actions and leakages list them."""
+from collections.abc import Iterator
+
 import numpy as np
 
 from . import _given, combining
+from ._showing import Shown, Table
 from .words import made, qubits, register, same_register, site_text, table
 
 
-class Terms:
+class Terms(Shown):
     """Words with their values, which actions and leakages list in word order.
 
     n        the qubits of the register
@@ -91,6 +94,10 @@ class Terms:
         shown = [(word.by_site, value) for word, value in self]
         width = max((len(text) for text, _ in shown), default=0)
         return "\n".join(f"{text:{width}}  {' ' * (value >= 0)}{value!r}" for text, value in shown)
+
+    def _shown_tables(self) -> Iterator[Table]:
+        rows = ((word.by_site, repr(value)) for word, value in self)
+        yield Table(("word", "value"), rows, len(self))
 
     def __repr__(self):
         return f"Terms of {_given.counted(len(self), 'word')} on {qubits(self.n)}"
