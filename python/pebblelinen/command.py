@@ -1,9 +1,10 @@
 # SPDX-FileCopyrightText: 2026 The PPVM Authors
 # SPDX-License-Identifier: Apache-2.0
-"""The command: a model file in, answers out, for people or as JSON.
+"""The command: a model file in, answers out, for people, as JSON or as CSV.
 
 Exit status: 0 answered, 1 refused by the library, 2 bad usage (options, file, words that cannot be read)."""
 import argparse
+import csv
 import json
 import math
 import sys
@@ -41,10 +42,13 @@ _FILE = "A model file:\n" + modelfile.__doc__.split("\n", 1)[1]
 def main(arguments=None):
     options = _parser().parse_args(arguments)
     try:
+        answer, lines, rows = options.run(options)
         if options.json:
-            _print_json(options.run(options)[0]())
+            _print_json(answer())
+        elif options.csv:
+            csv.writer(sys.stdout, lineterminator="\n").writerows(rows())
         else:
-            for line in options.run(options)[1]():
+            for line in lines():
                 print(line, flush=True)
     except (PebblelinenError, MemoryError) as error:
         print(f"pebblelinen: {error}", file=sys.stderr)
@@ -71,7 +75,9 @@ def _parser():
         made.set_defaults(run=run)
         if file:
             made.add_argument("file", metavar="FILE", help="a model file, in TOML")
-        made.add_argument("--json", action="store_true", help="answer as JSON, numbers in full")
+        form = made.add_mutually_exclusive_group()
+        form.add_argument("--json", action="store_true", help="answer as JSON, numbers in full")
+        form.add_argument("--csv", action="store_true", help="answer as a table in CSV, numbers in full")
         if name not in ("degree", "demo"):
             made.add_argument("--all", action="store_true", help=f"show more than {_SHOWN} lines")
         return made
@@ -135,7 +141,7 @@ def _parser():
     return parser
 
 
-# ---- commands: each gives an answer for programs, and lines for people, both when asked ----
+# ---- commands: each gives an answer for programs, lines for people, and rows of a table, when asked ----
 
 
 def _action(options):
@@ -162,7 +168,13 @@ def _action(options):
             yield f"action on {word.by_site}: {counted(len(terms), 'word')}"
             yield from _listed(terms, options.all)
 
-    return answer, lines
+    def rows():
+        yield "observable", "word", "value"
+        for word, terms in act():
+            for listed, value in terms:
+                yield word.by_site, listed.by_site, repr(value)
+
+    return answer, lines, rows
 
 
 def _leakage(options):
@@ -187,7 +199,12 @@ def _leakage(options):
         yield f"leakage: {counted(len(terms), 'word')}, largest {terms.largest()!r}"
         yield from _listed(terms, options.all)
 
-    return answer, lines
+    def rows():
+        yield "word", "value"
+        for word, value in terms:
+            yield word.by_site, repr(value)
+
+    return answer, lines, rows
 
 
 def _generator(options):
@@ -215,7 +232,12 @@ def _generator(options):
         yield from _aligned([("row", "column", "value"), *shown])
         yield from _more(len(entries), options.all)
 
-    return answer, lines
+    def rows():
+        yield "row", "column", "value", "row word", "column word"
+        for row, column, value in entries:
+            yield row, column, repr(value), words[row], words[column]
+
+    return answer, lines, rows
 
 
 def _degree(options):
@@ -230,7 +252,11 @@ def _degree(options):
         yield str(file.model)
         yield from _degree_lines(len(file.basis), options.dt, degree)
 
-    return answer, lines
+    def rows():
+        yield "dt", *degree._fields
+        yield map(repr, (options.dt, *degree))
+
+    return answer, lines, rows
 
 
 def _degree_answer(degree):
@@ -250,7 +276,9 @@ def _degree_lines(positions, dt, degree):
 
 def _demo(options):
     if options.model:
-        return lambda: {"model": demo.as_file()}, lambda: [demo.as_file().rstrip("\n")]
+        if options.csv:
+            raise InputError("--model prints a model file: there is no table of it for --csv")
+        return lambda: {"model": demo.as_file()}, lambda: [demo.as_file().rstrip("\n")], list
     count = _given.whole(options.rounds, "--rounds")
     with working("building the model"):
         model = demo.chain()
@@ -300,7 +328,12 @@ def _demo(options):
         yield ""
         yield from _degree_lines(len(basis), options.dt, degree())
 
-    return answer, lines
+    def rows():
+        yield demo.Round._fields
+        for each in rounds():
+            yield map(repr, each)
+
+    return answer, lines, rows
 
 
 def _loaded(options):
