@@ -15,6 +15,7 @@ from numpy.typing import NDArray
 
 from . import _given, _library, _texts, words
 from ._tables import work_tables, zeros
+from ._texts import Items, Named
 from .errors import CAUSES, InputError, Refusal
 from .items import Added
 from .words import Word
@@ -37,22 +38,6 @@ _LIMITS = {"hamiltonian": 4096, "jumps": 4096, "terms": 16, "operators": 64}
 
 
 @dataclass(frozen=True)
-class Items:
-    """Words as they were given, with a number each, and what each item is called, with the way to it."""
-
-    words: Sequence[Any]
-    numbers: NDArray[Any]
-    named: _texts.Named
-
-    def __len__(self) -> int:
-        return len(self.words)
-
-    def part(self, start: int, end: int) -> "Items":
-        """Those from one place to before another."""
-        return Items(self.words[start:end], self.numbers[start:end], lambda i: self.named(start + i))
-
-
-@dataclass(frozen=True)
 class Operators:
     """Operators: how many terms each has, and the terms of all, one after another."""
 
@@ -63,10 +48,12 @@ class Operators:
         return len(self.counts)
 
     def part(self, start: int, end: int) -> "Operators":
+        """Those from one place to before another."""
         first, last = int(self.counts[:start].sum()), int(self.counts[:end].sum())
         return Operators(self.counts[start:end], self.terms.part(first, last))
 
     def longest(self) -> int:
+        """The most terms that one has."""
         return int(self.counts.max(initial=0))
 
 
@@ -81,6 +68,7 @@ class Jumps:
         return len(self.rates)
 
     def part(self, start: int, end: int) -> "Jumps":
+        """Those from one place to before another."""
         return Jumps(self.rates[start:end], self.operators.part(start, end))
 
 
@@ -94,11 +82,13 @@ class Matrix:
 
 
 def hamiltonian_of(given: Any, path: Path = ("hamiltonian",)) -> Items:
+    """The items of a Hamiltonian."""
     items = _given.pairs(given, "Hamiltonian item", path)
     return _items(items, lambda i: (f"Hamiltonian item {i}", (*path, i)), np.float64)
 
 
 def jumps_of(given: Any, path: Path = ("jumps",)) -> Jumps:
+    """The jumps of a list of pairs of a rate and an operator."""
     items = _given.pairs(_listed_only(given, "jumps", path), "jump", path)
     rates = [rate for rate, _ in items]
     if not set(map(type, rates)) <= {float}:
@@ -111,11 +101,13 @@ def jumps_of(given: Any, path: Path = ("jumps",)) -> Jumps:
 
 
 def matrices_of(given: Any, path: Path = ("matrices",)) -> list[Matrix]:
+    """The matrices of a list of pairs of operators and K."""
     items = _given.pairs(_listed_only(given, "matrices", path), "matrix", path)
     return [matrix_of(operators, k, (*path, i)) for i, (operators, k) in enumerate(items)]
 
 
 def matrix_of(operators: Any, k: Any, path: Path) -> Matrix:
+    """The matrix of operators and K."""
     where = (*path, "operators")
     listed = _given.listed(_listed_only(operators, "operators", where), "operators", where)
     terms = operators_of(listed, lambda j: (*where, j))
@@ -158,13 +150,14 @@ def _operator(given: Any, path_of: Callable[[int], Path], place: int) -> Collect
     return _given.listed(given, "term", path_of(place))
 
 
-def _items(items: list[Any], named: _texts.Named, kind: type) -> Items:
+def _items(items: list[Any], named: Named, kind: type) -> Items:
     """The items of a list of pairs, each of which has a name and a way to it."""
     place = _given.unpaired(items)
     if place is not None:
         raise _given.no_pair(items[place], *named(place))
     words_, numbers = [word for word, _ in items], [x for _, x in items]
-    read, plain = (_given.real, {float}) if kind is np.float64 else (_given.number, {float, complex})
+    read = _given.real if kind is np.float64 else _given.number
+    plain: set[type] = {float} if kind is np.float64 else {float, complex}
     if not set(map(type, numbers)) <= plain:
         numbers = [
             read(x, f"the number of {what}", path)

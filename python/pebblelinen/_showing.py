@@ -18,11 +18,11 @@ class Table(NamedTuple):
 
     header: Row
     rows: Iterable[Row]
-    count: int
+    length: int
 
     def shown(self) -> tuple[list[Row], str]:
         """The rows that are shown, and how many more there are, in words."""
-        more = self.count - SHOWN
+        more = self.length - SHOWN
         return list(islice(self.rows, SHOWN)), f".. and {more} more" if more > 0 else ""
 
 

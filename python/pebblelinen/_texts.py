@@ -7,7 +7,8 @@ the library needs for the whole model."""
 import functools
 import itertools
 from collections.abc import Callable, Sequence
-from typing import Any, Protocol
+from dataclasses import dataclass
+from typing import Any
 
 import numpy as np
 from numpy.typing import NDArray
@@ -19,11 +20,20 @@ from .words import Word
 Named = Callable[[int], tuple[str, tuple[Any, ...]]]
 
 
-class Items(Protocol):
-    """Words as they were given, and what each is called, with the way to it, by its place."""
+@dataclass(frozen=True)
+class Items:
+    """Words as they were given, with a number each, and what each item is called, with the way to it."""
 
     words: Sequence[Any]
+    numbers: NDArray[Any]
     named: Named
+
+    def __len__(self) -> int:
+        return len(self.words)
+
+    def part(self, start: int, end: int) -> "Items":
+        """Those from one place to before another."""
+        return Items(self.words[start:end], self.numbers[start:end], lambda i: self.named(start + i))
 
 
 def joined(lists: Sequence[Items], n: int) -> tuple[NDArray[np.uint8], NDArray[np.uint64]]:
@@ -53,4 +63,5 @@ def _eights() -> NDArray[np.uint64]:
     both = np.arange(1 << 16, dtype="<u2").view(np.uint8).reshape(-1, 2, 1)
     x, z = np.moveaxis(np.unpackbits(both, axis=2, bitorder="little"), 1, 0)
     letters = np.frombuffer(words.LETTERS.encode(), np.uint8)
-    return letters[x + 2 * z].view(np.uint64).reshape(-1)
+    eights: NDArray[np.uint64] = letters[x + 2 * z].view(np.uint64).reshape(-1)
+    return eights

@@ -131,7 +131,7 @@ class Model(Shown):
             Table(("jump", "operator", "rate"), jumps, len(self.jumps)),
             Table(("matrix", "operator", "row of K"), rows, operators),
         ]:
-            if table.count:
+            if table.length:
                 yield table
 
     # ---- what it was built from, and the same with another number ----
