@@ -90,14 +90,8 @@ def hamiltonian_of(given: Any, path: Path = ("hamiltonian",)) -> Items:
 def jumps_of(given: Any, path: Path = ("jumps",)) -> Jumps:
     """The jumps of a list of pairs of a rate and an operator."""
     items = _given.pairs(_listed_only(given, "jumps", path), "jump", path)
-    rates = [rate for rate, _ in items]
-    if not set(map(type, rates)) <= {float}:
-        rates = [
-            _given.real(rate, f"the rate of jump {i}", (*path, i, "rate")) for i, rate in enumerate(rates)
-        ]
-    listed = [operator for _, operator in items]
-    operators = operators_of(listed, lambda i: (*path, i, "operator"))
-    return Jumps(np.array(rates, np.float64), operators)
+    rates = _numbers([x for x, _ in items], np.float64, lambda i: (f"the rate of jump {i}", (*path, i, "rate")))
+    return Jumps(rates, operators_of([each for _, each in items], lambda i: (*path, i, "operator")))
 
 
 def matrices_of(given: Any, path: Path = ("matrices",)) -> list[Matrix]:
@@ -155,15 +149,26 @@ def _items(items: list[Any], named: Named, kind: type) -> Items:
     place = _given.unpaired(items)
     if place is not None:
         raise _given.no_pair(items[place], *named(place))
-    words_, numbers = [word for word, _ in items], [x for _, x in items]
-    read = _given.real if kind is np.float64 else _given.number
-    plain: set[type] = {float} if kind is np.float64 else {float, complex}
-    if not set(map(type, numbers)) <= plain:
-        numbers = [
-            read(x, f"the number of {what}", path)
-            for x, (what, path) in zip(numbers, map(named, range(len(numbers))))
-        ]
-    return Items(words_, np.fromiter(numbers, kind, len(numbers)), named)
+
+    def number(place: int) -> tuple[str, Path]:
+        what, path = named(place)
+        return f"the number of {what}", path
+
+    return Items([word for word, _ in items], _numbers([x for _, x in items], kind, number), named)
+
+
+def _numbers(given: list[Any], kind: type, named: Named) -> NDArray[Any]:
+    """The numbers of a list, real or complex, each of which has a name and a way to it."""
+    real = kind is np.float64
+    plain: set[type] = {int, float} if real else {int, float, complex}
+    if set(map(type, given)) <= plain:
+        try:
+            return np.fromiter(given, kind, len(given))
+        except OverflowError:
+            # A whole number without a float: which one is said below.
+            pass
+    read = _given.real if real else _given.number
+    return np.array([read(x, *named(i)) for i, x in enumerate(given)], kind)
 
 
 def entries_of(given: Any, k: int, path: Path) -> tuple[list[complex], list[int]]:

@@ -66,6 +66,12 @@ def row_text(row: Sequence[complex]) -> str:
     return ", ".join(map(number_text, row[:6])) + more
 
 
+def operator(n: int, jump: int, tables: Mapping[str, NDArray[Any]]) -> Operator:
+    """The operator of one jump."""
+    start, end = tables["jumps"].reshape(-1, 8)[jump, 1:3].tolist()
+    return tuple(_terms(n, tables, start, end))
+
+
 def jumps(n: int, rates: NDArray[np.float64], tables: Mapping[str, NDArray[Any]]) -> tuple[Jump, ...]:
     """The jumps of a model, whose rates were given."""
     starts, ends = tables["jumps"].reshape(-1, 8)[: len(rates), 1:3].T.tolist()

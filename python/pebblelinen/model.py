@@ -157,8 +157,9 @@ class Model(Shown):
         places = np.flatnonzero((self.hamiltonian.words == lanes).all(axis=1)).tolist()
         if len(places) != 1:
             found = f"stands {len(places)} times" if places else "does not stand"
-            raise InputError(f"the word {site_text(lanes.tolist())} {found} in the Hamiltonian: once is needed")
-        (place,) = places
+            shown = f"the word {site_text(lanes.tolist())} {found} in the Hamiltonian"
+            raise InputError(f"{shown}: where it stands once it can be changed, else build another Model")
+        place = places[0]
         item = _building.hamiltonian_of([(made(lanes.tolist(), self.n), coefficient)])
         built, tables = _building.build(self.n, item, _building.NO_JUMPS)
         if built.status.refusal:
@@ -168,7 +169,7 @@ class Model(Shown):
     def with_rate(self, *, jump: int, rate: float) -> "Model":
         """The same model with another rate of a jump, which is named by its place among the jumps."""
         place = _place(jump, len(self._rates), "jump")
-        given = _building.jumps_of([(rate, self.jumps[place].operator)])
+        given = _building.jumps_of([(rate, items.operator(self.n, place, self._tables))])
         built, tables = _building.build(self.n, _building.NO_ITEMS, given)
         if built.status.refusal:
             raise _building.jump_refusal(built.status, self.n, place, given)

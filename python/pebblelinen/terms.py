@@ -17,6 +17,9 @@ class Terms(Shown):
     words    four lanes each: an array of uint64 of the shape (words, 4)
     values   one number each: an array of float64
 
+    They are a combination of words: terms can be added, subtracted and multiplied by real numbers, and have an
+    expectation in a product state.
+
     Arrays that are given are not copied where they can be lent as they are.
     """
 

@@ -1,8 +1,11 @@
 # SPDX-FileCopyrightText: 2026 The PPVM Authors
 # SPDX-License-Identifier: Apache-2.0
 """Looking into a model, and the same model with another number, which must be the model that is built anew."""
+import copy
+import pickle
 import random
 import unittest
+from fractions import Fraction
 
 import numpy as np
 
@@ -53,6 +56,11 @@ class Reading(unittest.TestCase):
         for array in model.hamiltonian.values, model.hamiltonian.words, model.matrices[0].k:
             with self.assertRaises(ValueError):
                 array[0] = 2
+
+    def test_copies_are_equal(self):
+        for _, _, _, model in models(10):
+            self.assertEqual(pickle.loads(pickle.dumps(model)), model)
+            self.assertEqual(copy.deepcopy(model), model)
 
     def test_equal_models(self):
         model = Model(2, {"Z0": 1.0}, [(1.0, "X0")], [(["Z0"], [[1]])])
@@ -149,6 +157,29 @@ class Changing(unittest.TestCase):
             with self.assertRaises(InputError) as caught:
                 call()
             self.assertIn(said, str(caught.exception))
+
+
+class Numbers(unittest.TestCase):
+    def test_numbers_of_every_type(self):
+        model = Model(1, [("X", 2.0)] * 3, [(2.0, [("X", 2.0), ("Y", 2j)])])
+        for two in 2, 2.0, np.float64(2), np.float32(2), np.int64(2), Fraction(2):
+            self.assertEqual(Model(1, [("X", two)] * 3, [(two, [("X", two), ("Y", 2j)])]), model)
+        self.assertEqual(Model(1, [("X", 2.0)] * 3, [(2, [("X", np.complex64(2)), ("Y", 2j)])]), model)
+
+    def test_numbers_that_are_none_are_named(self):
+        for wrong in "2", True, None, 10**400, 1j, [2]:
+            for given, path in [
+                (([("X", 1), ("Y", wrong)],), ("hamiltonian", 1)),
+                (([], [(1, "X"), (wrong, "X")]), ("jumps", 1, "rate")),
+                (([], [(1, "X"), (1, [("X", 1), ("Y", 2), ("Z", wrong)])]), ("jumps", 1, "operator", 2)),
+                (([], [], [(["X", {"Y": wrong}], np.eye(2))]), ("matrices", 0, "operators", 1, 0)),
+            ]:
+                if wrong == 1j and "operator" in str(path):
+                    continue
+                with self.assertRaises(InputError) as caught:
+                    Model(1, *given)
+                self.assertEqual(caught.exception.path, path)
+                self.assertIn("number is needed", str(caught.exception))
 
 
 class Texts(unittest.TestCase):
