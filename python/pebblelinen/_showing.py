@@ -36,7 +36,16 @@ class Shown:
         return "\n".join([f"<p>{html.escape(repr(self))}</p>", *map(_html, self._shown_tables())])
 
     def _repr_pretty_(self, printer: Any, cycle: bool) -> None:
-        printer.text("\n".join([repr(self), *(line for table in self._shown_tables() for line in _text(table))]))
+        printer.text(repr(self))
+        for table in self._shown_tables():
+            for line in _text(table):
+                printer.break_()
+                printer.text(line)
+
+    def __init_subclass__(cls) -> None:
+        # IPython takes a class' own __repr__ before what it inherits.
+        super().__init_subclass__()
+        setattr(cls, "_repr_pretty_", Shown._repr_pretty_)
 
 
 def _html(table: Table) -> str:

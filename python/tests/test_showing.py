@@ -19,6 +19,9 @@ class Printer:
     def text(self, text):
         self.printed += text
 
+    def break_(self):
+        self.printed += "\n"
+
 
 def pretty(thing):
     printer = Printer()
@@ -72,6 +75,12 @@ class Showing(unittest.TestCase):
         )
         self.assertEqual(pretty(model)[0], repr(model))
         self.assertIn("  0     0.5 X0 + 0.5j Y0  0.1", pretty(model))
+
+    def test_ipython_finds_it_before_a_repr(self):
+        # It looks at one class after another, and in each at what that class has itself.
+        for kind in Terms, Basis, Model:
+            self.assertIn("__repr__", vars(kind))
+            self.assertIn("_repr_pretty_", vars(kind))
 
     def test_what_is_empty(self):
         self.assertEqual(pretty(Model(2)), ["Model of 2 qubits: 0 Hamiltonian terms, 0 jumps, 0 pairs"])
