@@ -1,14 +1,17 @@
 # SPDX-FileCopyrightText: 2026 The PPVM Authors
 # SPDX-License-Identifier: Apache-2.0
 """What the package costs beside the C call: leakage, generator and CSR of a chain of 128 qubits over 65,536
-words, and loading.
+words, building a large model, and loading.
 
 usage: python/run bench [--words N] [--rounds R] [--seed S]
 
 The chain has XX, YY and ZZ couplings, Z fields, and the jumps (X + iY)/2 and Z on each qubit; words have one
 to four letters on six neighbouring qubits. Package and C call take turns in one process, each lending
 tables of its own; the C call's are ready before the clock starts. The shortest of the rounds counts. The
-first call of the package, which finds out how long its tables must be, is told apart."""
+first call of the package, which finds out how long its tables must be, is told apart.
+
+The large model has 4,096 Hamiltonian terms and 4,096 jumps of two terms, words on two neighbours; the package
+builds it from words that were read before, the C call from their texts."""
 import argparse
 import random
 import subprocess
@@ -17,7 +20,7 @@ import time
 
 import numpy as np
 
-from pebblelinen import Basis, Model, _library
+from pebblelinen import Basis, Model, Word, _library
 
 QUBITS = 128
 LIMIT = 65_536
@@ -68,7 +71,7 @@ def c_call(name, *arguments):
         assert arrays
         answer = function(*passed)
         assert answer.status.refusal == 0, answer.status.refusal
-        return answer.count
+        return answer.count if hasattr(answer, "count") else answer.model.hamiltonian
 
     return call
 
@@ -109,6 +112,36 @@ def generator_call(name, model, basis, first):
         first(entries),
         np.zeros(entries, np.uint32),
         np.zeros(entries),
+    )
+
+
+def items(rng):
+    """Hamiltonian and jumps of a large model."""
+
+    def word():
+        q = rng.randrange(QUBITS - 1)
+        return Word({q: rng.choice("XYZ"), q + 1: rng.choice("XYZ")}, n=QUBITS)
+
+    hamiltonian = [(word(), 1 + rng.random()) for _ in range(4096)]
+    jumps = [(rng.random(), [(word(), rng.random()), (word(), 1j * rng.random())]) for _ in range(4096)]
+    return hamiltonian, jumps
+
+
+def building_call(hamiltonian, jumps):
+    terms = [term for _, operator in jumps for term in operator]
+    texts = "".join(word.text for word, _ in hamiltonian + terms)
+    sizes = _library.call("model_sizes", len(hamiltonian), len(jumps), 2)
+    floats = dict.fromkeys("h_coeffs rates t_numbers work_numbers".split(), np.float64)
+    return c_call(
+        "build_model",
+        np.frombuffer(texts.encode(), np.uint8),
+        np.full(len(hamiltonian) + len(terms), QUBITS, np.uint64),
+        np.array([x for _, x in hamiltonian]),
+        np.array([rate for rate, _ in jumps]),
+        np.full(len(jumps), 2, np.uint64),
+        np.array([x for _, x in terms], complex).view(float),
+        QUBITS,
+        *tables(sizes, floats),
     )
 
 
@@ -176,9 +209,13 @@ def main():
     worst = max(
         compare(what, package, direct(), options.rounds) for what, package, direct in comparisons
     )
+    given = items(rng)
+    built = compare(
+        "building", lambda: len(Model(QUBITS, *given).hamiltonian), building_call(*given), 10 * options.rounds
+    )
     clock, processor = loading()
     print(f"loading: {clock:.3f} s, {processor:.3f} s of the processor")
-    return 0 if worst < 0.05 and processor < 0.3 else 1
+    return 0 if worst < 0.05 and built < 1 and processor < 0.3 else 1
 
 
 if __name__ == "__main__":

@@ -10,14 +10,16 @@ proved to give it; this package carries numbers in and out.
     model = Model(2, {"X0 X1": 1.0}, [(0.1, {"X0": 0.5, "Y0": 0.5j})])
     print(model.action("Z0"))
 """
+from . import noise
 from ._version import __version__
 from .basis import Basis, Entry
 from .errors import CAUSES, InputError, LibraryMissing, NotPositive, PebblelinenError, Refusal
+from .items import Jump, Matrix
 from .kossakowski import split_matrix
 from .leakage import Leakage
 from .matrix import Choice, product, row, select_ms
 from .model import Degree, Model, Norm
-from .modelfile import ModelFile, load
+from .modelfile import ModelFile, load, save
 from .terms import Terms
 from .words import Position, Qubit, Word
 
@@ -28,8 +30,10 @@ __all__ = [
     "Degree",
     "Entry",
     "InputError",
+    "Jump",
     "Leakage",
     "LibraryMissing",
+    "Matrix",
     "Model",
     "ModelFile",
     "Norm",
@@ -42,8 +46,10 @@ __all__ = [
     "Word",
     "__version__",
     "load",
+    "noise",
     "product",
     "row",
+    "save",
     "select_ms",
     "split_matrix",
 ]

@@ -5,29 +5,27 @@ item that is to blame.
 
 The library says by which cause and index it refused. Which item has the text or the number that is meant is
 found by asking it again about one item at a time."""
-from collections.abc import Callable, Hashable, Iterable, Mapping, Sequence
+import bisect
+from collections.abc import Callable, Collection, Iterable, Mapping, Sequence
+from dataclasses import dataclass
 from typing import Any
 
 import numpy as np
 from numpy.typing import NDArray
 
-from . import _given, _library, words
+from . import _given, _library, _texts, words
 from ._tables import WorkTables, work_tables, zeros
-from ._types import ByteTable, ItemPath, LaneTable, NumberTable
+from ._texts import Items, Named
+from ._types import ItemPath, LaneTable, NumberTable
 from .errors import CAUSES, InputError, Refusal
+from .items import Added
 from .kossakowski import MOST_OPERATORS
 from .words import AnyWord, Word
 
 # The ways to give an operator, and K: rows of numbers, which may be of several types.
 AnyOperator = AnyWord | Mapping[str, complex] | Mapping[Word, complex] | Iterable[tuple[AnyWord, complex]]
 AnyMatrix = Iterable[Any] | NDArray[Any]
-
-# What was given: a text, its number and the word as given; a rate and terms; operators, the entries of K and
-# the lengths of its rows. And the library's tables by their names.
-Item = tuple[ByteTable, float, Any]
-Term = tuple[ByteTable, complex, Any]
-Jump = tuple[float, list[Term]]
-Matrix = tuple[list[list[Term]], list[complex], list[int]]
+# The library's tables by their names.
 Tables = dict[str, NDArray[Any]]
 
 TABLES = "h_words h_coeffs jumps rates t_words t_numbers".split()
@@ -42,46 +40,81 @@ _LIMITS = {"hamiltonian": 4096, "jumps": 4096, "terms": 16, "operators": MOST_OP
 # ---- what was given ----
 
 
-def hamiltonian_of(given: Any, n: int, path: ItemPath = ("hamiltonian",)) -> list[Item]:
-    """(text, number, word as given) of each item."""
+@dataclass(frozen=True)
+class Operators:
+    """Operators: how many terms each has, and the terms of all, one after another."""
+
+    counts: LaneTable
+    terms: Items
+
+    def __len__(self) -> int:
+        return len(self.counts)
+
+    def part(self, start: int, end: int) -> "Operators":
+        """Those from one place to before another."""
+        first, last = int(self.counts[:start].sum()), int(self.counts[:end].sum())
+        return Operators(self.counts[start:end], self.terms.part(first, last))
+
+    def longest(self) -> int:
+        """The most terms that one has."""
+        return int(self.counts.max(initial=0))
+
+
+@dataclass(frozen=True)
+class Jumps:
+    """The rate and the operator of each jump."""
+
+    rates: NumberTable
+    operators: Operators
+
+    def __len__(self) -> int:
+        return len(self.rates)
+
+    def part(self, start: int, end: int) -> "Jumps":
+        """Those from one place to before another."""
+        return Jumps(self.rates[start:end], self.operators.part(start, end))
+
+
+@dataclass(frozen=True)
+class Matrix:
+    """The operators of a matrix, the entries of K, row by row, and how many each row has."""
+
+    operators: Operators
+    entries: list[complex]
+    rows: list[int]
+
+
+def hamiltonian_of(given: Any, path: ItemPath = ("hamiltonian",)) -> Items:
+    """The items of a Hamiltonian."""
     items = _given.pairs(given, "Hamiltonian item", path)
-    return [
-        (
-            words.bytes_of(word, n, (*path, i)),
-            _given.real(x, f"the number of Hamiltonian item {i}", (*path, i)),
-            word,
-        )
-        for i, (word, x) in enumerate(items)
-    ]
+    return _items(items, lambda i: (f"Hamiltonian item {i}", (*path, i)), np.float64)
 
 
-def jumps_of(given: Any, n: int, path: ItemPath = ("jumps",)) -> list[Jump]:
-    """(rate, terms) of each jump."""
+def jumps_of(given: Any, path: ItemPath = ("jumps",)) -> Jumps:
+    """The jumps of a list of pairs of a rate and an operator."""
     given = _listed_only(given, "jumps", path)
     if _is_one(given, lambda rate, _: isinstance(rate, (int, float))):
         raise InputError("jumps is one (rate, operator) pair: a list of pairs, [(rate, operator)], is needed", path)
     items = _given.pairs(given, "jump", path)
-    return [
-        (
-            _given.real(rate, f"the rate of jump {i}", (*path, i, "rate")),
-            operator_of(operator, n, (*path, i, "operator")),
-        )
-        for i, (rate, operator) in enumerate(items)
-    ]
+    rates = _numbers([x for x, _ in items], np.float64, lambda i: (f"the rate of jump {i}", (*path, i, "rate")))
+    return Jumps(rates, operators_of([each for _, each in items], lambda i: (*path, i, "operator")))
 
 
-def matrices_of(given: Any, n: int, path: ItemPath = ("matrices",)) -> list[Matrix]:
-    """(operators, K, lengths of K's rows) of each matrix; K is flat."""
-    found = []
+def matrices_of(given: Any, path: ItemPath = ("matrices",)) -> list[Matrix]:
+    """The matrices of a list of pairs of operators and K."""
     given = _listed_only(given, "matrices", path)
     if _is_one(given, lambda _, k: _is_matrix(k)):
         raise InputError("matrices is one (operators, K) pair: a list of pairs, [(operators, K)], is needed", path)
-    for i, (operators, k) in enumerate(_given.pairs(given, "matrix", path)):
-        where = (*path, i, "operators")
-        listed = _given.listed(_listed_only(operators, "operators", where), "operators", where)
-        terms = [operator_of(operator, n, (*where, j)) for j, operator in enumerate(listed)]
-        found.append((terms, *entries_of(k, len(terms), (*path, i, "k"))))
-    return found
+    items = _given.pairs(given, "matrix", path)
+    return [matrix_of(operators, k, (*path, i)) for i, (operators, k) in enumerate(items)]
+
+
+def matrix_of(operators: Any, k: Any, path: ItemPath) -> Matrix:
+    """The matrix of operators and K."""
+    where = (*path, "operators")
+    listed = _given.listed(_listed_only(operators, "operators", where), "operators", where)
+    terms = operators_of(listed, lambda j: (*where, j))
+    return Matrix(terms, *entries_of(k, len(terms), (*path, "k")))
 
 
 def _listed_only(given: Any, what: str, path: ItemPath) -> Any:
@@ -103,22 +136,61 @@ def _is_matrix(given: Any) -> bool:
     return array.ndim == 2 and array.dtype.kind in "iufc"
 
 
-def operator_of(given: Any, n: int, path: ItemPath) -> list[Term]:
-    """(text, number, word as given) of each term. A word alone is an operator of one term with the
-    number 1."""
-    alone = isinstance(given, (str, Word)) or (
-        isinstance(given, Mapping) and given and not any(isinstance(k, (str, Word)) for k in given)
-    )
-    if alone:
-        return [(words.bytes_of(given, n, path), 1 + 0j, given)]
-    return [
-        (
-            words.bytes_of(word, n, (*path, i)),
-            _given.number(x, f"the number of term {i}", (*path, i)),
-            word,
-        )
-        for i, (word, x) in enumerate(_given.pairs(given, "term", path))
-    ]
+def operators_of(given: list[Any], path_of: Callable[[int], ItemPath]) -> Operators:
+    """The operators of a list, to each of which path_of says the way."""
+    counts: list[int] = []
+    items: list[Any] = []
+    for operator in given:
+        if type(operator) is not list and type(operator) is not tuple:
+            operator = _operator(operator, path_of, len(counts))
+        counts.append(len(operator))
+        items += operator
+    lengths = np.fromiter(counts, np.uint64, len(counts))
+    ends = lengths.cumsum().tolist()
+
+    def named(place: int) -> tuple[str, ItemPath]:
+        i = bisect.bisect_right(ends, place)
+        j = place - ends[i] + counts[i]
+        return f"term {j}", (*path_of(i), j)
+
+    return Operators(lengths, _items(items, named, np.complex128))
+
+
+def _operator(given: Any, path_of: Callable[[int], ItemPath], place: int) -> Collection[Any]:
+    """The terms of an operator. A word alone is an operator of one term with the number 1."""
+    if isinstance(given, (dict, Mapping)):
+        alone = given and not isinstance(next(iter(given)), (str, Word))
+        return [(given, 1 + 0j)] if alone else given.items()
+    if isinstance(given, (str, Word)):
+        return [(given, 1 + 0j)]
+    return _given.listed(given, "term", path_of(place))
+
+
+def _items(items: list[Any], named: Named, kind: type) -> Items:
+    """The items of a list of pairs, each of which has a name and a way to it."""
+    place = _given.unpaired(items)
+    if place is not None:
+        raise _given.no_pair(items[place], *named(place))
+
+    def number(place: int) -> tuple[str, ItemPath]:
+        what, path = named(place)
+        return f"the number of {what}", path
+
+    return Items([word for word, _ in items], _numbers([x for _, x in items], kind, number), named)
+
+
+def _numbers(given: list[Any], kind: type, named: Named) -> NDArray[Any]:
+    """The numbers of a list, real or complex, each of which has a name and a way to it."""
+    real = kind is np.float64
+    plain: set[type] = {int, float} if real else {int, float, complex}
+    if set(map(type, given)) <= plain:
+        try:
+            return np.fromiter(given, kind, len(given))
+        except OverflowError:
+            # A whole number without a float: which one is said below.
+            pass
+    read = _given.real if real else _given.number
+    return np.array([read(x, *named(i)) for i, x in enumerate(given)], kind)
 
 
 def entries_of(given: Any, k: int, path: ItemPath) -> tuple[list[complex], list[int]]:
@@ -147,38 +219,24 @@ def _rows_said(lengths: Sequence[int]) -> str:
     return f"rows of {', '.join(map(str, lengths[:8]))}{more}"
 
 
-def keys_of(operators: Sequence[Any]) -> list[Hashable]:
-    """What is equal for operators that have the same terms."""
-    return [tuple((bytes(text), x) for text, x, _ in operator) for operator in operators]
-
-
-def flat(operators: Sequence[Sequence[Term]]) -> tuple[list[ByteTable], LaneTable, NumberTable]:
-    """Counts of terms and their numbers, and the texts of the terms."""
-    terms = [term for operator in operators for term in operator]
-    counts = np.array([len(operator) for operator in operators], np.uint64)
-    return [text for text, *_ in terms], counts, _given.parts([x for _, x, _ in terms])
-
-
-def joined(texts: Sequence[ByteTable]) -> tuple[ByteTable, LaneTable]:
-    """The bytes of all texts, and the length of each."""
-    bytes_ = np.concatenate(texts) if texts else np.zeros(0, np.uint8)
-    return bytes_, np.array([len(text) for text in texts], np.uint64)
+NO_ITEMS = hamiltonian_of(())
+NO_JUMPS = jumps_of(())
 
 
 # ---- the library's tables ----
 
 
-def build(n: int, hamiltonian: Sequence[Item], jumps: Sequence[Jump]) -> tuple[_library.Built, Tables]:
+def build(n: int, hamiltonian: Items, jumps: Jumps) -> tuple[_library.Built, Tables]:
     """The answer and the tables of a model."""
-    longest = max((len(terms) for _, terms in jumps), default=0)
-    sizes: _library.Sizes = _library.call("model_sizes", len(hamiltonian), len(jumps), longest)
-    texts, counts, numbers = flat([terms for _, terms in jumps])
+    operators = jumps.operators
+    terms = operators.terms
+    sizes = _library.call("model_sizes", len(hamiltonian), len(jumps), operators.longest())
     given = [
-        *joined([text for text, *_ in hamiltonian] + texts),
-        np.array([x for _, x, _ in hamiltonian], np.float64),
-        np.array([rate for rate, _ in jumps], np.float64),
-        counts,
-        numbers,
+        *_texts.joined((hamiltonian, terms), n),
+        hamiltonian.numbers,
+        jumps.rates,
+        operators.counts,
+        terms.numbers.view(np.float64),
     ]
     tables = {name: _table(name, getattr(sizes, name)) for name in TABLES}
     with work_tables() as work:
@@ -186,20 +244,38 @@ def build(n: int, hamiltonian: Sequence[Item], jumps: Sequence[Jump]) -> tuple[_
     return built, tables
 
 
-def add_matrix(
-    counts: _library.Model, tables: Tables, operators: Sequence[Sequence[Term]], entries: Sequence[complex]
-) -> tuple[_library.Built, Tables]:
+def add_matrix(counts: _library.Model, tables: Tables, matrix: Matrix) -> tuple[_library.Built, Tables]:
     """The answer and the tables, which become longer where they must."""
-    longest = max((len(terms) for terms in operators), default=0)
-    sizes = _library.call("matrix_sizes", len(operators), longest)
+    operators = matrix.operators
+    sizes = _library.call("matrix_sizes", len(operators), operators.longest())
     tables = {name: _longer(name, tables[name], counts, getattr(sizes, name)) for name in TABLES}
-    texts, term_counts, numbers = flat(operators)
-    given = [*joined(texts), term_counts, numbers, _given.parts(entries)]
+    terms = operators.terms
+    given = [
+        *_texts.joined((terms,), counts.qubits),
+        operators.counts,
+        terms.numbers.view(np.float64),
+        _given.parts(matrix.entries),
+    ]
     with work_tables() as work:
         added = _library.call(
             "add_kossakowski", counts, *given, *tables.values(), *_lent(work, sizes)
         )
     return added, tables
+
+
+def with_matrices(
+    counts: _library.Model, tables: Tables, matrices: Sequence[Matrix], first: int
+) -> tuple[_library.Model, Tables, tuple[Added, ...]]:
+    """Counts and tables with matrices added, the first of which is counted so, and where each was added."""
+    found = []
+    for i, matrix in enumerate(matrices, first):
+        added, tables = add_matrix(counts, tables, matrix)
+        if added.status.refusal:
+            raise matrix_refusal(added.status, counts.qubits, i, counts.jumps, matrix, tables)
+        k = np.array(matrix.entries, np.complex128).reshape(2 * [len(matrix.operators)])
+        found.append(Added(counts.jumps, counts.terms, matrix.operators.counts, k))
+        counts = added.model
+    return counts, tables, tuple(found)
 
 
 def _lent(work: WorkTables, sizes: _library.Sizes) -> list[NDArray[Any]]:
@@ -228,67 +304,66 @@ def _longer(name: str, table: NDArray[Any], counts: _library.Model, more: int) -
 
 
 def trimmed(tables: Tables, counts: _library.Model) -> Tables:
-    """The places in use, so that a model holds no more than it needs."""
-    return {name: table[: _in_use(name, counts)].copy() for name, table in tables.items()}
+    """The places in use, to be read only. A table of which less than half is in use is copied, so that a model
+    does not hold much more than it needs."""
+    used = {name: table[: _in_use(name, counts)] for name, table in tables.items()}
+    used = {name: table if 2 * len(table) >= len(tables[name]) else table.copy() for name, table in used.items()}
+    for table in used.values():
+        table.flags.writeable = False
+    return used
 
 
 # ---- refusals ----
 
 
-def model_refusal(
-    status: _library.Status, n: int, hamiltonian: Sequence[Item], jumps: Sequence[Jump], tables: Tables
-) -> Refusal:
+def model_refusal(status: _library.Status, n: int, hamiltonian: Items, jumps: Jumps, tables: Tables) -> Refusal:
     """The refusal of building."""
     number, first = status.refusal, status.first
     if number == 1:
         return words.text_refusal(status, "", n, ("n",))
     if number == 9:
-        longest = max((len(terms) for _, terms in jumps), default=0)
-        sizes = _library.call("model_sizes", len(hamiltonian), len(jumps), longest)
+        sizes = _library.call("model_sizes", len(hamiltonian), len(jumps), jumps.operators.longest())
         needs = dict(h_words=len(hamiltonian), h_coeffs=len(hamiltonian), jumps=len(jumps), rates=len(jumps))
         return _short_table(status, "the model", needs, tables, sizes, {}, ())
     if number == 8:
         for what, count in ("hamiltonian", len(hamiltonian)), ("jumps", len(jumps)):
             if count > _LIMITS[what]:
                 return _count(first, what, "the model", {}, (what,))
-    for i, item in enumerate(hamiltonian):
-        if build(n, [item], [])[0].status.refusal:
-            return _hamiltonian_refusal(status, n, i, item)
-    for i, (rate, terms) in enumerate(jumps):
-        if build(n, [], [(rate, terms)])[0].status.refusal:
-            return _jump_refusal(status, n, i, rate, terms)
+    for i in range(len(hamiltonian)):
+        item = hamiltonian.part(i, i + 1)
+        if build(n, item, NO_JUMPS)[0].status.refusal:
+            return hamiltonian_refusal(status, n, i, item)
+    for i in range(len(jumps)):
+        jump = jumps.part(i, i + 1)
+        if build(n, NO_ITEMS, jump)[0].status.refusal:
+            return jump_refusal(status, n, i, jump)
     return _unexplained(status, "the model")
 
 
-def _hamiltonian_refusal(status: _library.Status, n: int, i: int, item: Item) -> Refusal:
-    _, x, word = item
+def hamiltonian_refusal(status: _library.Status, n: int, i: int, item: Items) -> Refusal:
+    """The refusal of Hamiltonian item i."""
+    (word,), (x,) = item.words, item.numbers.tolist()
     what, path = f"Hamiltonian item {i}", ("hamiltonian", i)
     if status.refusal == 7:
         return Refusal(7, f"{what} has the number {x}: {_RANGE}", {"item": i}, path)
     return _text_refusal(status, word, n, what, {"item": i}, path)
 
 
-def _jump_refusal(status: _library.Status, n: int, i: int, rate: float, terms: Sequence[Term]) -> Refusal:
+def jump_refusal(status: _library.Status, n: int, i: int, jump: Jumps) -> Refusal:
+    """The refusal of jump i."""
+    (rate,) = jump.rates.tolist()
     what, path, values = f"jump {i}", ("jumps", i), {"jump": i}
     if status.refusal == 5:
         return Refusal(5, f"{what} has the rate {rate}, below 0", values, (*path, "rate"))
-    sound: list[Term] = [(np.frombuffer(b"I" * n, np.uint8), 1, None)]
-    if build(n, [], [(rate, sound)])[0].status.refusal:
+    sound = operators_of([words.made((0, 0, 0, 0), n)], lambda i: ())
+    if build(n, NO_ITEMS, Jumps(jump.rates, sound))[0].status.refusal:
         return Refusal(7, f"{what} has the rate {rate}: {_RANGE}", values, (*path, "rate"))
-    return _operator_refusal(status, n, what, terms, values, (*path, "operator"))
+    return _operator_refusal(status, n, what, jump.operators.terms, values, (*path, "operator"))
 
 
-def matrix_refusal(
-    status: _library.Status,
-    n: int,
-    i: int,
-    before: int,
-    operators: Sequence[Sequence[Term]],
-    entries: Sequence[complex],
-    rows: Sequence[int],
-    tables: Tables,
-) -> Refusal:
+def matrix_refusal(status: _library.Status, n: int, i: int, before: int, matrix: Matrix, tables: Tables) -> Refusal:
     """The refusal of matrix i, which was added to `before` jumps and pairs."""
+    operators, entries, rows = matrix.operators, matrix.entries, matrix.rows
     number, first, second = status.refusal, status.first, status.second
     what, values, path = f"matrix {i}", {"matrix": i}, ("matrices", i)
     k = len(operators)
@@ -298,7 +373,7 @@ def matrix_refusal(
         values |= {"needed": first, "given": second}
         return Refusal(9, f"{what} has {given}, in place of {needed}", values, (*path, "k"))
     if number == 9:
-        sizes = _library.call("matrix_sizes", k, max((len(terms) for terms in operators), default=0))
+        sizes = _library.call("matrix_sizes", k, operators.longest())
         needs = dict.fromkeys(("jumps", "rates"), min(_LIMITS["jumps"], before + k * (k + 1) // 2))
         return _short_table(status, what, needs, tables, sizes, values, path)
     if number == 10:
@@ -306,16 +381,17 @@ def matrix_refusal(
         return Refusal(10, said, values | {"row": first, "column": second}, (*path, "k", first, second))
     if number == 8 and k > _LIMITS["operators"]:
         return _count(first, "operators", what, values, (*path, "operators"))
-    if number == 7 and _alone(n, operators, [0j] * (k * k)) != 7:
+    if number == 7 and _alone(n, Matrix(operators, [0j] * (k * k), [k] * k)) != 7:
         row, column = divmod(first, k)
         values |= {"place": first, "row": row, "column": column}
         said = f"{what}: K[{row}][{column}] is {entries[first]}: {_RANGE}"
         return Refusal(7, said, values, (*path, "k", row, column))
-    for j, terms in enumerate(operators):
-        if _alone(n, [terms], [0j]):
+    for j in range(k):
+        operator = operators.part(j, j + 1)
+        if _alone(n, Matrix(operator, [0j], [1])):
             values |= {"operator": j}
             where = (*path, "operators", j)
-            return _operator_refusal(status, n, f"operator {j} of {what}", terms, values, where)
+            return _operator_refusal(status, n, f"operator {j} of {what}", operator.terms, values, where)
     if number == 8:
         return _count(first, "jumps", "the model", values, path)
     return _unexplained(status, what)
@@ -332,28 +408,24 @@ def _not_hermitian(row: int, column: int, entries: Sequence[complex], k: int) ->
     )
 
 
-def _alone(n: int, operators: Sequence[Sequence[Term]], entries: Sequence[complex]) -> int:
+def _alone(n: int, matrix: Matrix) -> int:
     """The number by which a matrix is refused that is added to an empty model, or 0."""
-    built, tables = build(n, [], [])
-    return add_matrix(built.model, tables, operators, entries)[0].status.refusal
+    built, tables = build(n, NO_ITEMS, NO_JUMPS)
+    return int(add_matrix(built.model, tables, matrix)[0].status.refusal)
 
 
 def _operator_refusal(
-    status: _library.Status,
-    n: int,
-    what: str,
-    terms: Sequence[Term],
-    values: dict[str, int],
-    path: ItemPath,
+    status: _library.Status, n: int, what: str, terms: Items, values: dict[str, int], path: ItemPath
 ) -> Refusal:
     """The refusal of an operator's terms."""
     if status.refusal == 6:
         return Refusal(6, f"{what} has no terms", values, path)
     if status.refusal == 8:
         return _count(status.first, "terms", what, values, path)
-    for j, term in enumerate(terms):
-        if build(n, [], [(0.0, [term])])[0].status.refusal:
-            _, x, word = term
+    for j in range(len(terms)):
+        term = terms.part(j, j + 1)
+        if build(n, NO_ITEMS, Jumps(np.zeros(1), Operators(np.ones(1, np.uint64), term)))[0].status.refusal:
+            (word,), (x,) = term.words, term.numbers.tolist()
             if status.refusal == 7:
                 said = f"term {j} of {what} has the number {x}: {_RANGE}"
                 return Refusal(7, said, values, (*path, j))

@@ -76,10 +76,26 @@ def counted(count: int, one: str, many: str | None = None) -> str:
 def pairs(given: Any, what: str, path: ItemPath = ()) -> list[Sequence[Any]]:
     """A list of pairs, given as such or as a mapping."""
     items = listed(given.items() if isinstance(given, Mapping) else given, what, path)
-    for place, item in enumerate(items):
-        if isinstance(item, (str, bytes, Mapping)) or not hasattr(item, "__len__") or len(item) != 2:
-            raise InputError(f"{what} {place} is {shown(item)}: a pair is needed", (*path, place))
+    place = unpaired(items)
+    if place is not None:
+        raise no_pair(items[place], f"{what} {place}", (*path, place))
     return items
+
+
+def unpaired(items: list[Any]) -> int | None:
+    """The place of the first item that is no pair."""
+    if all(issubclass(kind, tuple) for kind in set(map(type, items))) and set(map(len, items)) <= {2}:
+        return None
+    return next((place for place, item in enumerate(items) if not _is_pair(item)), None)
+
+
+def _is_pair(item: Any) -> bool:
+    return not isinstance(item, (str, bytes, Mapping)) and hasattr(item, "__len__") and len(item) == 2
+
+
+def no_pair(item: Any, what: str, path: ItemPath) -> InputError:
+    """The error of an item that is no pair."""
+    return InputError(f"{what} is {shown(item)}: a pair is needed", path)
 
 
 def listed(given: Any, what: str, path: ItemPath = ()) -> list[Any]:

@@ -10,6 +10,7 @@ from numpy.typing import NDArray
 
 from . import _given, _library
 from ._sealed import Sealed, read_only
+from ._showing import SHOWN, Shown, Table
 from ._tables import work_tables, zeros
 from ._types import LaneTable, NumberTable
 from .errors import InputError, Refusal
@@ -29,9 +30,6 @@ from .words import (
     text_refusal,
 )
 
-# How many entries are shown.
-_SHOWN = 20
-
 
 class Entry(NamedTuple):
     """A word of a basis, with its coefficient and its position."""
@@ -44,7 +42,7 @@ class Entry(NamedTuple):
         return f"{self.position}: {self.word.by_site}, coefficient {self.coefficient!r}"
 
 
-class Basis(Sealed):
+class Basis(Shown, Sealed):
     """Words with a coefficient each, told apart by their position.
 
     A word may stand at several positions; `"X12 Z40" in basis` says whether it stands at one, in whichever
@@ -170,12 +168,21 @@ class Basis(Sealed):
         last."""
         return {entry.word.by_site: entry.coefficient for entry in self}
 
+    def terms(self) -> Terms:
+        """The combination of words that the entries stand for: a copy of words and coefficients, by position."""
+        with self._lock:
+            return Terms(self.n, self.lanes.copy(), self.coefficients.copy())
+
     def __str__(self) -> str:
         lines = [f"basis of {self._shown_len()} on {qubits(self.n)}"]
-        lines += [str(self.entry(position=p)) for p in range(min(self._len, _SHOWN))]
-        if self._len > _SHOWN:
-            lines.append(f".. and {self._len - _SHOWN} more")
+        lines += [str(self.entry(position=p)) for p in range(min(self._len, SHOWN))]
+        if self._len > SHOWN:
+            lines.append(f".. and {self._len - SHOWN} more")
         return "\n".join(lines)
+
+    def _shown_tables(self) -> Iterator[Table]:
+        rows = ((str(int(p)), word.by_site, repr(x)) for p, word, x in self)
+        yield Table(("position", "word", "coefficient"), rows, len(self))
 
     def __repr__(self) -> str:
         return f"Basis of {self._shown_len()} on {qubits(self.n)}"

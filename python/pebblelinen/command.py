@@ -1,9 +1,10 @@
 # SPDX-FileCopyrightText: 2026 The PPVM Authors
 # SPDX-License-Identifier: Apache-2.0
-"""The command: a model file in, answers out, for people or as JSON.
+"""The command: a model file in, answers out, for people, as JSON or as CSV.
 
 Exit status: 0 answered, 1 refused by the library, 2 bad usage (options, file, words that cannot be read)."""
 import argparse
+import csv
 import json
 import math
 import signal
@@ -42,8 +43,9 @@ _WORDS = """\
 A word is given by site, "X12 Z40" for X on qubit 12 and Z on qubit 40 (the identity is "I0"), or as a text
 with a letter for each qubit, qubit 0 first."""
 
-# What a command gives: an answer for programs, and lines for people, both when asked.
-_Answers = tuple[Callable[[], dict[str, Any]], Callable[[], Iterable[str]]]
+# What a command gives, when asked: an answer for programs, lines for people, and the rows of a table.
+_Rows = Iterable[Iterable[object]]
+_Answers = tuple[Callable[[], dict[str, Any]], Callable[[], Iterable[str]], Callable[[], _Rows]]
 
 _FILE = "A model file:\n" + modelfile.__doc__.split("\n", 1)[1]
 
@@ -61,11 +63,13 @@ def main(arguments: Sequence[str] | None = None) -> int:
     options = _parser().parse_args(_joined(sys.argv[1:] if arguments is None else arguments))
     options.warnings = []
     try:
+        answer, lines, rows = options.run(options)
         if options.json:
-            answer = options.run(options)[0]()
-            _print_json({**answer, "warnings": options.warnings} if options.warnings else answer)
+            _print_json({**answer(), "warnings": options.warnings} if options.warnings else answer())
+        elif options.csv:
+            csv.writer(sys.stdout, lineterminator="\n").writerows(rows())
         else:
-            for line in options.run(options)[1]():
+            for line in lines():
                 print(line, flush=True)
     except (PebblelinenError, MemoryError) as error:
         print(f"pebblelinen: {error}", file=sys.stderr)
@@ -114,7 +118,9 @@ def _parser() -> argparse.ArgumentParser:
         made.set_defaults(run=run)
         if file:
             made.add_argument("file", metavar="FILE", help="a model file, in TOML")
-        made.add_argument("--json", action="store_true", help="answer as JSON, numbers in full")
+        form = made.add_mutually_exclusive_group()
+        form.add_argument("--json", action="store_true", help="answer as JSON, numbers in full")
+        form.add_argument("--csv", action="store_true", help="answer as a table in CSV, numbers in full")
         if name not in ("degree", "demo"):
             made.add_argument("--all", action="store_true", help=f"show more than {_SHOWN} lines")
         return made
@@ -206,7 +212,13 @@ def _action(options: argparse.Namespace) -> _Answers:
             yield f"action on {word.by_site}: {counted(len(terms), 'word')}"
             yield from _listed(terms, options.all)
 
-    return answer, lines
+    def rows() -> _Rows:
+        yield "observable", "word", "value"
+        for word, terms in act():
+            for listed, value in terms:
+                yield word.by_site, listed.by_site, repr(value)
+
+    return answer, lines, rows
 
 
 def _leakage(options: argparse.Namespace) -> _Answers:
@@ -219,6 +231,12 @@ def _leakage(options: argparse.Namespace) -> _Answers:
             tau_add=options.tau_add,
             protected=file.protected,
         )
+
+    def summary() -> str:
+        if not len(terms):
+            return f"leakage: {terms.why_empty()}"
+        full = "; the room is full, and others may leak too" if terms.full else ""
+        return f"leakage: {counted(len(terms), 'word')}, largest {terms.largest()!r}{full}"
 
     def answer() -> dict[str, Any]:
         return {
@@ -235,14 +253,19 @@ def _leakage(options: argparse.Namespace) -> _Answers:
         room = f"room for {counted(terms.room, 'word')} more"
         yield f"basis: {counted(len(file.basis), 'position')}{protected}; {room}"
         yield ""
-        if not len(terms):
-            yield f"leakage: {terms.why_empty()}"
-            return
-        full = "; the room is full, and others may leak too" if terms.full else ""
-        yield f"leakage: {counted(len(terms), 'word')}, largest {terms.largest()!r}{full}"
-        yield from _listed(terms, options.all)
+        yield summary()
+        if len(terms):
+            yield from _listed(terms, options.all)
 
-    return answer, lines
+    def rows() -> _Rows:
+        # A table has no place to say that it is not all.
+        if terms.full or not len(terms):
+            print(f"pebblelinen: {summary()}", file=sys.stderr)
+        yield "word", "value"
+        for word, value in terms:
+            yield word.by_site, repr(value)
+
+    return answer, lines, rows
 
 
 def _generator(options: argparse.Namespace) -> _Answers:
@@ -270,7 +293,12 @@ def _generator(options: argparse.Namespace) -> _Answers:
         yield from _aligned([("row", "column", "value"), *shown])
         yield from _more(len(entries), options.all)
 
-    return answer, lines
+    def rows() -> _Rows:
+        yield "row", "column", "value", "row word", "column word"
+        for row, column, value in entries:
+            yield row, column, repr(value), words[row], words[column]
+
+    return answer, lines, rows
 
 
 def _degree(options: argparse.Namespace) -> _Answers:
@@ -285,7 +313,11 @@ def _degree(options: argparse.Namespace) -> _Answers:
         yield str(file.model)
         yield from _degree_lines(len(file.basis), options.dt, degree)
 
-    return answer, lines
+    def rows() -> _Rows:
+        yield "dt", *degree._fields
+        yield map(repr, (options.dt, *degree))
+
+    return answer, lines, rows
 
 
 def _degree_answer(degree: Degree) -> dict[str, Any]:
@@ -305,7 +337,9 @@ def _degree_lines(positions: int, dt: float, degree: Degree) -> Iterator[str]:
 
 def _demo(options: argparse.Namespace) -> _Answers:
     if options.model:
-        return lambda: {"model": demo.as_file()}, lambda: [demo.as_file().rstrip("\n")]
+        if options.csv:
+            raise InputError("--model prints a model file: there is no table of it for --csv")
+        return lambda: {"model": demo.as_file()}, lambda: [demo.as_file().rstrip("\n")], list
     count = _given.whole(options.rounds, "--rounds")
     with working("building the model"):
         model = demo.chain()
@@ -359,7 +393,12 @@ def _demo(options: argparse.Namespace) -> _Answers:
         yield ""
         yield from _degree_lines(len(basis), options.dt, degree())
 
-    return answer, lines
+    def rows() -> _Rows:
+        yield demo.Round._fields
+        for each in rounds():
+            yield map(repr, each)
+
+    return answer, lines, rows
 
 
 def _loaded(options: argparse.Namespace) -> modelfile.ModelFile:

@@ -7,6 +7,7 @@ import time
 from collections.abc import Iterator
 from typing import Any, NamedTuple
 
+from . import modelfile
 from ._types import NumberTable
 from .basis import Basis
 from .errors import InputError
@@ -44,23 +45,8 @@ def chain(n: int = QUBITS) -> Model:
 
 def as_file() -> str:
     """The chain as a model file."""
-    n = QUBITS
-    hamiltonian, jumps = items()
-    lines = [f"# A chain of {n} qubits with couplings, fields, decay and dephasing.", f"qubits = {n}", ""]
-    lines += ["[hamiltonian]", *(f'"{word}" = {x}' for word, x in hamiltonian.items())]
-    for rate, operator in jumps:
-        if isinstance(operator, dict):
-            terms = ", ".join(f'"{word}" = {_number(x)}' for word, x in operator.items())
-            operator = f"{{ {terms} }}"
-        else:
-            operator = f'"{operator}"'
-        lines += ["", "[[jumps]]", f"rate = {rate}", f"operator = {operator}"]
-    lines += ["", "[basis]", f'"{OBSERVABLE}" = 1.0', ""]
-    return "\n".join(lines)
-
-
-def _number(x: complex) -> str:
-    return f'"{x}"' if isinstance(x, complex) else str(x)
+    about = f"# A chain of {QUBITS} qubits with couplings, fields, decay and dephasing.\n"
+    return about + modelfile.text_of(chain(), Basis(QUBITS, {OBSERVABLE: 1.0}))
 
 
 class Round(NamedTuple):

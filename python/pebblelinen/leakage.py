@@ -2,9 +2,11 @@
 # SPDX-License-Identifier: Apache-2.0
 """What leaks out of a basis, with the room that there was to list it."""
 import math
+from collections.abc import Iterator
 from typing import Any
 
 from ._given import counted
+from ._showing import Table
 from .terms import Terms
 
 
@@ -46,6 +48,10 @@ class Leakage(Terms):
                 f" {self.entries}, the entries of the basis"
             )
         return f"no word leaks with a sum above {self.tau_add!r} in magnitude"
+
+    def _shown_tables(self) -> Iterator[Table]:
+        """In place of a table without rows, why there are none."""
+        return super()._shown_tables() if len(self) else iter([Table((self.why_empty(),), (), 0)])
 
     def __str__(self) -> str:
         return super().__str__() or self.why_empty()

@@ -1,27 +1,32 @@
 # SPDX-FileCopyrightText: 2026 The PPVM Authors
 # SPDX-License-Identifier: Apache-2.0
 """A model of a device: what it does to words and bases."""
-from collections.abc import Callable, Iterable, Mapping
+import functools
+from collections.abc import Callable, Iterable, Iterator, Mapping, Sequence
 from typing import Any, NamedTuple
 
 import numpy as np
 from numpy.typing import NDArray
 
-from . import _building, _given, _library, kossakowski, matrix
+from . import _building, _given, _library, items, kossakowski, matrix
 from ._building import AnyMatrix, AnyOperator
 from ._sealed import Sealed
+from ._showing import Shown, Table
 from ._tables import MOST_TOUCHED, work_tables
 from ._types import LaneTable, NumberTable
 from .basis import AnyWords, Basis, not_finite, refusal, too_short
+from .combining import summed
 from .errors import InputError, Refusal
+from .items import operator_text, row_text
 from .leakage import Leakage
-from .terms import Terms
+from .terms import AnyTerms, Terms
 from .words import (
     MAX_WORDS,
     AnyWord,
     Position,
     Word,
     lanes_of,
+    places_of,
     qubits,
     register,
     same_register,
@@ -50,7 +55,22 @@ class Degree(NamedTuple):
     mu: float
 
 
-class Model(Sealed):
+def _is_combination(given: Any) -> bool:
+    """Whether a combination was given, not a word: a mapping from words to numbers, not from qubits to letters."""
+    if isinstance(given, Mapping):
+        return isinstance(next(iter(given), None), (str, Word))
+    return isinstance(given, Iterable) and not isinstance(given, (str, bytes))
+
+
+def _place(given: int, count: int, what: str) -> int:
+    """A place among so many things of a kind."""
+    place = _given.whole(given, f"the place of a {what}", most=max(count - 1, 0))
+    if place >= count:
+        raise InputError(f"{what} {place} of a model with {count}, which are counted from 0")
+    return place
+
+
+class Model(Shown, Sealed):
     """A model on a register of n qubits: Hamiltonian terms, jumps and Kossakowski matrices.
 
     hamiltonian   (word, number) pairs, or a mapping: {"X0 X1": 1.0, "Z0": 0.5}
@@ -59,7 +79,7 @@ class Model(Sealed):
 
     An operator is (word, number) pairs, or a mapping, with complex numbers; a word alone has the number 1.
     (X + iY)/2 is |0><1|, which takes a qubit from 1 to 0: QuTiP's sigmap() and destroy(2).
-    Words are texts, or letters by site; see pebblelinen.words. A model cannot be changed.
+    Words are texts, or letters by site; see pebblelinen.words.
 
     A matrix K over operators A adds, summed over all n and m, to the rate of change of an observable p and of
     a state ρ
@@ -69,41 +89,43 @@ class Model(Sealed):
 
     If yours is K[n][m] A_n ρ A_m†, give K.T. A K with an eigenvalue below 0 by more than rounding is accepted,
     with the warning NotPositive; split_matrix gives one over more than 64 operators in parts.
+
+    A model cannot be changed. `hamiltonian`, `jumps` and `matrices` say what it was built from, in the form in
+    which they can be given, and with_rate, with_coefficient and with_k give another model, of which only the
+    item that changes is read again.
     """
 
     def __init__(
         self,
         n: int,
-        hamiltonian: Mapping[str, float] | Mapping[Word, float] | Iterable[tuple[AnyWord, float]] = (),
+        hamiltonian: AnyTerms = (),
         jumps: Iterable[tuple[float, AnyOperator]] = (),
         matrices: Iterable[tuple[Iterable[AnyOperator], AnyMatrix]] = (),
     ) -> None:
         n = register(n)
-        items = _building.hamiltonian_of(hamiltonian, n)
-        given_jumps = _building.jumps_of(jumps, n)
-        given_matrices = _building.matrices_of(matrices, n)
-
-        built, tables = _building.build(n, items, given_jumps)
+        given = _building.hamiltonian_of(hamiltonian), _building.jumps_of(jumps)
+        added = _building.matrices_of(matrices)
+        built, tables = _building.build(n, *given)
         if built.status.refusal:
-            raise _building.model_refusal(built.status, n, items, given_jumps, tables)
-        counts = built.model
-        for i, (operators, entries, rows) in enumerate(given_matrices):
-            added, tables = _building.add_matrix(counts, tables, operators, entries)
-            if added.status.refusal:
-                before = counts.jumps
-                raise _building.matrix_refusal(added.status, n, i, before, operators, entries, rows, tables)
-            counts = added.model
-        kossakowski.warn_if_not_positive(
-            [np.array(k, np.complex128).reshape(2 * [len(operators)]) for operators, k, _ in given_matrices],
-            lambda: [_building.keys_of(operators) for operators, *_ in given_matrices],
-        )
+            raise _building.model_refusal(built.status, n, *given, tables)
+        self._hold(given[1].rates, *_building.with_matrices(built.model, tables, added, 0))
+        kossakowski.warn_if_not_positive(*self._ks())
 
-        self.n = n
-        self.hamiltonian_terms = counts.hamiltonian
-        self.jumps = len(given_jumps)
-        self.pairs = counts.jumps - len(given_jumps)
+    def _hold(
+        self,
+        rates: NumberTable,
+        counts: _library.Model,
+        tables: _building.Tables,
+        added: tuple[items.Added, ...],
+    ) -> None:
+        """Takes what was built: the rates as they were given, the library's counts and tables, and where
+        matrices were added."""
+        self.n: int = counts.qubits
+        self.pairs: int = counts.jumps - len(rates)
         self._counts = (counts.qubits, counts.hamiltonian, counts.jumps, counts.terms)
         self._tables = _building.trimmed(tables, counts)
+        self._rates = rates
+        self._added = added
         # Places to begin with: words that an action touches, candidates, and entries of a generator. They
         # grow where the library asks for more.
         self._touched = 256
@@ -112,9 +134,117 @@ class Model(Sealed):
         self._sealed = True
 
     def __repr__(self) -> str:
-        terms = _given.counted(self.hamiltonian_terms, "Hamiltonian term")
-        jumps, pairs = _given.counted(self.jumps, "jump"), _given.counted(self.pairs, "pair")
+        terms = _given.counted(len(self.hamiltonian), "Hamiltonian term")
+        jumps, pairs = _given.counted(len(self._rates), "jump"), _given.counted(self.pairs, "pair")
         return f"Model of {qubits(self.n)}: {terms}, {jumps}, {pairs}"
+
+    def _shown_tables(self) -> Iterator[Table]:
+        """What it was built from. A table without rows is left out."""
+        terms = ((word.by_site, repr(x)) for word, x in self.hamiltonian)
+        jumps = ((str(i), operator_text(each.operator), repr(each.rate)) for i, each in enumerate(self.jumps))
+        rows = (
+            (str(i), operator_text(operator), row_text(row))
+            for i, each in enumerate(self.matrices)
+            for operator, row in zip(each.operators, each.k.tolist())
+        )
+        operators = sum(len(each.operators) for each in self.matrices)
+        for table in [
+            Table(("Hamiltonian term", "coefficient"), terms, len(self.hamiltonian)),
+            Table(("jump", "operator", "rate"), jumps, len(self.jumps)),
+            Table(("matrix", "operator", "row of K"), rows, operators),
+        ]:
+            if table.length:
+                yield table
+
+    # ---- what it was built from, and the same with another number ----
+
+    @property
+    def hamiltonian(self) -> Terms:
+        """The Hamiltonian terms as they were given."""
+        return Terms(self.n, self._tables["h_words"], self._tables["h_coeffs"])
+
+    @functools.cached_property
+    def jumps(self) -> tuple[items.Jump, ...]:
+        """The jumps as they were given: a rate and an operator each."""
+        return items.jumps(self.n, self._rates, self._tables)
+
+    @property
+    def matrices(self) -> tuple[items.Matrix, ...]:
+        """The Kossakowski matrices as they were given: operators and K each."""
+        return items.matrices(self.n, self._added, self._tables)
+
+    def with_coefficient(self, *, word: AnyWord, coefficient: float) -> "Model":
+        """The same model with another number at a word of its Hamiltonian."""
+        changed = Word(word, n=self.n)
+        places = places_of(changed, self.hamiltonian.words, self.n).tolist()
+        if len(places) != 1:
+            found = f"stands {len(places)} times" if places else "does not stand"
+            shown = f"the word {changed.by_site} {found} in the Hamiltonian"
+            raise InputError(f"{shown}: where it stands once it can be changed, else build another Model")
+        place = places[0]
+        item = _building.hamiltonian_of([(changed, coefficient)])
+        built, tables = _building.build(self.n, item, _building.NO_JUMPS)
+        if built.status.refusal:
+            raise _building.hamiltonian_refusal(built.status, self.n, place, item)
+        return self._with("h_coeffs", place, tables, self._rates)
+
+    def with_rate(self, *, jump: int, rate: float) -> "Model":
+        """The same model with another rate of a jump, which is named by its place among the jumps."""
+        place = _place(jump, len(self._rates), "jump")
+        given = _building.jumps_of([(rate, items.operator(self.n, place, self._tables))])
+        built, tables = _building.build(self.n, _building.NO_ITEMS, given)
+        if built.status.refusal:
+            raise _building.jump_refusal(built.status, self.n, place, given)
+        rates = self._rates.copy()
+        rates[place] = given.rates[0]
+        return self._with("rates", place, tables, rates)
+
+    def _with(self, name: str, place: int, built: _building.Tables, rates: NumberTable) -> "Model":
+        """The same model but for one number of a table, which is the first of a model of one item that the
+        library built."""
+        table = self._tables[name].copy()
+        table[place] = built[name][0]
+        model = object.__new__(Model)
+        model._hold(rates, _library.Model(*self._counts), {**self._tables, name: table}, self._added)
+        return model
+
+    def with_k(self, *, matrix: int, k: AnyMatrix) -> "Model":
+        """The same model with another K over the operators of a matrix, which is named by its place among the
+        matrices. This and later matrices are added anew, and where K is not positive there is the same warning."""
+        place = _place(matrix, len(self._added), "matrix")
+        later = self.matrices[place:]
+        ks = [k, *(each.k for each in later[1:])]
+        given = [
+            _building.matrix_of(each.operators, k, ("matrices", i))
+            for i, (each, k) in enumerate(zip(later, ks), place)
+        ]
+        before = self._added[place]
+        counts = _library.Model(*self._counts[:2], before.jumps, before.terms)
+        # The library writes where this model has its later matrices.
+        tables = {name: table.copy() for name, table in self._tables.items()}
+        counts, tables, added = _building.with_matrices(counts, tables, given, place)
+        model = object.__new__(Model)
+        model._hold(self._rates, counts, tables, self._added[:place] + added)
+        kossakowski.warn_if_not_positive(*model._ks())
+        return model
+
+    def _ks(self) -> tuple[list[NDArray[np.complex128]], Callable[[], list[Sequence[items.Operator]]]]:
+        """Every K, and how to find the operators of each."""
+        return [each.k for each in self._added], lambda: [each.operators for each in self.matrices]
+
+    def __eq__(self, other: object) -> bool:
+        """Whether two models were built from the same words and numbers, in the same order."""
+        if not isinstance(other, Model):
+            return NotImplemented
+        ours, theirs = (
+            [m._rates, *m._tables.values(), *(x for each in m._added for x in (each.counts, each.k))]
+            for m in (self, other)
+        )
+        same = self._counts == other._counts and len(ours) == len(theirs)
+        return same and all(map(np.array_equal, ours, theirs))
+
+    def __hash__(self) -> int:
+        return hash(self._counts)
 
     def _check(self, basis: Basis) -> None:
         if not isinstance(basis, Basis):
@@ -155,10 +285,21 @@ class Model(Sealed):
 
     # ---- the action on a word ----
 
-    def action(self, word: AnyWord) -> Terms:
-        """What the model does to a word, in the Heisenberg picture: the words with their numbers, in word
-        order."""
-        lanes = lanes_of(word, self.n)
+    def action(self, observable: AnyWord | AnyTerms) -> Terms:
+        """What the model does to an observable, in the Heisenberg picture: the words with their numbers, in
+        word order. The observable is a word, or a combination of words: terms, (word, number) pairs or a
+        mapping from words to numbers. That of a combination is the sum of the actions on its words, each
+        times its number, added in the order in which the words stand."""
+        given: Any = observable
+        if not _is_combination(given):
+            return self._action(lanes_of(given, self.n))
+        listed = Terms.of(given, n=self.n)
+        acted = [self._action(lanes) * x for lanes, x in zip(listed.words.tolist(), listed.values.tolist())]
+        words = np.concatenate([np.zeros((0, 4), np.uint64), *(terms.words for terms in acted)])
+        values = np.concatenate([np.zeros(0), *(terms.values for terms in acted)])
+        return Terms(self.n, *summed(words, values))
+
+    def _action(self, lanes: Sequence[int]) -> Terms:
         out: list[NDArray[Any]] = []
 
         def attempt(touched: int, _: int) -> Any:

@@ -25,9 +25,10 @@
     "Z0" = 1.0
 
 Where an order or a word that comes twice matters, `hamiltonian`, `operator` and `basis` may be lists of
-[word, number] instead.
+[word, number] instead. `save` writes a model as such a file.
 """
 import difflib
+import math
 import os
 import tomllib
 from collections.abc import Iterable, Mapping, Sequence
@@ -38,6 +39,7 @@ from ._types import ItemPath
 from .basis import Basis
 from .errors import InputError, Refusal
 from .model import Model
+from .words import AnyWord
 
 _KEYS = ["qubits", "protected", "hamiltonian", "jumps", "matrices", "basis"]
 
@@ -161,6 +163,90 @@ def _number(given: Any, path: ItemPath) -> Any:
         return complex(given.replace(" ", ""))
     except ValueError:
         raise InputError(f"{given!r} is no number: such as 0.5, '0.5j' or '1-2j' is needed", path) from None
+
+
+# ---- writing ----
+
+
+def save(
+    path: str | os.PathLike[str], model: Model, basis: Basis | None = None, protected: Iterable[AnyWord] = ()
+) -> None:
+    """Writes a model file, with a basis and protected words where they are given. Loading it gives the same
+    model, number for number."""
+    name, text = os.fspath(path), text_of(model, basis, protected)
+    try:
+        with open(name, "w", encoding="utf-8") as file:
+            file.write(text)
+    except OSError as error:
+        raise InputError(error.strerror or str(error), where=name) from None
+
+
+def text_of(model: Model, basis: Basis | None = None, protected: Iterable[AnyWord] = ()) -> str:
+    """The text of a model file."""
+    n = model.n
+    lines = [f"qubits = {n}"]
+    fixed = [_word_text(words.Word(word, n=n)) for word in protected]
+    if fixed:
+        lines.append(f"protected = [{', '.join(fixed)}]")
+    entries = [] if basis is None else list(words.same_register(basis, n, "basis").terms())
+    named = {"hamiltonian": list(model.hamiltonian), "basis": entries}
+    # Lists stand before all tables.
+    lines += [f"{name} = {_pairs_text(items)}" for name, items in named.items() if _twice(items)]
+    lines += _table_lines("hamiltonian", named["hamiltonian"])
+    for jump in model.jumps:
+        lines += ["", "[[jumps]]", f"rate = {jump.rate!r}", f"operator = {_operator_text(jump.operator)}"]
+    for matrix in model.matrices:
+        operators = ", ".join(map(_operator_text, matrix.operators))
+        lines += ["", "[[matrices]]", f"operators = [{operators}]", f"k = {_rows_text(matrix.k.tolist())}"]
+    lines += _table_lines("basis", named["basis"])
+    return "\n".join([*lines, ""])
+
+
+# Words with a number each.
+_Items = Sequence[tuple[words.Word, complex]]
+
+
+def _twice(items: _Items) -> bool:
+    """Whether a word comes twice: a table has each of its keys once."""
+    return len({word for word, _ in items}) < len(items)
+
+
+def _table_lines(name: str, items: _Items) -> list[str]:
+    if not items or _twice(items):
+        return []
+    return ["", f"[{name}]", *(f"{_word_text(word)} = {_number_text(x)}" for word, x in items)]
+
+
+def _pairs_text(items: _Items) -> str:
+    return f"[{', '.join(f'[{_word_text(word)}, {_number_text(x)}]' for word, x in items)}]"
+
+
+def _operator_text(operator: _Items) -> str:
+    if len(operator) == 1 and repr(operator[0][1]) == "(1+0j)":
+        return _word_text(operator[0][0])
+    if _twice(operator):
+        return _pairs_text(operator)
+    return f"{{ {', '.join(f'{_word_text(word)} = {_number_text(x)}' for word, x in operator)} }}"
+
+
+def _rows_text(rows: Iterable[Iterable[complex]]) -> str:
+    return f"[{', '.join(f'[{row}]' for row in (', '.join(map(_number_text, row)) for row in rows))}]"
+
+
+def _word_text(word: words.Word) -> str:
+    # The identity by site names qubit 0, which a register without qubits does not have.
+    return f'"{word.by_site if word.n else ""}"'
+
+
+def _number_text(x: complex) -> str:
+    """A number that is read as it was, signs of zeros too: a complex one is a text."""
+    if isinstance(x, complex):
+        real = x.imag == 0 and math.copysign(1, x.imag) > 0
+        return repr(x.real) if real else f'"{str(x).strip("()")}"'
+    return repr(x)
+
+
+# ---- where an error is ----
 
 
 def _key(path: ItemPath, data: Any) -> str:

@@ -7,8 +7,9 @@ from typing import Any, TypeVar, Union, overload
 import numpy as np
 from numpy.typing import NDArray
 
-from . import _given
+from . import _given, combining
 from ._sealed import Sealed, read_only
+from ._showing import Shown, Table
 from ._types import LaneTable, NumberTable
 from .errors import InputError
 from .words import AnyWord, Word, lanes_of, made, places_of, qubits, register, same_register, site_text, table
@@ -16,7 +17,7 @@ from .words import AnyWord, Word, lanes_of, made, places_of, qubits, register, s
 _Default = TypeVar("_Default")
 
 
-class Terms(Sealed):
+class Terms(Shown, Sealed):
     """Words with their values, which actions and leakages list in word order.
 
     n        the qubits of the register
@@ -25,6 +26,9 @@ class Terms(Sealed):
 
     `"X12 Z40" in terms`, `terms["X12 Z40"]` and `terms.get("X12 Z40")` take a word in every way of writing
     it; what is no word of the register raises.
+
+    They are a combination of words: terms can be added, subtracted and multiplied by real numbers, and have an
+    expectation in a product state.
 
     Arrays that are given are not copied where they can be lent as they are. Terms cannot be changed, and their
     arrays are to be read only: `terms.values.copy()` is your own.
@@ -96,10 +100,50 @@ class Terms(Sealed):
         """The largest magnitude; 0 where there are no words."""
         return float(abs(self.values).max(initial=0.0))
 
+    # ---- as a combination ----
+
+    def __add__(self, other: "Terms | int") -> "Terms":
+        """The sum: each word once, in word order, none with a value of 0. Values are added in the order in which
+        they stand. 0 can be added, so that sum() takes terms."""
+        if isinstance(other, int) and other == 0:
+            other = Terms(self.n, np.zeros(0, np.uint64), np.zeros(0))
+        if not isinstance(other, Terms):
+            return NotImplemented
+        same_register(other, self.n, "list")
+        words = np.concatenate((self.words, other.words))
+        return Terms(self.n, *combining.summed(words, np.concatenate((self.values, other.values))))
+
+    __radd__ = __add__
+
+    def __sub__(self, other: "Terms") -> "Terms":
+        return self + -other if isinstance(other, Terms) else NotImplemented
+
+    def __neg__(self) -> "Terms":
+        return Terms(self.n, self.lanes, -self.values)
+
+    def __mul__(self, number: float) -> "Terms":
+        """The same words, each value times a real number."""
+        return Terms(self.n, self.lanes, self.values * _given.real(number, "the factor of terms"))
+
+    __rmul__ = __mul__
+
+    def __truediv__(self, number: float) -> "Terms":
+        return Terms(self.n, self.lanes, self.values / _given.real(number, "the divisor of terms"))
+
+    def expectation(self, state: str) -> float:
+        """The expectation in a product state with one letter for each qubit, qubit 0 first: 0 and 1 are the
+        eigenstates of Z with +1 and -1, + and - those of X, r and l those of Y. In "0" * n all qubits are in
+        the ground state."""
+        return combining.expectation(self.n, self.words, self.values, state)
+
     def __str__(self) -> str:
         shown = [(word.by_site, value) for word, value in self]
         width = max((len(text) for text, _ in shown), default=0)
         return "\n".join(f"{text:{width}}  {' ' * (value >= 0)}{value!r}" for text, value in shown)
+
+    def _shown_tables(self) -> Iterator[Table]:
+        rows = ((word.by_site, repr(value)) for word, value in self)
+        yield Table(("word", "value"), rows, len(self))
 
     def __repr__(self) -> str:
         return f"Terms of {_given.counted(len(self), 'word')} on {qubits(self.n)}"

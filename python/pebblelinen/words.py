@@ -11,6 +11,7 @@ A word can be given in three ways:
 """
 import functools
 import re
+import struct
 from collections.abc import Iterable, Iterator, Mapping, Sequence
 from types import MappingProxyType
 from typing import Any, ClassVar, Protocol, TypeVar
@@ -25,8 +26,10 @@ from .errors import InputError, Refusal
 MAX_QUBITS = 128
 # The most words of a list, and the largest word limit.
 MAX_WORDS = 65_536
-_LETTERS = "IXZY"  # by code
+LETTERS = "IXZY"  # by code
 _CODES = "I is 0, X 1, Z 2, Y 3"
+_NO_SIGN = "a word has no sign or phase: give it to the word's number"
+_PACKED = struct.Struct("=4Q")
 _SITE = re.compile(r"([^\s0-9])0*([0-9]+)")
 
 
@@ -109,9 +112,11 @@ class Word:
     with a Word, or compare `word.by_site` or `word.text`.
     """
 
-    __slots__ = ("n", "lanes")
+    # Packed are the lanes as they stand in a table, for tables of many words.
+    __slots__ = ("n", "lanes", "packed")
     n: int
     lanes: FourLanes
+    packed: bytes
 
     def __init__(self, word: "AnyWord", *, n: int) -> None:
         n = register(n)
@@ -164,7 +169,7 @@ class Word:
     @property
     def text(self) -> str:
         """One letter for each qubit, qubit 0 first."""
-        return "".join(_LETTERS[code] for code in self.codes)
+        return "".join(LETTERS[code] for code in self.codes)
 
     @property
     def letters(self) -> Mapping[Qubit, str]:
@@ -175,6 +180,59 @@ class Word:
     def by_site(self) -> str:
         """The letters other than I with their qubits: "X12 Z40". The identity is "I0"."""
         return site_text(self.lanes)
+
+    # ---- words of other packages, by their names, since each has an order and a count of its own ----
+
+    @classmethod
+    def from_qiskit(cls, label: str) -> "Word":
+        """The word of a label of Qiskit, which has a letter for each qubit, qubit 0 last: "XIZ" is Z0 X2."""
+        label = _unsigned(label, "Qiskit label", "IXYZ")
+        return cls(label[::-1], n=len(label))
+
+    def to_qiskit(self) -> str:
+        """The label of Qiskit: qubit 0 last."""
+        return self.text[::-1]
+
+    @classmethod
+    def from_openfermion(cls, term: Iterable[tuple[int, str]], *, n: int) -> "Word":
+        """The word of a term of OpenFermion's QubitOperator: ((0, "X"), (2, "Z")). Qubits count from 0; ()
+        is the identity."""
+        letters = ((_site(q, ()), letter) for q, letter in _given.pairs(term, "letter"))
+        return cls(_each_once(letters, term), n=n)
+
+    def to_openfermion(self) -> tuple[tuple[int, str], ...]:
+        """The term of OpenFermion's QubitOperator."""
+        return tuple(_sites(self.lanes))
+
+    @classmethod
+    def from_stim(cls, text: str) -> "Word":
+        """The word of the text of a Pauli string of Stim: "+X_Z", a letter for each qubit, qubit 0 first, where _
+        is I. (Elsewhere in this package _ is dropped, so that "X_Z" has two letters.)"""
+        text = _unsigned(text.removeprefix("+") if isinstance(text, str) else text, "Pauli string", "I_XYZ")
+        return cls(text.replace("_", "I"), n=len(text))
+
+    def to_stim(self) -> str:
+        """The text of a Pauli string of Stim, with the sign +."""
+        return "+" + self.text.replace("I", "_")
+
+    @classmethod
+    def from_julia(cls, *letters: str | int, n: int) -> "Word":
+        """The word of letters and sites that count from 1, as ITensors' OpSum and PauliStrings.jl list them:
+        Word.from_julia("X", 1, "Z", 3, n=3) is X0 Z2."""
+        if len(letters) % 2:
+            raise InputError(f"{_given.shown(letters)}: a site is needed after each letter")
+        sites = [_given.whole(site, "a site", most=MAX_QUBITS) for site in letters[1::2]]
+        if 0 in sites:
+            raise InputError(f"{_given.shown(letters)} has the site 0: sites count from 1 here")
+        by_qubit = ((site - 1, letter) for site, letter in zip(sites, letters[::2]))
+        return cls(_each_once(by_qubit, letters), n=n)
+
+    def to_julia(self) -> tuple[str | int, ...]:
+        """Letters and sites that count from 1: ("X", 1, "Z", 3)."""
+        found: list[str | int] = []
+        for q, letter in _sites(self.lanes):
+            found += letter, q + 1
+        return tuple(found)
 
     def letter(self, *, qubit: Qubit | int) -> str:
         """The letter at a qubit of the register."""
@@ -248,6 +306,7 @@ _OfRegister = TypeVar("_OfRegister", bound=OfRegister)
 def _set(word: Word, n: int, lanes: Sequence[int]) -> None:
     object.__setattr__(word, "n", n)
     object.__setattr__(word, "lanes", lanes)
+    object.__setattr__(word, "packed", _PACKED.pack(*lanes))
 
 
 def made(lanes: Iterable[int], n: int) -> Word:
@@ -255,6 +314,32 @@ def made(lanes: Iterable[int], n: int) -> Word:
     word = object.__new__(Word)
     _set(word, n, tuple(lanes))
     return word
+
+
+def _each_once(letters: Iterable[tuple[int, Any]], word: Any, path: ItemPath = ()) -> dict[int, Any]:
+    """Letters by their qubits, each of which has one."""
+    found: dict[int, Any] = {}
+    for q, letter in letters:
+        if q in found:
+            raise InputError(
+                f"qubit {q} comes twice in the word {_given.shown(word)}: give the product of its letters, and the"
+                " phase to the word's number",
+                path,
+            )
+        found[q] = letter
+    return found
+
+
+def _unsigned(text: Any, what: str, letters: str) -> str:
+    """A text of letters; a sign before them is no part of a word."""
+    if not isinstance(text, str):
+        raise InputError(f"{_given.shown(text)} is no {what}: a text is needed")
+    if text[:1] in ("-", "+", "i"):
+        raise InputError(f"the {what} {_given.shown(text)}: {_NO_SIGN}")
+    wrong = next((letter for letter in text if letter not in letters), None)
+    if wrong is not None:
+        raise InputError(f"{wrong!r} in the {what} {_given.shown(text)}: {', '.join(letters)} are its letters")
+    return text
 
 
 def qubits(n: int) -> str:
@@ -276,7 +361,7 @@ def _sites(lanes: Sequence[int]) -> Iterator[tuple[int, str]]:
     while left:
         q = (left & -left).bit_length() - 1
         left &= left - 1
-        yield q, _LETTERS[(x >> q & 1) + 2 * (z >> q & 1)]
+        yield q, LETTERS[(x >> q & 1) + 2 * (z >> q & 1)]
 
 
 def site_text(lanes: Sequence[int]) -> str:
@@ -367,14 +452,10 @@ def _by_site(word: str | Mapping[int, str] | Mapping[Qubit, str], path: ItemPath
         raise InputError(
             f"{_given.shown(word)} is no word: a text, or letters by their qubits, is needed", path
         )
-    sites: dict[int, str] = {}
     for qubit, letter in given:
         if not isinstance(letter, str) or len(letter) != 1:
             raise InputError(f"qubit {qubit} has {_given.shown(letter)}: a letter is needed", path)
-        if qubit in sites:
-            raise InputError(f"qubit {qubit} comes twice in the word {_given.shown(word)}", path)
-        sites[qubit] = letter
-    return sites
+    return _each_once(given, word, path)
 
 
 def _site(qubit: int | Qubit, path: ItemPath) -> int:
@@ -397,7 +478,7 @@ def _advice(text: str) -> str:
     """What to write instead of a text that is written as words are elsewhere."""
     bare = text.strip()
     if re.match(r"[-+−]|i[IXYZ]", bare):
-        return "; a word has no sign or phase: give it to the word's number"
+        return f"; {_NO_SIGN}"
     if "σ" in bare:
         return "; write X, Y, Z for σx, σy, σz"
     if re.fullmatch(r"([A-Za-z][0-9]+){2,}", bare):

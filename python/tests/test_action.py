@@ -3,18 +3,15 @@
 """The action of a model on words, against full matrices."""
 import random
 import unittest
-import warnings
 
 import numpy as np
 
+import any_k
 import dense
-from pebblelinen import Model, NotPositive, Word
+from pebblelinen import Model, Word
 
 
-def setUpModule():
-    # Random matrices need not be positive.
-    unittest.enterModuleContext(warnings.catch_warnings())
-    warnings.simplefilter("ignore", NotPositive)
+setUpModule = any_k.without_warning
 
 
 class Action(unittest.TestCase):

@@ -59,7 +59,7 @@ class Nothing(unittest.TestCase):
     def test_models(self):
         self.assertEqual(repr(Model(2)), "Model of 2 qubits: 0 Hamiltonian terms, 0 jumps, 0 pairs")
         model = Model(2, {"ZZ": 0.5}, [], [([], [])])
-        self.assertEqual((model.hamiltonian_terms, model.jumps, model.pairs), (1, 0, 0))
+        self.assertEqual((len(model.hamiltonian), len(model.jumps), model.pairs), (1, 0, 0))
 
     def test_calls_over_no_words(self):
         model, basis = Model(2, {"ZZ": 0.5}, [(0.25, "X0")]), Basis(2)

@@ -6,18 +6,15 @@ import pickle
 import random
 import threading
 import unittest
-import warnings
 
 import numpy as np
 
+import any_k
 import dense
-from pebblelinen import Basis, Entry, InputError, Model, NotPositive, Position, Terms, Word
+from pebblelinen import Basis, Entry, InputError, Model, Position, Terms, Word
 
 
-def setUpModule():
-    # Random matrices need not be positive.
-    unittest.enterModuleContext(warnings.catch_warnings())
-    warnings.simplefilter("ignore", NotPositive)
+setUpModule = any_k.without_warning
 
 
 def pruned(entries, drop_tol, protected):

@@ -2,6 +2,7 @@
 # SPDX-License-Identifier: Apache-2.0
 """The command: what it prints for people and for programs, and its exit status."""
 import contextlib
+import csv
 import io
 import json
 import os
@@ -100,6 +101,49 @@ class Commands(Case):
         self.assertEqual(answer, {"qubits": 3, "room": 1, "full": True, "largest": 2.0, "terms": terms})
         answer = self.json("leakage", self.path, "--max-basis", "2", "--admit-basis", "4")
         self.assertEqual(len(answer["terms"]), 2)
+
+    def csv(self, *arguments):
+        return list(csv.reader(io.StringIO(self.answered(*arguments, "--csv"))))
+
+    def test_csv(self):
+        out = self.answered("action", self.path, "Z0", "X1 Z2", "--csv")
+        self.assertEqual(out.splitlines()[:2], ["observable,word,value", "Z0,I0,0.5"])
+        for arguments in ["action", self.path, "Z0"], ["leakage", self.path, "--max-basis", "10"]:
+            terms = self.json(*arguments)
+            terms = terms["terms"] if "terms" in terms else terms["actions"][0]["terms"]
+            found = [(row[-2], float(row[-1])) for row in self.csv(*arguments)[1:]]
+            self.assertEqual(found, [(each["word"], each["value"]) for each in terms])
+        header, *rows = self.csv("generator", self.path)
+        self.assertEqual(header, ["row", "column", "value", "row word", "column word"])
+        answer = self.json("generator", self.path)
+        entries = [(each["row"], each["column"], each["value"]) for each in answer["entries"]]
+        self.assertEqual([(int(row), int(column), float(x)) for row, column, x, *_ in rows], entries)
+        for row, column, _, *words in rows:
+            self.assertEqual(words, [answer["basis"][int(row)], answer["basis"][int(column)]])
+        header, row = self.csv("degree", self.path, "--dt", "0.1")
+        answer = self.json("degree", self.path, "--dt", "0.1")
+        self.assertEqual(header, ["dt", "m", "s", "norm", "mu"])
+        self.assertEqual([float(x) for x in row], [0.1, *(answer[name] for name in header[1:])])
+        header, *rows = self.csv("demo", "--rounds", "2")
+        self.assertEqual(header[:2], ["number", "leaked"])
+        self.assertEqual([row[0] for row in rows], ["1", "2"])
+
+    def test_csv_has_every_line(self):
+        terms = "\n".join(f'"Z0 {letter}{q}" = 1.0' for q in range(1, 30) for letter in "XZ")
+        self.write(f"qubits = 30\n[hamiltonian]\n{terms}")
+        self.assertEqual(len(self.csv("action", self.path, "X0")), 1 + 58)
+
+    def test_one_form_at_a_time(self):
+        status, out, error = self.run_command("action", self.path, "--csv", "--json")
+        self.assertEqual((status, out), (2, ""))
+        self.assertIn("not allowed with", error)
+        status, out, error = self.run_command("demo", "--model", "--csv")
+        self.assertEqual((status, out), (2, ""))
+        self.assertIn("--model prints a model file", error)
+        self.write(MODEL.replace("rate = 0.5", "rate = -0.5"))
+        status, out, error = self.run_command("action", self.path, "--csv")
+        self.assertEqual((status, out), (1, ""))
+        self.assertIn("refusal 5", error)
 
     def test_long_lists_are_cut(self):
         terms = "\n".join(f'"Z0 {letter}{q}" = 1.0' for q in range(1, 30) for letter in "XZ")

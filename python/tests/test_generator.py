@@ -3,26 +3,23 @@
 """Generators, their products, norms and degrees, against full matrices and the rules written plainly."""
 import random
 import unittest
-import warnings
 from unittest import mock
 
 import numpy as np
 import scipy.linalg
 import scipy.sparse
 
+import any_k
 import dense
 import pebblelinen.model
 import test_command
 import test_refusals
-from pebblelinen import Basis, Choice, InputError, Model, NotPositive, Position, demo, product, row, select_ms
+from pebblelinen import Basis, Choice, InputError, Model, Position, demo, product, row, select_ms
 
 NAN, INF = float("nan"), float("inf")
 
 
-def setUpModule():
-    # Random matrices need not be positive.
-    unittest.enterModuleContext(warnings.catch_warnings())
-    warnings.simplefilter("ignore", NotPositive)
+setUpModule = any_k.without_warning
 
 
 def everything(n):

@@ -111,6 +111,17 @@ class Positive(unittest.TestCase):
             said = self.warned(self.model((operators, k)))
             self.assertEqual(said, [f"matrix 0: K has the eigenvalue {eigenvalue}, below 0{after}"])
 
+    def test_another_k(self):
+        model = Model(3, {"Z0": 1.0}, [(1.0, "X0")], [(["Z0"], [[1]]), (["Z1"], [[1]])])
+        (said,) = self.warned(lambda: model.with_k(matrix=1, k=[[-0.5]]))
+        self.assertIn("matrix 1: K has the eigenvalue -0.5, below 0, and -0.5 with all matrices added up", said)
+        self.assertEqual(self.warned(lambda: model.with_k(matrix=1, k=[[0.5]])), [])
+        with self.assertWarns(NotPositive):
+            model = model.with_k(matrix=0, k=[[-1]])
+        # It was said once: nothing about K changes here.
+        self.assertEqual(self.warned(lambda: model.with_rate(jump=0, rate=2)), [])
+        self.assertEqual(self.warned(lambda: model.with_coefficient(word="Z0", coefficient=2)), [])
+
     def test_the_curve_grows(self):
         with self.assertWarns(NotPositive):
             model = Model(1, matrices=[(["Z"], [[-0.5]])])

@@ -52,6 +52,12 @@ class Lists(unittest.TestCase):
             self.assertEqual((leaked.room, leaked.full, leaked.largest()), (max_basis, False, 0.0))
             self.assertEqual(str(leaked), "nothing leaks out of a basis without entries")
 
+    def test_tables_say_why_they_are_empty(self):
+        for max_basis in 1, 9:
+            leaked = Model(2, {"ZZ": 1.0}).leakage(Basis(2, {"ZI": 1.0}), max_basis=max_basis)
+            self.assertIn(f"<p>Leakage of 0 words on 2 qubits, room for {max_basis - 1}</p>", leaked._repr_html_())
+            self.assertIn(f">{leaked.why_empty()}</th>", leaked._repr_html_())
+
     def test_copies(self):
         leaked = MODEL.leakage(Basis(2, {"XY": 1.0}), max_basis=3)
         for other in copy.copy(leaked), copy.deepcopy(leaked), pickle.loads(pickle.dumps(leaked)):
@@ -74,6 +80,15 @@ class Command(test_command.Case):
         self.assertNotIn("largest", out)
         answer = self.json("leakage", self.path, "--max-basis", "2")
         self.assertEqual(answer, {"qubits": 3, "room": 0, "full": True, "largest": None, "terms": []})
+
+    def test_csv_says_it_beside_the_table(self):
+        for most, said in [
+            ("2", NO_ROOM.replace("above 1", "above 2")),
+            ("3", "1 word, largest 2.0; the room is full, and others may leak too"),
+        ]:
+            status, out, error = self.run_command("leakage", self.path, "--max-basis", most, "--csv")
+            self.assertEqual((status, error), (0, f"pebblelinen: leakage: {said}\n"))
+            self.assertEqual(out, "word,value\n" + "Y0 X1,2.0\n" * (most == "3"))
 
     def test_a_file_without_a_basis(self):
         for text in 'qubits = 1\n[hamiltonian]\n"Z" = 1', "qubits = 1\n[basis]":

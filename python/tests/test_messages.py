@@ -110,7 +110,12 @@ class Matrices(Case):
         self.assertEqual(Model(3, matrices=((["Z0"], np.eye(1)), (["Z1"], np.eye(1)))).pairs, 2)
         said = "jumps is one (rate, operator) pair: a list of pairs, [(rate, operator)], is needed"
         self.told(InputError, said, lambda: Model(3, jumps=(0.1, "Z0")))
-        self.assertEqual(Model(3, jumps=((0.1, "Z0"), (0.2, "Z1"))).jumps, 2)
+        self.assertEqual(len(Model(3, jumps=((0.1, "Z0"), (0.2, "Z1"))).jumps), 2)
+        # What a model says of itself: all of it can be given again, one of it stands for no list.
+        model = Model(3, jumps=[(0.1, "Z0"), (0.2, "Z1")], matrices=[(["Z0"], [[1]]), (["Z1"], [[1]])])
+        self.assertEqual(Model(3, jumps=model.jumps, matrices=model.matrices), model)
+        self.told(InputError, "jumps is one (rate, operator) pair", lambda: Model(3, jumps=model.jumps[0]))
+        self.told(InputError, "matrices is one (operators, K) pair", lambda: Model(3, matrices=model.matrices[0]))
 
     def test_many_operators(self):
         said = "matrix 0 has 65 operators: at most 64; K can be split: pebblelinen.split_matrix(operators, K)"

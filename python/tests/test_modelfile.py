@@ -85,7 +85,7 @@ class Files(unittest.TestCase):
     def test_the_example_in_the_help(self):
         text = modelfile.__doc__.split("\n\n", 1)[1].rsplit("\n\n", 1)[0]
         file = self.load("\n".join(line.strip() for line in text.splitlines()))
-        self.assertEqual((file.model.jumps, file.model.pairs, len(file.basis)), (2, 3, 1))
+        self.assertEqual((len(file.model.jumps), file.model.pairs, len(file.basis)), (2, 3, 1))
 
     def test_word_of_a_wrong_length(self):
         self.refused(

@@ -73,11 +73,35 @@ class Arrays(unittest.TestCase):
         self.assertEqual(row(csr, position=0)[1].tolist(), [4.0])
 
 
+    def test_what_a_model_was_built_from(self):
+        k = np.eye(2)
+        model = Model(2, Terms(2, self.lanes, self.numbers), matrices=[(["Z0", "Z1"], k)])
+        again = model.with_k(matrix=0, k=k)
+        for each in model, again, copy.deepcopy(model), pickle.loads(pickle.dumps(model)):
+            self.read_only(each.hamiltonian.words, each.hamiltonian.values, each.matrices[0].k)
+            self.assertEqual(each, model)
+        k *= 2
+        self.numbers *= 2
+        self.assertEqual(model.matrices[0].k.tolist(), np.eye(2).tolist())
+        self.assertEqual(model.hamiltonian.values.tolist(), NUMBERS.tolist())
+        self.assertEqual(model, again)
+
+    def test_combinations(self):
+        basis = Basis(2, {"XI": 1.0, "IZ": 2.0})
+        terms = basis.terms()
+        for each in terms, terms + terms, 2 * terms, -terms, terms / 2, Model(2, {"XI": 1.0}).action(terms):
+            self.read_only(each.words, each.values)
+            with self.assertRaises(AttributeError):
+                each.values = [1.0, 2.0]
+        basis.coefficients *= 2
+        self.assertEqual(terms.values.tolist(), [1.0, 2.0])
+
+
 class Attributes(unittest.TestCase):
     def test_they_cannot_be_set(self):
         model, basis = Model(2, {"XX": 1.0}), Basis(2, {"ZI": 1.0})
         things = [
-            (model, ["n", "jumps", "pairs", "hamiltonian_terms", "rate"]),
+            (model, ["n", "hamiltonian", "jumps", "matrices", "pairs", "rate"]),
             (basis, ["n", "words", "lanes", "coefficient"]),
             (model.action("ZI"), ["n", "words", "lanes", "values", "value"]),
             (model.leakage(basis, max_basis=5), ["n", "values"]),
