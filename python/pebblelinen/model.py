@@ -64,7 +64,7 @@ def _place(given: int, count: int, what: str) -> int:
     """A place among so many things of a kind."""
     place = _given.whole(given, f"the place of a {what}")
     if place >= count:
-        raise InputError(f"{what} {place} of a model with {count}, which are counted from 0")
+        raise InputError(f"there is no {what} {place}: the model has {count}, counted from 0")
     return place
 
 
@@ -112,7 +112,7 @@ class Model(Shown):
         self._entries = 0
 
     def __repr__(self):
-        terms = _given.counted(len(self.hamiltonian), "Hamiltonian term")
+        terms = _given.counted(self._counts[1], "Hamiltonian term")
         jumps, pairs = _given.counted(len(self._rates), "jump"), _given.counted(self.pairs, "pair")
         return f"Model of {qubits(self.n)}: {terms}, {jumps}, {pairs}"
 

@@ -147,10 +147,10 @@ class Changing(unittest.TestCase):
     def test_items_that_are_not_there(self):
         model = Model(2, [("Z0", 1.0), ("Z0", 2.0)], [(1.0, "X0")])
         for call, said in [
-            (lambda: model.with_rate(jump=1, rate=1), "jump 1 of a model with 1, which are counted from 0"),
+            (lambda: model.with_rate(jump=1, rate=1), "there is no jump 1: the model has 1, counted from 0"),
             (lambda: model.with_rate(jump=-1, rate=1), "the place of a jump is -1"),
             (lambda: model.with_rate(jump=0, rate="1"), "the rate of jump 0 is '1'"),
-            (lambda: model.with_k(matrix=0, k=[[1]]), "matrix 0 of a model with 0"),
+            (lambda: model.with_k(matrix=0, k=[[1]]), "there is no matrix 0: the model has 0"),
             (lambda: model.with_coefficient(word="Z1", coefficient=1), "the word Z1 does not stand"),
             (lambda: model.with_coefficient(word="Z0", coefficient=1), "the word Z0 stands 2 times"),
         ]:
