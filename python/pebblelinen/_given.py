@@ -7,6 +7,7 @@ a rate below 0 or 70,000 words go through."""
 import operator
 import reprlib
 from collections.abc import Mapping
+from typing import Any
 
 import numpy as np
 
@@ -78,18 +79,19 @@ def pairs(given, what, path=()):
     return items
 
 
-def unpaired(items: list) -> int | None:
+def unpaired(items: list[Any]) -> int | None:
     """The place of the first item that is no pair."""
     if all(issubclass(kind, tuple) for kind in set(map(type, items))) and set(map(len, items)) <= {2}:
         return None
     return next((place for place, item in enumerate(items) if not _is_pair(item)), None)
 
 
-def _is_pair(item) -> bool:
+def _is_pair(item: Any) -> bool:
     return not isinstance(item, (str, bytes, Mapping)) and hasattr(item, "__len__") and len(item) == 2
 
 
-def no_pair(item, what: str, path: tuple) -> InputError:
+def no_pair(item: Any, what: str, path: tuple[Any, ...]) -> InputError:
+    """What is raised for an item that is no pair."""
     return InputError(f"{what} is {shown(item)}: a pair is needed", path)
 
 

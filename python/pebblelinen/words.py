@@ -286,8 +286,8 @@ def _unsigned(text: Any, what: str, letters: str) -> str:
         raise InputError(f"{_given.shown(text)} is no {what}: a text is needed")
     if text[:1] in ("-", "+", "i"):
         raise InputError(
-            f"the {what} {_given.shown(text)} has a sign or phase, and a word has none: give the letters alone, and"
-            " multiply the word's number by it"
+            f"the {what} {_given.shown(text)} has a sign or phase, and a word has none: give the letters alone,"
+            " and multiply the word's number by it"
         )
     wrong = next((letter for letter in text if letter not in letters), None)
     if wrong is not None:

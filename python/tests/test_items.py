@@ -45,7 +45,8 @@ class Reading(unittest.TestCase):
         model = Model(3, {"Z0": 0.0, "III": 0.5}, [(0.25, "X2"), (0.0, {"Y1": -2}), (1, {"Y1": 1j})])
         self.assertEqual(model.hamiltonian.by_site(), {"Z0": 0.0, "I0": 0.5})
         self.assertEqual(model.jumps[0], Jump(0.25, ((Word("X2", n=3), 1),)))
-        self.assertEqual([str(jump) for jump in model.jumps], ["X2, rate 0.25", "-2.0 Y1, rate 0.0", "1.0j Y1, rate 1.0"])
+        shown = ["X2, rate 0.25", "-2.0 Y1, rate 0.0", "1.0j Y1, rate 1.0"]
+        self.assertEqual([str(jump) for jump in model.jumps], shown)
         self.assertEqual((Model(2).jumps, Model(2).matrices, len(Model(2).hamiltonian)), ((), (), 0))
         matrix = Model(2, matrices=[(["Z0", {"X1": 0.5, "Y1": 0.5j}], np.eye(2))]).matrices[0]
         self.assertIsInstance(matrix, Matrix)
