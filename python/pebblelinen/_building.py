@@ -6,6 +6,8 @@ item that is to blame.
 The library says by which cause and index it refused. Which item has the text or the number that is meant is
 found by asking it again about one item at a time."""
 import bisect
+import functools
+import itertools
 from collections.abc import Callable, Collection, Iterable, Mapping, Sequence
 from dataclasses import dataclass
 from typing import Any
@@ -138,22 +140,21 @@ def _is_matrix(given: Any) -> bool:
 
 def operators_of(given: list[Any], path_of: Callable[[int], ItemPath]) -> Operators:
     """The operators of a list, to each of which path_of says the way."""
-    counts: list[int] = []
-    items: list[Any] = []
-    for operator in given:
-        if type(operator) is not list and type(operator) is not tuple:
-            operator = _operator(operator, path_of, len(counts))
-        counts.append(len(operator))
-        items += operator
-    lengths = np.fromiter(counts, np.uint64, len(counts))
-    ends = lengths.cumsum().tolist()
+    if not set(map(type, given)) <= {list, tuple}:
+        given = [_operator(each, path_of, i) for i, each in enumerate(given)]
+    counts = np.fromiter(map(len, given), np.uint64, len(given))
+
+    @functools.cache
+    def ends() -> list[int]:
+        found: list[int] = counts.cumsum().tolist()
+        return found
 
     def named(place: int) -> tuple[str, ItemPath]:
-        i = bisect.bisect_right(ends, place)
-        j = place - ends[i] + counts[i]
+        i = bisect.bisect_right(ends(), place)
+        j = place - ends()[i] + len(given[i])
         return f"term {j}", (*path_of(i), j)
 
-    return Operators(lengths, _items(items, named, np.complex128))
+    return Operators(counts, _items(list(itertools.chain.from_iterable(given)), named, np.complex128))
 
 
 def _operator(given: Any, path_of: Callable[[int], ItemPath], place: int) -> Collection[Any]:
@@ -163,7 +164,7 @@ def _operator(given: Any, path_of: Callable[[int], ItemPath], place: int) -> Col
         return [(given, 1 + 0j)] if alone else given.items()
     if isinstance(given, (str, Word)):
         return [(given, 1 + 0j)]
-    return _given.listed(given, "term", path_of(place))
+    return given if isinstance(given, (list, tuple)) else _given.listed(given, "term", path_of(place))
 
 
 def _items(items: list[Any], named: Named, kind: type) -> Items:
@@ -231,16 +232,19 @@ def build(n: int, hamiltonian: Items, jumps: Jumps) -> tuple[_library.Built, Tab
     operators = jumps.operators
     terms = operators.terms
     sizes = _library.call("model_sizes", len(hamiltonian), len(jumps), operators.longest())
-    given = [
-        *_texts.joined((hamiltonian, terms), n),
-        hamiltonian.numbers,
-        jumps.rates,
-        operators.counts,
-        terms.numbers.view(np.float64),
-    ]
     tables = {name: _table(name, getattr(sizes, name)) for name in TABLES}
     with work_tables() as work:
-        built = _library.call("build_model", *given, n, *tables.values(), *_lent(work, sizes))
+        built = _library.call(
+            "build_model",
+            *_texts.joined((hamiltonian, terms), n, work),
+            hamiltonian.numbers,
+            jumps.rates,
+            operators.counts,
+            terms.numbers.view(np.float64),
+            n,
+            *tables.values(),
+            *_lent(work, sizes),
+        )
     return built, tables
 
 
@@ -250,15 +254,16 @@ def add_matrix(counts: _library.Model, tables: Tables, matrix: Matrix) -> tuple[
     sizes = _library.call("matrix_sizes", len(operators), operators.longest())
     tables = {name: _longer(name, tables[name], counts, getattr(sizes, name)) for name in TABLES}
     terms = operators.terms
-    given = [
-        *_texts.joined((terms,), counts.qubits),
-        operators.counts,
-        terms.numbers.view(np.float64),
-        _given.parts(matrix.entries),
-    ]
     with work_tables() as work:
         added = _library.call(
-            "add_kossakowski", counts, *given, *tables.values(), *_lent(work, sizes)
+            "add_kossakowski",
+            counts,
+            *_texts.joined((terms,), counts.qubits, work),
+            operators.counts,
+            terms.numbers.view(np.float64),
+            _given.parts(matrix.entries),
+            *tables.values(),
+            *_lent(work, sizes),
         )
     return added, tables
 

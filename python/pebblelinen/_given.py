@@ -94,7 +94,7 @@ def _is_pair(item: Any) -> bool:
 
 
 def no_pair(item: Any, what: str, path: ItemPath) -> InputError:
-    """The error of an item that is no pair."""
+    """What is raised for an item that is no pair."""
     return InputError(f"{what} is {shown(item)}: a pair is needed", path)
 
 

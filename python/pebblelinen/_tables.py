@@ -20,6 +20,8 @@ _TYPES: dict[str, DTypeLike] = {
         np.float64,
     ),
     **dict.fromkeys("stage_rows stage_columns".split(), np.uint32),
+    # Given to the library to read, and not zero.
+    "texts": np.uint8,
 }
 
 # The most words that one action of a built model touches: one for each Hamiltonian term, and for each

@@ -14,10 +14,14 @@ import numpy as np
 from numpy.typing import NDArray
 
 from . import words
-from .words import Word
+from ._tables import WorkTables
+from ._types import ByteTable, ItemPath, LaneTable
+
+# Words whose texts are written at a time.
+_PART = 2048
 
 # What an item is called, and the way to it, by its place.
-Named = Callable[[int], tuple[str, tuple[Any, ...]]]
+Named = Callable[[int], tuple[str, ItemPath]]
 
 
 @dataclass(frozen=True)
@@ -36,32 +40,45 @@ class Items:
         return Items(self.words[start:end], self.numbers[start:end], lambda i: self.named(start + i))
 
 
-def joined(lists: Sequence[Items], n: int) -> tuple[NDArray[np.uint8], NDArray[np.uint64]]:
-    """The bytes of the texts of all words in some lists, one after another, and the length of each."""
+def joined(lists: Sequence[Items], n: int, work: WorkTables) -> tuple[ByteTable, LaneTable]:
+    """The bytes of the texts of all words in some lists, one after another, and the length of each. They may
+    stand in a work table."""
     given = list(itertools.chain.from_iterable(items.words for items in lists))
-    if n <= words.MAX_QUBITS and set(map(type, given)) == {Word}:
-        packed = [word.packed for word in given if word.n == n]
-        if len(packed) == len(given):
-            return written(np.frombuffer(b"".join(packed), np.uint64), n), np.full(len(given), n, np.uint64)
-    texts = [
+    if n <= words.MAX_QUBITS:
+        # A table that is kept: fresh memory would cost more than the letters.
+        table: ByteTable = work.table("texts", n * len(given))
+        if _write(given, table.reshape(len(given), n)):
+            return table, np.full(len(given), n, np.uint64)
+    each = [
         words.bytes_of(word, n, items.named(i)[1]) for items in lists for i, word in enumerate(items.words)
     ]
-    bytes_ = np.concatenate(texts) if texts else np.zeros(0, np.uint8)
-    return bytes_, np.array([len(text) for text in texts], np.uint64)
+    texts = np.concatenate(each) if each else np.zeros(0, np.uint8)
+    return texts, np.array([len(text) for text in each], np.uint64)
 
 
-def written(lanes: NDArray[np.uint64], n: int) -> NDArray[np.uint8]:
-    """The texts of words, n letters each, one after another."""
-    x, z = np.moveaxis(lanes.view(np.uint8).reshape(-1, 2, 16), 1, 0)
-    eights = _eights()[x | z.astype(np.uint16) << 8]
-    return np.ascontiguousarray(eights.view(np.uint8)[:, :n]).reshape(-1)
+def _write(given: list[Any], texts: ByteTable) -> bool:
+    """Writes the texts of words, a row of letters each, if all are words that were read for that register."""
+    n = texts.shape[1]
+    # A part at a time, which stays near the processor.
+    for start in range(0, len(given), _PART):
+        part = given[start : start + _PART]
+        try:
+            packed = [word.packed for word in part if word.n == n]
+        except AttributeError:
+            return False
+        if len(packed) != len(part):
+            return False
+        x, z = np.moveaxis(np.frombuffer(b"".join(packed), np.uint8).reshape(-1, 2, 16), 1, 0)
+        eights = _eights()[x | z.astype(np.uint16) << 8]
+        texts[start : start + _PART] = eights.view(np.uint8)[:, :n]
+    return True
 
 
 @functools.cache
-def _eights() -> NDArray[np.uint64]:
+def _eights() -> LaneTable:
     """Eight letters by their bits: x in the lower byte, z in the upper."""
     both = np.arange(1 << 16, dtype="<u2").view(np.uint8).reshape(-1, 2, 1)
     x, z = np.moveaxis(np.unpackbits(both, axis=2, bitorder="little"), 1, 0)
     letters = np.frombuffer(words.LETTERS.encode(), np.uint8)
-    eights: NDArray[np.uint64] = letters[x + 2 * z].view(np.uint64).reshape(-1)
+    eights: LaneTable = letters[x + 2 * z].view(np.uint64).reshape(-1)
     return eights

@@ -14,6 +14,7 @@ import numpy as np
 from numpy.typing import NDArray
 
 from . import _given
+from ._types import LaneTable, NumberTable
 from .errors import InputError
 from .words import MAX_QUBITS, qubits, site_text
 
@@ -22,8 +23,8 @@ _STATES = {"0": ("Z", 0), "1": ("Z", 1), "+": ("X", 0), "-": ("X", 1), "r": ("Y"
 
 
 def summed(
-    words: NDArray[np.uint64], values: NDArray[np.float64]
-) -> tuple[NDArray[np.uint64], NDArray[np.float64]]:
+    words: LaneTable, values: NumberTable
+) -> tuple[LaneTable, NumberTable]:
     """Words, four lanes each, with the sum of their values, added in the order in which they stand: each word
     once, in word order, none with a sum of 0."""
     # The last key counts first: x[0], x[1], z[0], z[1].
@@ -39,7 +40,7 @@ def summed(
     return ordered[first][kept], sums[kept]
 
 
-def expectation(n: int, words: NDArray[np.uint64], values: NDArray[np.float64], state: str) -> float:
+def expectation(n: int, words: LaneTable, values: NumberTable, state: str) -> float:
     """The expectation of words with their values in a product state, rounded once."""
     masks = _masks(n, state)
     x, z = words[:, :2], words[:, 2:]
@@ -55,7 +56,7 @@ def expectation(n: int, words: NDArray[np.uint64], values: NDArray[np.float64], 
     return math.fsum((signs * values[known]).tolist())
 
 
-def _masks(n: int, state: str) -> dict[str, NDArray[np.uint64]]:
+def _masks(n: int, state: str) -> dict[str, LaneTable]:
     """The qubits in an eigenstate of each letter, and those whose number is -1: two lanes each."""
     if not isinstance(state, str):
         raise InputError(f"{_given.shown(state)} is no product state: a text of 0 1 + - r l is needed")
@@ -73,7 +74,7 @@ def _masks(n: int, state: str) -> dict[str, NDArray[np.uint64]]:
     return {name: np.array([mask & low, mask >> 64], np.uint64) for name, mask in masks.items()}
 
 
-def _odd(lanes: NDArray[np.uint64]) -> NDArray[np.int64]:
+def _odd(lanes: LaneTable) -> NDArray[np.int64]:
     """1 where the two lanes of a row have an odd number of bits."""
     bits = lanes[:, 0] ^ lanes[:, 1]
     for half in 32, 16, 8, 4, 2, 1:

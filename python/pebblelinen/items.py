@@ -11,6 +11,7 @@ import numpy as np
 from numpy.typing import NDArray
 
 from ._sealed import read_only
+from ._types import LaneTable, NumberTable
 from .words import Word, made
 
 # Words with a complex number each.
@@ -44,7 +45,7 @@ class Added(NamedTuple):
 
     jumps: int
     terms: int
-    counts: NDArray[np.uint64]
+    counts: LaneTable
     k: NDArray[np.complex128]
 
 
@@ -74,7 +75,7 @@ def operator(n: int, jump: int, tables: Mapping[str, NDArray[Any]]) -> Operator:
     return tuple(_terms(n, tables, start, end))
 
 
-def jumps(n: int, rates: NDArray[np.float64], tables: Mapping[str, NDArray[Any]]) -> tuple[Jump, ...]:
+def jumps(n: int, rates: NumberTable, tables: Mapping[str, NDArray[Any]]) -> tuple[Jump, ...]:
     """The jumps of a model, whose rates were given."""
     starts, ends = tables["jumps"].reshape(-1, 8)[: len(rates), 1:3].T.tolist()
     terms = _terms(n, tables, 0, max(ends, default=0))

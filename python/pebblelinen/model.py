@@ -66,7 +66,7 @@ def _place(given: int, count: int, what: str) -> int:
     """A place among so many things of a kind."""
     place = _given.whole(given, f"the place of a {what}", most=max(count - 1, 0))
     if place >= count:
-        raise InputError(f"{what} {place} of a model with {count}, which are counted from 0")
+        raise InputError(f"there is no {what} {place}: the model has {count}, counted from 0")
     return place
 
 
@@ -134,7 +134,7 @@ class Model(Shown, Sealed):
         self._sealed = True
 
     def __repr__(self) -> str:
-        terms = _given.counted(len(self.hamiltonian), "Hamiltonian term")
+        terms = _given.counted(self._counts[1], "Hamiltonian term")
         jumps, pairs = _given.counted(len(self._rates), "jump"), _given.counted(self.pairs, "pair")
         return f"Model of {qubits(self.n)}: {terms}, {jumps}, {pairs}"
 

@@ -55,7 +55,8 @@ class Sums(unittest.TestCase):
 
     def test_words_on_all_lanes_are_in_the_librarys_order(self):
         rng = random.Random(6)
-        texts = ["".join(rng.choices("IXYZ", k=128)) for _ in range(200)] + [f"{p}{q}" for q in (0, 63, 64, 127) for p in "XYZ"]
+        texts = ["".join(rng.choices("IXYZ", k=128)) for _ in range(200)]
+        texts += [f"{p}{q}" for q in (0, 63, 64, 127) for p in "XYZ"]
         terms = Terms.of([(text, 1.0) for text in texts], n=128) + 0
         words = [word for word, _ in terms]
         self.assertEqual(words, sorted(words))

@@ -48,7 +48,8 @@ class Reading(unittest.TestCase):
         model = Model(3, {"Z0": 0.0, "III": 0.5}, [(0.25, "X2"), (0.0, {"Y1": -2}), (1, {"Y1": 1j})])
         self.assertEqual(model.hamiltonian.by_site(), {"Z0": 0.0, "I0": 0.5})
         self.assertEqual(model.jumps[0], Jump(0.25, ((Word("X2", n=3), 1),)))
-        self.assertEqual([str(jump) for jump in model.jumps], ["X2, rate 0.25", "-2.0 Y1, rate 0.0", "1.0j Y1, rate 1.0"])
+        shown = ["X2, rate 0.25", "-2.0 Y1, rate 0.0", "1.0j Y1, rate 1.0"]
+        self.assertEqual([str(jump) for jump in model.jumps], shown)
         self.assertEqual((Model(2).jumps, Model(2).matrices, len(Model(2).hamiltonian)), ((), (), 0))
         matrix = Model(2, matrices=[(["Z0", {"X1": 0.5, "Y1": 0.5j}], np.eye(2))]).matrices[0]
         self.assertIsInstance(matrix, Matrix)
@@ -150,10 +151,10 @@ class Changing(unittest.TestCase):
     def test_items_that_are_not_there(self):
         model = Model(2, [("Z0", 1.0), ("Z0", 2.0)], [(1.0, "X0")])
         for call, said in [
-            (lambda: model.with_rate(jump=1, rate=1), "jump 1 of a model with 1, which are counted from 0"),
+            (lambda: model.with_rate(jump=1, rate=1), "there is no jump 1: the model has 1, counted from 0"),
             (lambda: model.with_rate(jump=-1, rate=1), "the place of a jump is -1"),
             (lambda: model.with_rate(jump=0, rate="1"), "the rate of jump 0 is '1'"),
-            (lambda: model.with_k(matrix=0, k=[[1]]), "matrix 0 of a model with 0"),
+            (lambda: model.with_k(matrix=0, k=[[1]]), "there is no matrix 0: the model has 0"),
             (lambda: model.with_coefficient(word="Z1", coefficient=1), "the word Z1 does not stand"),
             (lambda: model.with_coefficient(word="Z0", coefficient=1), "the word Z0 stands 2 times"),
         ]:

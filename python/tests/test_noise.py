@@ -10,7 +10,7 @@ import numpy as np
 from scipy.linalg import expm
 
 import dense
-from pebblelinen import Basis, InputError, Model, Qubit, Refusal, Terms, noise
+from pebblelinen import Basis, InputError, Model, Qubit, Refusal, noise
 
 TIMES = [0.0, 0.1, 1.0, 7.5, 40.0]
 
