@@ -19,17 +19,17 @@ _short = reprlib.Repr()
 _short.maxstring = _short.maxother = _short.maxlong = 60
 
 
-def whole(given: Any, what: str, path: ItemPath = (), most: int | str = "2^64 - 1") -> int:
-    """A number of 64 bits. Where it has another limit, a user is told that; the library judges it."""
+def whole(given: Any, what: str, path: ItemPath = (), most: int | str = "2^64 - 1", least: int = 0) -> int:
+    """A number of 64 bits. Where it has another upper limit, a user is told that; the library judges it."""
     if _is_number(given):
         try:
             value = operator.index(given)
         except TypeError:
             pass
         else:
-            if 0 <= value < 1 << 64:
+            if least <= value < 1 << 64:
                 return value
-            raise InputError(f"{what} is {shown(value)}: from 0 to {most} is needed", path)
+            raise InputError(f"{what} is {shown(value)}: from {least} to {most} is needed", path)
     raise InputError(f"{what} is {shown(given)}: a whole number is needed", path)
 
 

@@ -57,7 +57,8 @@ def joined(lists: Sequence[Items], n: int, work: WorkTables) -> tuple[ByteTable,
 
 
 def _write(given: list[Any], texts: ByteTable) -> bool:
-    """Writes the texts of words, a row of letters each, if all are words that were read for that register."""
+    """Writes the texts of words, a row of letters each, if all are words of that register and have no letter outside
+    it: such a word is refused where it is written alone."""
     n = texts.shape[1]
     # A part at a time, which stays near the processor.
     for start in range(0, len(given), _PART):
@@ -68,7 +69,11 @@ def _write(given: list[Any], texts: ByteTable) -> bool:
             return False
         if len(packed) != len(part):
             return False
-        x, z = np.moveaxis(np.frombuffer(b"".join(packed), np.uint8).reshape(-1, 2, 16), 1, 0)
+        lanes = np.frombuffer(b"".join(packed), np.uint64).reshape(-1, 4)
+        x0, x1, z0, z1 = np.bitwise_or.reduce(lanes).tolist()
+        if (x0 | z0 | (x1 | z1) << 64) >> n:
+            return False
+        x, z = np.moveaxis(lanes.view(np.uint8).reshape(-1, 2, 16), 1, 0)
         eights = _eights()[x | z.astype(np.uint16) << 8]
         texts[start : start + _PART] = eights.view(np.uint8)[:, :n]
     return True

@@ -102,6 +102,9 @@ class Terms(Shown, Sealed):
 
     # ---- as a combination ----
 
+    # Numbers and arrays of numpy leave a product with terms to the terms: it would take them for a sequence.
+    __array_ufunc__ = None
+
     def __add__(self, other: "Terms | int") -> "Terms":
         """The sum: each word once, in word order, none with a value of 0. Values are added in the order in which
         they stand. 0 can be added, so that sum() takes terms."""

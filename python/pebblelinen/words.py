@@ -221,9 +221,7 @@ class Word:
         Word.from_julia("X", 1, "Z", 3, n=3) is X0 Z2."""
         if len(letters) % 2:
             raise InputError(f"{_given.shown(letters)}: a site is needed after each letter")
-        sites = [_given.whole(site, "a site", most=MAX_QUBITS) for site in letters[1::2]]
-        if 0 in sites:
-            raise InputError(f"{_given.shown(letters)} has the site 0: sites count from 1 here")
+        sites = [_given.whole(site, "a site", least=1, most=MAX_QUBITS) for site in letters[1::2]]
         by_qubit = ((site - 1, letter) for site, letter in zip(sites, letters[::2]))
         return cls(_each_once(by_qubit, letters), n=n)
 

@@ -67,6 +67,18 @@ class Sums(unittest.TestCase):
         self.assertEqual(len(terms + 0), 0)
         self.assertEqual((terms + Terms.of([("X", 1.0)], n=1)).by_site(), {"X0": 1.0})
 
+    def test_numbers_of_numpy(self):
+        a = Terms.of({"X0": 1.0, "Z1": -2.0}, n=2)
+        for two in np.float64(2), np.float32(2), np.int64(2):
+            for found in two * a, a * two, a / (1 / two):
+                self.assertIsInstance(found, Terms)
+                self.assertEqual(found.by_site(), {"X0": 2.0, "Z1": -4.0})
+        for array in np.ones(2), np.ones(1), np.ones((2, 4)):
+            with self.assertRaisesRegex(InputError, "a real number is needed"):
+                array * a
+            with self.assertRaises(TypeError):
+                array + a
+
     def test_what_cannot_be_added(self):
         a = Terms.of({"X0": 1.0}, n=2)
         with self.assertRaises(InputError):

@@ -64,7 +64,8 @@ class Elsewhere(unittest.TestCase):
         self.wrong("qubit 1 comes twice", Word.from_openfermion, ((1, "X"), (1, "Z")), n=3)
         self.wrong("a pair is needed", Word.from_openfermion, ("X0",), n=3)
         self.wrong("a letter is needed", Word.from_openfermion, ((0, "XY"),), n=3)
-        self.wrong("sites count from 1 here", Word.from_julia, "X", 0, n=3)
+        for site in 0, -1:
+            self.wrong(f"a site is {site}: from 1 to 128 is needed", Word.from_julia, "X", site, n=3)
         self.wrong("qubit 1 comes twice", Word.from_julia, "X", 2, "X", 2, n=3)
         self.wrong("a site is needed after each letter", Word.from_julia, "X", 1, "Z", n=3)
         self.wrong("a whole number is needed", Word.from_julia, 1, "X", n=3)

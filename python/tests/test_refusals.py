@@ -91,6 +91,22 @@ class Words(Case):
             lambda: Model(3).action(Word.from_lanes([32, 0, 0, 0], n=3)),
         )
 
+    def test_11_in_models(self):
+        """A word with a letter outside its register is refused beside others too, wherever the letter is."""
+        for n in 0, 1, 3, 8, 63, 64, 65, 127:
+            for qubit in {n, 63, 64, 127} - set(range(n)):
+                for z in False, True:
+                    bit = 1 << qubit + 128 * z
+                    word = Word.from_lanes([bit >> 64 * lane & 2**64 - 1 for lane in range(4)], n=n)
+                    said = f"the word {'XZ'[z]}{qubit} has a letter at or above qubit {n}"
+                    one = Word("I" * n, n=n)
+                    for call in [
+                        lambda: Model(n, [(one, 1.0), (word, 1.0), (one, 1.0)]),
+                        lambda: Model(n, jumps=[(1.0, one), (1.0, [(one, 1.0), (word, 1.0)])]),
+                        lambda: Model(n, matrices=[([one, word], [[1, 0], [0, 1]])]),
+                    ]:
+                        self.refused(11, {"position": Position(0)}, said, call)
+
 
 class Models(Case):
     def test_hamiltonian(self):
