@@ -2,20 +2,20 @@
 -- SPDX-License-Identifier: Apache-2.0
 
 -- Of the unprotected entries a prune keeps none that is smaller than one it drops. Assumes nothing.
-use mathlib.Core.Path.{_≡_, refl, sym, ap, subst, _∙_}
+use mathlib.Core.Path.{_≡_, refl, sym, ap, _∙_}
 use mathlib.Core.Bool.{Bool, true, false, cond}
 use mathlib.Core.List.{List}
-use Prim.Native.Nat.{ℕ, _-_, _≤_, _<_, max}
+use Prim.Native.Nat.{ℕ, _≤_, _<_}
 use native.Mathlib.Omega.{arith}
 use borrow.Author.Tests.{leb-true, leb-false}
 use lib.Dec.{T, leb}
 use lib.Ieee.{Float, nan, binary64, fits, le}
-use lib.ListN.{length, getD, take, replicate}
+use lib.ListN.{length, getD, replicate}
 use Rattle.number.specs.Key.{key, nonneg}
 use Rattle.number.specs.Floats.{float0, isFinite, magnitude}
 use Rattle.number.proofs.KeyLaws.{le-key, magnitude-nonneg, magnitude-fits, magnitude-key}
 use Rattle.order.specs.Magnitudes.{keyAt}
-use Rattle.truncate.specs.Pruned.{largeFlag, largeFlags}
+use Rattle.truncate.specs.Pruned.{largeFlag}
 use Rattle.truncate.proofs.PruneLaws.{large-first, Number}
 use Rattle.basis.specs.Prunes.{protectedFlags, pruneFlags, prune}
 use Rattle.basis.specs.declared.kept.Kept.the-variants.{Entries}

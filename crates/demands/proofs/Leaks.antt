@@ -10,22 +10,19 @@ use mathlib.Core.Logic.{inl, inr}
 use Prim.Native.Nat.{ℕ, zero, suc, _≤_, _<_, min}
 use native.Mathlib.Omega.{arith}
 use borrow.Author.Tests.{eqb-true, eqb-false}
-use lib.Dec.{T, eqb}
-use lib.Ieee.{Float, nan, binary64, fits}
+use lib.Dec.{eqb}
+use lib.Ieee.{Float, nan, binary64}
 use lib.ListN.{length, getD, List·getD-map}
 use Rattle.word.specs.Word.{identity}
 use Rattle.word.specs.declared.word.Word.{Word}
-use Rattle.number.specs.Floats.{isFinite}
 use Rattle.number.specs.Key.{key}
 use Rattle.order.specs.Magnitudes.{keyAt}
 use Rattle.truncate.specs.Retained.{pick}
 use Rattle.truncate.proofs.PruneLaws.{Number}
 use Rattle.candidates.specs.Sums.{Row, row}
 use Rattle.candidates.specs.Log.{Rows, table}
-use Rattle.model.specs.Stored.{Tables}
 use Rattle.model.specs.declared.tables.Model.{Model}
 use Rattle.action.specs.declared.act.Acted.the-variants.{Listed}
-use Rattle.in_use.specs.InUse.{SameModel}
 use Rattle.passes.specs.Leaks.{sumsOf, passSize, passCount}
 use Rattle.leakage.specs.Leakages.{Leaking, tauOf, leak}
 use Rattle.basis_laws.proofs.LosesLaws.{number-of}

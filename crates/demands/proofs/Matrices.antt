@@ -4,13 +4,11 @@
 -- Demand 3 of the generator and the matrix by rows, as calls: entries between old words stay, from either to either; and the home of
 -- every reached word. Assumes nothing.
 use mathlib.Core.Path.{_≡_, sym, subst, subst⁻¹, _∙_}
-use mathlib.Core.List.{List}
 use Prim.Native.Nat.{ℕ}
 use lib.Ieee.{Float}
 use Rattle.refusal.specs.declared.Answer.the-variants as Tests
 use Rattle.word.specs.Flat.{words}
 use Rattle.word.specs.declared.word.Word.{Word}
-use Rattle.model.specs.Given.{Term}
 use Rattle.model.specs.Stored.{Tables}
 use Rattle.model.specs.Tested.{testModel}
 use Rattle.model.specs.declared.tables.Model.{Model}
@@ -23,7 +21,7 @@ use Rattle.passes.specs.Leaks.{wordsOf}
 use Rattle.leakage.specs.Leakages.{Leaking, leak}
 use Rattle.generator.specs.Lent.{basisOf}
 use Rattle.generator.specs.Generators.{Out, CsrOut, Generating, CsrBuilding, generate, buildCsr}
-use Rattle.generator_laws.specs.Matrices.{Lists, InRow, Grown, Unchanged}
+use Rattle.generator_laws.specs.Matrices.{Lists, InRow}
 use Rattle.generator_laws.proofs.Growth.{Exact, growth}
 use Rattle.generator_laws.proofs.Calls.{generator-model, generator-exact, csr-model, csr-exact}
 use Rattle.leakage_laws.specs.Calls.{basisWords, listedBy, TauBelowZero, RoomForAll}

@@ -1,8 +1,8 @@
 -- SPDX-FileCopyrightText: 2026 The PPVM Authors
 -- SPDX-License-Identifier: Apache-2.0
 
--- The three demands, sentence by sentence and in their order; a sentence in quotes is the demand's own. Each record is proved in
--- proofs/ under the name that stands beside it. What "shown by runs of both" asks for is no theorem: docs/DIFFERENCES.md.
+-- The three demands, sentence by sentence and in their order; a sentence in quotes is the demand's own. Behind it stands the theorem
+-- in proofs/ that proves what is stated. What "shown by runs of both" asks for is no theorem: docs/DIFFERENCES.md.
 use Prim.Native.Nat.{ℕ, suc, _+_, _-_, _%_, _≤_, _<_, min, max}
 use mathlib.Core.Path.{_≡_}
 use mathlib.Core.Bool.{Bool, true, false}
@@ -68,7 +68,7 @@ use Rattle.accounting.specs.Homes.{Accounted, AccountedWithoutRoom}
 use Rattle.demands.specs.Calls.{Accepted, Refused, AllFinite, WriteCall, BuildCall, AddCall, ActionCall, PruneCall, CapCall, AdmitCall, LeakCall, GeneratorCall, CsrCall, ProductCall}
 
 -- ==== 1
--- "Every accepted call ends with the one answer that document 01 gives for its input."
+-- "Every accepted call ends with the one answer that document 01 gives for its input." (OneAnswer: one-answer)
 -- A contract is an equation with a definition for the answer and for every lent table, so it allows one answer and one content of
 -- each. (A call that is lent no table to write returns what a definition gives for its input: there is nothing to show.)
 pub record OneAnswer : Type 0 where
@@ -90,6 +90,7 @@ pub record OneAnswer : Type 0 where
   pub multiplying : (d : Multiplying) (r r′ : Status) (o o′ w w′ : List Float) → LeavesProduct d r o w → LeavesProduct d r′ o′ w′ → (r ≡ r′) × (o ≡ o′) × (w ≡ w′)
 
 -- "Every other call tests its input itself, gives the numbered refusal 01 names, and changes no model, basis or output."
+-- (Refusals: refused-changes-nothing)
 -- (No exported call has a precondition.) The refusal is the one that the definition names, its number and values are the status, and
 -- the tables are as they were
 pub record Refuses (status : Status) (Named : Refusal → Type 0) (Unchanged : Type 0) : Type 0 where
@@ -132,7 +133,7 @@ pub record ChangesNothing : Type 0 where
 -- "Where port and Rust may differ, docs/DIFFERENCES.md lists it and document 01 decides; on all other accepted inputs they are equal,
 -- shown by runs of both." Runs, not theorems.
 
--- "Pauli products are proved against the letter table": of every product that is returned
+-- "Pauli products are proved against the letter table": of every product that is returned (Exact: products-by-letters)
 pub record ByLetters (p q : Word) (r : Phased) : Type 0 where
   pub letters : (k : ℕ) → k < maxQubits → letterAt (r .word) k ≡ mulLetter (letterAt p k) (letterAt q k)
   pub phases : r .phase ≡ sumTo maxQubits (λ k. mulPhase (letterAt p k) (letterAt q k)) % 4
@@ -142,6 +143,7 @@ ProductsByLetters = (p q : Word) (r : Phased) → r ≡ product p q → ByLetter
 
 -- "and the action is proved equal to the exact adjoint GKSL generator wherever the model was built by the port and all given numbers
 -- are whole with parts of at most 256 in magnitude": the first words and values of the tables that the call leaves
+-- (Exact: action-is-generator)
 abbrev pub ActionIsGenerator : Type 0
 ActionIsGenerator =
     (c : ActionCall) → Accepted (c .answer .status) → (g : ModelOver floats pauli) → Made g (c .model) (c .tables) → (w : ModelOver whole pauli) → WholeModel g w
@@ -192,6 +194,7 @@ leakedBy c = table (c .answer .count) (c .outWords′) (c .outValues′)
 
 -- "Of two accepted calls of leakage over at most 4,096 words, of admission, prune or cap, alike but for a raised word limit, a lowered
 -- threshold or both, whatever places each was lent, the second keeps every word that the first kept, with the same coefficient."
+-- (Limits: loses-nobody)
 pub record LosesNobody : Type 0 where
   pub leakage : (c c′ : LeakCall) → Accepted (c .answer .status) → Accepted (c′ .answer .status)
       → SameModelLent (c .model) (c .tables) (c′ .model) (c′ .tables) → SameBasis (c .basis) (c′ .basis) → c .basis .len ≤ passSize → Looser (c .limits) (c′ .limits)
@@ -211,7 +214,7 @@ abbrev pub byRows : CsrCall → ℕ → ℕ → Float → Type 0
 byRows c = InRow (record { answer = Acted.Listed (c .answer .count); offsets = c .offsets′; columns = c .columns′; values = c .values′ })
 
 -- "Whatever words a basis gains, wherever they stand, an accepted generator or CSR has, for every row and column whose words are old,
--- the same entry as before, and none where there was none."
+-- the same entry as before, and none where there was none." (Matrices: keeps-entries)
 pub record KeepsEntries : Type 0 where
   pub generator : (c c′ : GeneratorCall) → Accepted (c .answer .status) → Accepted (c′ .answer .status)
       → SameModelLent (c .model) (c .tables) (c′ .model) (c′ .tables) → Grown (basisOf (c .lanes) (c .len)) (basisOf (c′ .lanes) (c′ .len))
@@ -227,6 +230,7 @@ pub record KeepsEntries : Type 0 where
       → Unchanged (basisOf (c .lanes) (c .len)) (byRows c) (basisOf (c′ .lanes) (c′ .len)) (byRows c′)
 
 -- What the matrix by rows leaves passes the product's tests, with every input and output of as many finite numbers as there are rows
+-- (Products: makes-products)
 pub record MakesProducts : Type 0 where
   pub tests-passed : (c : CsrCall) → Accepted (c .answer .status) → (input : List Float) (overwrite : Bool) (output work : List Float)
       → length input ≡ c .len → length output ≡ c .len → c .len ≤ length work → AllFinite input → (overwrite ≡ false → AllFinite output)
@@ -235,7 +239,7 @@ pub record MakesProducts : Type 0 where
       let values : List Float = take (c .answer .count) (c .values′) in
       lengthTests (c .len) offsets columns values input output work (tableTests (c .len) offsets columns values input overwrite output Tests.Accepted) ≡ Tests.Accepted
 
--- "Each limit keeps exactly the number 01 states"
+-- "Each limit keeps exactly the number 01 states" (Limits: keeps-exactly)
 pub record KeepsExactly : Type 0 where
   -- after a pass min(room, candidates) stay; those above tau_add after the last one are listed
   pub leakage-pass : (c : LeakCall) → Accepted (c .answer .status) → (k : ℕ) → k < passCount (c .basis .len)
@@ -249,7 +253,7 @@ pub record KeepsExactly : Type 0 where
       → c .answer .entries ≡ max (c .limit) (flagged (protectedFlags (c .basis .len) (c .basis .lanes) (c .basis .protected)))
 
 -- "and every unprotected word kept is at least as large as every unprotected word dropped, in leakage within each pass, in admission
--- among the words listed."
+-- among the words listed." (Limits: keeps-largest)
 abbrev pub AtLeast : Float → Float → Type 0
 AtLeast x y = le (magnitude y) (magnitude x) ≡ true
 
@@ -272,7 +276,8 @@ pub record KeepsLargest : Type 0 where
 
 -- "Where generator and leakage accept one model and one basis of distinct words, and tau_add is below zero, a word reached by a nonzero
 -- term of a basis word's action is exactly one of these: generator row, protected word outside the basis, or, given room for all,
--- leakage entry; only reached words are generator rows or leakage entries." (That the words are distinct the generator tests.)
+-- leakage entry; only reached words are generator rows or leakage entries." (Matrices: one-home) That the words are distinct the
+-- generator tests.
 pub record OneHome : Type 0 where
   pub room-for-all : (g : GeneratorCall) (c : LeakCall) → Accepted (g .answer .status) → Accepted (c .answer .status)
       → SameModelLent (g .model) (g .tables) (c .model) (c .tables) → basisOf (g .lanes) (g .len) ≡ basisWords (c .basis) → TauBelowZero (c .limits)
