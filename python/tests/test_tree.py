@@ -20,7 +20,7 @@ CRATES = """\
 refusal:
 word: refusal
 pebblelinen: refusal word
-replay: pebblelinen refusal word io
+examples: pebblelinen refusal word io
 """
 
 TOOLCHAIN = """\
@@ -66,7 +66,7 @@ class Case(unittest.TestCase):
         shutil.copytree(ROOT / "python" / "pebblelinen", package, ignore=shutil.ignore_patterns("__pycache__"))
         shutil.copy(ROOT / "pebblelinen", self.tree)
         self.write("crates.txt", CRATES)
-        for crate in "refusal", "word", "pebblelinen", "replay":
+        for crate in "refusal", "word", "pebblelinen", "examples":
             self.write(f"crates/{crate}/src/lib.rt", crate)
         self.write("device.toml", MODEL)
         self.write("rt/rt", TOOLCHAIN).chmod(0o755)
@@ -128,7 +128,7 @@ class Libraries(Case):
         self.assertEqual(self.builds(), 1)
 
     def test_what_the_library_is_not_made_from_may_change(self):
-        self.write("crates/replay/src/lib.rt", "changed")
+        self.write("crates/examples/src/lib.rt", "changed")
         self.write("crates/further/src/lib.rt", "new")
         self.answered()
         self.assertEqual(self.builds(), 1)

@@ -1,7 +1,7 @@
 // SPDX-FileCopyrightText: 2026 The PPVM Authors
 // SPDX-License-Identifier: Apache-2.0
 
-//! Prints answers of the published Rust, for a program that replays them against the port.
+//! Prints answers of the published Rust, for a test that replays them against the port.
 //!
 //! A case is a line of hexadecimal numbers, the first of which is its kind; `#` starts a comment.
 //! Only cases are recorded to which document 01 and the Rust have one answer, but for kinds that say

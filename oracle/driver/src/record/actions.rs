@@ -18,7 +18,7 @@ use crate::rules::{MAX_QUBITS, word_of};
 const WORDS: usize = 5;
 const CHOSEN_FROM: usize = 16;
 
-/// The numbers of a line, and the words that an action touches and lists, which replaying has room for.
+/// The most numbers of a line, and the most words that an action touches and lists: the recording is to stay small.
 const LONGEST: usize = 900;
 const SUM_PLACES: usize = 256;
 const LIST_PLACES: usize = 24;
@@ -48,7 +48,7 @@ impl Standing {
         (0..WORDS).map(|_| rng.pick(&words)).collect()
     }
 
-    /// The most places that actions on these words need. Nothing where replaying has too few.
+    /// The most places that actions on these words need. Nothing where they are too many to record.
     fn places(&self, words: &[Word]) -> Option<(usize, usize)> {
         let mut most = (0, 0);
         for &p in words {

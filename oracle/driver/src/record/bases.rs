@@ -19,8 +19,8 @@ const CAP: u64 = 13;
 const ADMIT: u64 = 14;
 const NOT_RUST: u64 = 15;
 
-/// The lanes and places of a table that replaying has room for, and what is in its work tables
-/// before.
+/// The most lanes and places of a table, since the recording is to stay small, and what is in the work
+/// tables before.
 const LANES: usize = 96;
 const PLACES: usize = 24;
 const FILLER: u64 = 9;
@@ -105,7 +105,7 @@ impl Case {
         self
     }
 
-    /// Whether replaying has room for it.
+    /// Whether it is small enough to be recorded.
     fn fits(&self) -> bool {
         let Basis {
             words,

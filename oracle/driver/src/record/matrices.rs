@@ -4,7 +4,7 @@
 //! Matrices: adding. Each cause has as many cases as every other.
 //!
 //! A case stands in a line like that of a model: K for the rates, and operators for the jumps. The
-//! model before is one of Hamiltonian terms I, whose words are zero as replay's tables are.
+//! model before is one of Hamiltonian terms I, whose words are zero as the tables of replaying are.
 
 use super::Line;
 use super::models::{TERM_PLACES, line};
@@ -23,7 +23,7 @@ use crate::rules::models::Complex;
 const ANSWERED: [u64; 8] = [0, 0, 0, 2, 3, 6, 9, 10];
 const REFUSED_BY_DOCUMENT: [u64; 5] = [1, 7, 8, 9, 13];
 
-/// The bytes, terms and numbers of a case, its operators and its terms, which replaying has room for.
+/// The most bytes, terms and numbers of a case, operators and terms: the recording is to stay small.
 const LARGEST: usize = 240;
 const OPERATORS: usize = 8;
 const TERMS: usize = 40;
@@ -83,7 +83,7 @@ impl Case {
         self.before.hamiltonian.iter().map(|(_, x)| *x).collect()
     }
 
-    /// Lengths that are enough, or what replaying has room for.
+    /// Lengths that are enough, with so many places for terms at most.
     pub fn sizes(&self, term_places: usize) -> Sizes {
         let model = Model {
             hamiltonian: self.before.hamiltonian.len(),

@@ -14,7 +14,7 @@ use crate::rules::models as rules;
 const ANSWERED: [u64; 8] = [0, 0, 0, 1, 2, 3, 5, 6];
 const REFUSED_BY_DOCUMENT: [u64; 4] = [7, 8, 9, 13];
 
-/// The bytes and items of a case, and its places for terms, which replaying has room for.
+/// The most bytes and items of a case, and places for terms: the recording is to stay small.
 const LARGEST: usize = 240;
 pub(super) const TERM_PLACES: usize = 64;
 

@@ -24,7 +24,7 @@ use ppvm_lindblad::open::{Product, Questions};
 const PRODUCT: u64 = 22;
 const DEGREE: u64 = 23;
 
-/// The rows and entries that replaying has room for.
+/// The most rows and entries: the recording is to stay small.
 const ROWS: usize = 24;
 const ENTRIES: usize = 96;
 
@@ -85,7 +85,7 @@ struct Case {
 }
 
 impl Case {
-    /// Whether replaying has room for it.
+    /// Whether it is small enough to be recorded.
     fn fits(&self) -> bool {
         let Self {
             csr, input, room, ..

@@ -15,7 +15,7 @@ use crate::published::matrices::model as rust_model;
 use crate::published::models::RustModel;
 use crate::rules::models::build_model;
 
-/// The bytes of a model's texts and its terms, which replaying has room for.
+/// The most bytes of a model's texts, and terms: the recording is to stay small.
 const BYTES: usize = 800;
 const TERM_PLACES: usize = 256;
 
