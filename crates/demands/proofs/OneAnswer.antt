@@ -52,4 +52,14 @@ one-answer = record {
     via (a .work-is) (b .work-is),
   );
   multiplying = λ d r r′ o o′ w w′ a b. (via (a .answers) (b .answers), via (a .output-is) (b .output-is), via (a .work-is) (b .work-is));
+  counting = λ d r r′ h h′ j j′ m m′ w w′ x x′ a b. (
+    via (a .answers) (b .answers),
+    via (a .h-index) (b .h-index),
+    via (a .j-index) (b .j-index),
+    via (a .mask-is) (b .mask-is),
+    via (a .work-words) (b .work-words),
+    via (a .work-sums) (b .work-sums),
+  );
+  norming = λ d r r′ w w′ a b. (via (a .answers) (b .answers), via (a .work-is) (b .work-is));
+  selecting = λ d r r′ w w′ a b. (via (a .answers) (b .answers), via (a .work-is) (b .work-is));
 }

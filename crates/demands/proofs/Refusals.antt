@@ -4,10 +4,11 @@
 -- Demand 1, second sentence: a call that is not accepted answers with the refusal that its definition names, by number and values, and
 -- leaves models, bases and outputs as they were. Assumes nothing.
 use mathlib.Core.Path.{_≡_, refl, ap, _∙_}
-use mathlib.Core.Bool.{Bool, true, false, cond}
+use mathlib.Core.Bool.{Bool, true, false, not, cond}
 use mathlib.Core.List.{List, _++_, map}
-use Prim.Native.Nat.{ℕ, _+_}
+use Prim.Native.Nat.{ℕ, _+_, _<_}
 use native.Mathlib.Omega.{arith}
+use borrow.Author.Tests.{ltb-true}
 use lib.Dec.{ltb, leb}
 use lib.Ieee.{Float, le}
 use lib.ListN.{length, set}
@@ -19,9 +20,11 @@ use Rattle.refusal.specs.declared.Answer.the-variants as Tests
 use Rattle.refusal.specs.declared.Status.{Status}
 use Rattle.word.specs.Codes.{writeAnswer, writeFor, written}
 use Rattle.word.specs.Register.{reaches}
-use Rattle.word.specs.Word.{maxQubits}
+use Rattle.word.specs.Word.{maxQubits, identity}
 use Rattle.word.specs.Flat.{layWord}
 use Rattle.word.specs.declared.word.Word.{Word}
+use Rattle.word.specs.declared.word.ParsedWord.{ParsedWord}
+use Rattle.word.specs.declared.word.ParsedWord.the-variants as Read
 use Rattle.number.specs.Floats.{floats, float0}
 use Rattle.gksl.specs.Model.{RealTerm, JumpOver}
 use Rattle.gksl.specs.Words.{pauli}
@@ -41,6 +44,8 @@ use Rattle.truncate.specs.Admitted.{appendedLanes, appendedZeros, picked}
 use Rattle.action.specs.Acts as Acts
 use Rattle.action.specs.declared.act.Acted.{Acted}
 use Rattle.action.specs.declared.act.Acted.the-variants as Acted
+use Rattle.action.specs.declared.count.Counted.{Counted}
+use Rattle.action.specs.declared.count.Counted.the-variants as Counted
 use Rattle.basis.specs.Tests.{notFinite}
 use Rattle.basis.specs.Prunes as Prunes
 use Rattle.basis.specs.Admissions as Admissions
@@ -56,14 +61,29 @@ use Rattle.columns.specs.Stages.{answered}
 use Rattle.generator.specs.Lent.{Work, basisOf, generatorTests, csrTests}
 use Rattle.generator.specs.Generators as Generators
 use Rattle.csr.specs.Products as Products
+use Rattle.csr.specs.declared.reader.RowRead.{RowRead}
+use Rattle.csr.specs.declared.reader.RowRead.the-variants as RowRead
+use Rattle.norm.specs.declared.norm.Normed.{Normed}
+use Rattle.norm.specs.declared.norm.Normed.the-variants as Normed
+use Rattle.norm.specs.declared.degree.Selected.{Selected}
+use Rattle.norm.specs.declared.degree.Selected.the-variants as Selected
+use Rattle.pebblelinen.specs.Words.{parsedOf, fittingOf}
 use Rattle.pebblelinen.specs.Models.{builtOf}
-use Rattle.pebblelinen.specs.Actions.{listedOf}
+use Rattle.pebblelinen.specs.Actions.{listedOf, countedOf}
 use Rattle.pebblelinen.specs.Bases.{keptOf}
+use Rattle.pebblelinen.specs.Products.{foundOf}
+use Rattle.pebblelinen.specs.Norms.{normedOf, partitionOf}
+use Rattle.pebblelinen.specs.declared.words.Parsed.{Parsed}
+use Rattle.pebblelinen.specs.declared.words.Fitting.{Fitting}
+use Rattle.pebblelinen.specs.declared.actions.CountedPlaces.{CountedPlaces}
+use Rattle.pebblelinen.specs.declared.products.FoundRow.{FoundRow}
+use Rattle.pebblelinen.specs.declared.norms.NormOfBasis.{NormOfBasis}
+use Rattle.pebblelinen.specs.declared.norms.Partition.{Partition}
 use Rattle.pebblelinen.specs.declared.actions.ListedWords.{ListedWords}
 use Rattle.pebblelinen.specs.declared.bases.KeptEntries.{KeptEntries}
 use Rattle.pebblelinen.specs.declared.models.BuiltModel.{BuiltModel}
 use Rattle.demands.specs.Calls.{Refused}
-use Rattle.demands.specs.Demands.{ChangesNothing}
+use Rattle.demands.specs.Demands.{Refuses, ChangesNothing}
 
 either : {A : Type 0} (P : A → Type 0) (b : Bool) (x y : A) → P x → P y → P (cond b x y)
 either P true x y p q = p
@@ -91,6 +111,43 @@ kept-cause : (a : Kept) (r : KeptEntries) → r ≡ keptOf a → Refused (r .sta
 kept-cause (Kept.Entries n) r e h = absurd (h (ap (λ (x : KeptEntries). x .status .refusal) e))
 kept-cause (Kept.Refused q) r e h = record { cause = q; named = refl; numbered = ap (λ (x : KeptEntries). x .status) e }
 
+-- ---- calls that return numbers or a word: those beside a refusal
+read-refused : (d : ParsedWord) (r : Parsed) → r ≡ parsedOf d → Refused (r .status) → Refuses (r .status) (λ q. d ≡ Read.Refused q) (r .word ≡ identity)
+read-refused (Read.Parsed lanes) r e h = absurd (h (ap (λ (x : Parsed). x .status .refusal) e))
+read-refused (Read.Refused q) r e h = record { cause = q; named = refl; numbered = ap (λ (x : Parsed). x .status) e; unchanged = ap (λ (x : Parsed). x .word) e }
+
+fit-refused : (w : Word) (n : ℕ) (r : Fitting) → r ≡ fittingOf w n → Refused (r .status) → Refuses (r .status) (λ q. (maxQubits < n) × (q ≡ TooManyQubits n maxQubits)) (r .fits ≡ false)
+unfolding fittingOf
+fit-refused w n r e h = go (ltb maxQubits n) refl e
+  where
+    go : (b : Bool) → ltb maxQubits n ≡ b → r ≡ cond b (record { status = statusOf (TooManyQubits n maxQubits); fits = false }) (record { status = answerStatus Tests.Accepted; fits = not (reaches w n) })
+        → Refuses (r .status) (λ q. (maxQubits < n) × (q ≡ TooManyQubits n maxQubits)) (r .fits ≡ false)
+    go true f e = record { cause = TooManyQubits n maxQubits; named = (ltb-true maxQubits n f, refl); numbered = ap (λ (x : Fitting). x .status) e; unchanged = ap (λ (x : Fitting). x .fits) e }
+    go false f e = absurd (h (ap (λ (x : Fitting). x .status .refusal) e))
+
+count-refused : (d : Counted) (r : CountedPlaces) → r ≡ countedOf d → Refused (r .status) → Refuses (r .status) (λ q. d ≡ Counted.Refused q) ((r .touched ≡ 0) × (r .listed ≡ 0))
+count-refused (Counted.Places touched listed) r e h = absurd (h (ap (λ (x : CountedPlaces). x .status .refusal) e))
+count-refused (Counted.Refused q) r e h =
+    record { cause = q; named = refl; numbered = ap (λ (x : CountedPlaces). x .status) e; unchanged = (ap (λ (x : CountedPlaces). x .touched) e, ap (λ (x : CountedPlaces). x .listed) e) }
+
+norm-refused : (d : Normed) (r : NormOfBasis) → r ≡ normedOf d → Refused (r .status) → Refuses (r .status) (λ q. d ≡ Normed.Refused q) ((r .mu ≡ float0) × (r .norm ≡ float0))
+norm-refused (Normed.Norm mu norm) r e h = absurd (h (ap (λ (x : NormOfBasis). x .status .refusal) e))
+norm-refused (Normed.Refused q) r e h = record { cause = q; named = refl; numbered = ap (λ (x : NormOfBasis). x .status) e; unchanged = (ap (λ (x : NormOfBasis). x .mu) e, ap (λ (x : NormOfBasis). x .norm) e) }
+
+degree-refused : (d : Selected) (r : Partition) → r ≡ partitionOf d → Refused (r .status) → Refuses (r .status) (λ q. d ≡ Selected.Refused q) ((r .mu ≡ float0) × (r .norm ≡ float0) × (r .m ≡ 0) × (r .s ≡ 0))
+degree-refused (Selected.Partition mu norm m s) r e h = absurd (h (ap (λ (x : Partition). x .status .refusal) e))
+degree-refused (Selected.Refused q) r e h = record {
+  cause = q;
+  named = refl;
+  numbered = ap (λ (x : Partition). x .status) e;
+  unchanged = (ap (λ (x : Partition). x .mu) e, ap (λ (x : Partition). x .norm) e, ap (λ (x : Partition). x .m) e, ap (λ (x : Partition). x .s) e);
+}
+
+row-refused : (d : RowRead) (r : FoundRow) → r ≡ foundOf d → Refused (r .status) → Refuses (r .status) (λ q. d ≡ RowRead.Refused q) ((r .start ≡ 0) × (r .end ≡ 0))
+row-refused (RowRead.At row) r e h = absurd (h (ap (λ (x : FoundRow). x .status .refusal) e))
+row-refused (RowRead.Refused q) r e h = record { cause = q; named = refl; numbered = ap (λ (x : FoundRow). x .status) e; unchanged = (ap (λ (x : FoundRow). x .start) e, ap (λ (x : FoundRow). x .end) e) }
+
+-- ---- an accepted answer is no refusal
 model-not : (m : Model) (q : Refusal) → Built.Model m ≡ Built.Refused q → ⊥
 model-not m q e = let z : _≡_ {A = ℕ} 0 1 = cc in omega arith
 
@@ -346,4 +403,10 @@ refused-changes-nothing = record {
   multiplying = λ c h.
       let k = tests-cause _ _ (c .leaves .answers) h in
       record { cause = k .cause; named = k .named; numbered = k .numbered; unchanged = c .leaves .output-is ∙ multiply-kept (c .rows) (c .offsets) (c .columns) (c .values) (c .input) (c .overwrite) (c .output) (c .work) (k .cause) (k .named) };
+  reading = read-refused;
+  fitting = fit-refused;
+  counting = λ d r h j m w x l. count-refused (d .answer) r (l .answers);
+  norming = λ d r w l. norm-refused (d .answer) r (l .answers);
+  selecting = λ d r w l. degree-refused (d .answer) r (l .answers);
+  row-read = row-refused;
 }

@@ -11,15 +11,18 @@ use lib.Ieee.{Float, nan, le}
 use lib.ListN.{length, getD, take, replicate}
 use Rattle.refusal.specs.Cause.{statusOf}
 use Rattle.refusal.specs.declared.Refusal.{Refusal}
+use Rattle.refusal.specs.declared.Refusal.the-variants.{TooManyQubits}
 use Rattle.refusal.specs.declared.Answer.the-variants as Tests
 use Rattle.refusal.specs.declared.Status.{Status}
 use Rattle.word.specs.Count.{sumTo}
 use Rattle.word.specs.Letter.{mulLetter, mulPhase}
-use Rattle.word.specs.Word.{letterAt, maxQubits}
+use Rattle.word.specs.Word.{letterAt, maxQubits, identity}
 use Rattle.word.specs.Product.{product}
 use Rattle.word.specs.Codes.{writeAnswer}
 use Rattle.word.specs.Flat.{words}
 use Rattle.word.specs.declared.word.Word.{Word}
+use Rattle.word.specs.declared.word.ParsedWord.{ParsedWord}
+use Rattle.word.specs.declared.word.ParsedWord.the-variants as Read
 use Rattle.word.specs.declared.algebra.Phased.{Phased}
 use Rattle.number.specs.Whole.{whole}
 use Rattle.number.specs.Floats.{floats, float0, magnitude}
@@ -32,7 +35,9 @@ use Rattle.model.specs.declared.spec.Built.the-variants as Built
 use Rattle.kossakowski.specs.Added as Adding
 use Rattle.truncate.specs.Retained.{pick, flagged}
 use Rattle.action.specs.Acts.{actionOf, Acting, act}
+use Rattle.action.specs.Counts.{Counting}
 use Rattle.action.specs.declared.act.Acted.the-variants as Acted
+use Rattle.action.specs.declared.count.Counted.the-variants as Counted
 use Rattle.basis.specs.Prunes.{Keeping, protectedFlags, prune, cap}
 use Rattle.basis.specs.Admissions.{Admitting, admitFlags, admit}
 use Rattle.basis.specs.declared.kept.Kept.the-variants as Kept
@@ -44,13 +49,26 @@ use Rattle.generator.specs.Lent as Generator
 use Rattle.generator.specs.Lent.{basisOf}
 use Rattle.generator.specs.Generators.{Generating, CsrBuilding, generate, buildCsr}
 use Rattle.csr.specs.Products.{Multiplying, lengthTests, tableTests, multiply}
-use Rattle.pebblelinen.specs.Words.{Writes}
+use Rattle.csr.specs.declared.reader.RowRead.{RowRead}
+use Rattle.csr.specs.declared.reader.RowRead.the-variants as RowRead
+use Rattle.norm.specs.Norms as Norm
+use Rattle.norm.specs.Norms.{Norming, Selecting}
+use Rattle.norm.specs.declared.norm.Normed.the-variants as Normed
+use Rattle.norm.specs.declared.degree.Selected.the-variants as Selected
+use Rattle.pebblelinen.specs.Words.{parsedOf, Writes, fittingOf}
 use Rattle.pebblelinen.specs.Models.{Leaves}
-use Rattle.pebblelinen.specs.Actions.{LeavesList}
+use Rattle.pebblelinen.specs.Actions.{LeavesList, LeavesCount}
 use Rattle.pebblelinen.specs.Bases.{LeavesBasis, LeavesAdmitted}
 use Rattle.pebblelinen.specs.Leakages.{LeavesLeakage}
 use Rattle.pebblelinen.specs.Generators.{LeavesGenerator, LeavesCsr}
-use Rattle.pebblelinen.specs.Products.{LeavesProduct}
+use Rattle.pebblelinen.specs.Products.{foundOf, LeavesProduct}
+use Rattle.pebblelinen.specs.Norms.{LeavesNorm, LeavesPartition}
+use Rattle.pebblelinen.specs.declared.words.Parsed.{Parsed}
+use Rattle.pebblelinen.specs.declared.words.Fitting.{Fitting}
+use Rattle.pebblelinen.specs.declared.actions.CountedPlaces.{CountedPlaces}
+use Rattle.pebblelinen.specs.declared.products.FoundRow.{FoundRow}
+use Rattle.pebblelinen.specs.declared.norms.NormOfBasis.{NormOfBasis}
+use Rattle.pebblelinen.specs.declared.norms.Partition.{Partition}
 use Rattle.pebblelinen.specs.declared.actions.ListedWords.{ListedWords}
 use Rattle.pebblelinen.specs.declared.bases.KeptEntries.{KeptEntries}
 use Rattle.pebblelinen.specs.declared.models.BuiltModel.{BuiltModel}
@@ -69,8 +87,9 @@ use Rattle.demands.specs.Calls.{Accepted, Refused, AllFinite, WriteCall,
 
 -- ==== 1
 -- "Every accepted call ends with the one answer that document 01 gives for its input." (OneAnswer: one-answer)
--- A contract is an equation with a definition for the answer and for every lent table, so it allows one answer and one content of
--- each. (A call that is lent no table to write returns what a definition gives for its input: there is nothing to show.)
+-- A contract is an equation with a definition for the answer and for every lent table, work tables too, so it allows one answer and
+-- one content of each. (A call that is lent no table to write returns what a definition gives for its input: there is nothing to
+-- show.)
 pub record OneAnswer : Type 0 where
   pub writing : (w : Word) (n : ℕ) (out : List ℕ) (r r′ : Status) (o o′ : List ℕ) → Writes w n out r o → Writes w n out r′ o′ → (r ≡ r′) × (o ≡ o′)
   pub building : (d : Building.Building) (r r′ : BuiltModel) (t t′ : Tables) (w w′ : List ℕ) (x x′ : List Float)
@@ -88,11 +107,15 @@ pub record OneAnswer : Type 0 where
   pub by-rows : (d : CsrBuilding) (r r′ : ListedWords) (a a′ b b′ : List ℕ) (v v′ : List Float) (w w′ : Generator.Work)
       → LeavesCsr d r a b v w → LeavesCsr d r′ a′ b′ v′ w′ → (r ≡ r′) × (a ≡ a′) × (b ≡ b′) × (v ≡ v′) × (w ≡ w′)
   pub multiplying : (d : Multiplying) (r r′ : Status) (o o′ w w′ : List Float) → LeavesProduct d r o w → LeavesProduct d r′ o′ w′ → (r ≡ r′) × (o ≡ o′) × (w ≡ w′)
+  pub counting : (d : Counting) (r r′ : CountedPlaces) (h h′ j j′ m m′ w w′ : List ℕ) (x x′ : List Float)
+      → LeavesCount d r h j m w x → LeavesCount d r′ h′ j′ m′ w′ x′ → (r ≡ r′) × (h ≡ h′) × (j ≡ j′) × (m ≡ m′) × (w ≡ w′) × (x ≡ x′)
+  pub norming : (d : Norming) (r r′ : NormOfBasis) (w w′ : Norm.Work) → LeavesNorm d r w → LeavesNorm d r′ w′ → (r ≡ r′) × (w ≡ w′)
+  pub selecting : (d : Selecting) (r r′ : Partition) (w w′ : Norm.Work) → LeavesPartition d r w → LeavesPartition d r′ w′ → (r ≡ r′) × (w ≡ w′)
 
 -- "Every other call tests its input itself, gives the numbered refusal 01 names, and changes no model, basis or output."
 -- (Refusals: refused-changes-nothing)
 -- (No exported call has a precondition.) The refusal is the one that the definition names, its number and values are the status, and
--- the tables are as they were
+-- the tables are as they were; a call that returns numbers or a word has 0, or the identity, beside a refusal
 pub record Refuses (status : Status) (Named : Refusal → Type 0) (Unchanged : Type 0) : Type 0 where
   pub cause : Refusal
   pub named : Named cause
@@ -128,6 +151,18 @@ pub record ChangesNothing : Type 0 where
       ((c .offsets′ ≡ c .offsets) × (c .columns′ ≡ c .columns) × (c .values′ ≡ c .values))
   pub multiplying : (c : ProductCall) → Refused (c .status)
       → Refuses (c .status) (λ q. multiply (c .rows) (c .offsets) (c .columns) (c .values) (c .input) (c .overwrite) (c .output) (c .work) .answer ≡ Tests.Refused q) (c .output′ ≡ c .output)
+  -- texts and codes read
+  pub reading : (d : ParsedWord) (r : Parsed) → r ≡ parsedOf d → Refused (r .status) → Refuses (r .status) (λ q. d ≡ Read.Refused q) (r .word ≡ identity)
+  -- whether a word fits a register
+  pub fitting : (w : Word) (n : ℕ) (r : Fitting) → r ≡ fittingOf w n → Refused (r .status) → Refuses (r .status) (λ q. (maxQubits < n) × (q ≡ TooManyQubits n maxQubits)) (r .fits ≡ false)
+  pub counting : (d : Counting) (r : CountedPlaces) (h j m w : List ℕ) (x : List Float) → LeavesCount d r h j m w x → Refused (r .status)
+      → Refuses (r .status) (λ q. d .answer ≡ Counted.Refused q) ((r .touched ≡ 0) × (r .listed ≡ 0))
+  pub norming : (d : Norming) (r : NormOfBasis) (w : Norm.Work) → LeavesNorm d r w → Refused (r .status)
+      → Refuses (r .status) (λ q. d .answer ≡ Normed.Refused q) ((r .mu ≡ float0) × (r .norm ≡ float0))
+  pub selecting : (d : Selecting) (r : Partition) (w : Norm.Work) → LeavesPartition d r w → Refused (r .status)
+      → Refuses (r .status) (λ q. d .answer ≡ Selected.Refused q) ((r .mu ≡ float0) × (r .norm ≡ float0) × (r .m ≡ 0) × (r .s ≡ 0))
+  -- a row of a lent matrix
+  pub row-read : (d : RowRead) (r : FoundRow) → r ≡ foundOf d → Refused (r .status) → Refuses (r .status) (λ q. d ≡ RowRead.Refused q) ((r .start ≡ 0) × (r .end ≡ 0))
 
 -- ==== 2
 -- "Where port and Rust may differ, docs/DIFFERENCES.md lists it and document 01 decides; on all other accepted inputs they are equal,
