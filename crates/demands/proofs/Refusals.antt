@@ -403,6 +403,7 @@ refused-changes-nothing = record {
   multiplying = λ c h.
       let k = tests-cause _ _ (c .leaves .answers) h in
       record { cause = k .cause; named = k .named; numbered = k .numbered; unchanged = c .leaves .output-is ∙ multiply-kept (c .rows) (c .offsets) (c .columns) (c .values) (c .input) (c .overwrite) (c .output) (c .work) (k .cause) (k .named) };
+  testing = λ d r e h. let k = tests-cause d r e h in record { cause = k .cause; named = k .named; numbered = k .numbered; unchanged = tt };
   reading = read-refused;
   fitting = fit-refused;
   counting = λ d r h j m w x l. count-refused (d .answer) r (l .answers);

@@ -9,9 +9,10 @@ use mathlib.Core.Bool.{Bool, true, false}
 use mathlib.Core.List.{List, _++_}
 use lib.Ieee.{Float, nan, le}
 use lib.ListN.{length, getD, take, replicate}
-use Rattle.refusal.specs.Cause.{statusOf}
+use Rattle.refusal.specs.Cause.{statusOf, answerStatus}
 use Rattle.refusal.specs.declared.Refusal.{Refusal}
 use Rattle.refusal.specs.declared.Refusal.the-variants.{TooManyQubits}
+use Rattle.refusal.specs.declared.Answer.{Answer}
 use Rattle.refusal.specs.declared.Answer.the-variants as Tests
 use Rattle.refusal.specs.declared.Status.{Status}
 use Rattle.word.specs.Count.{sumTo}
@@ -151,6 +152,8 @@ pub record ChangesNothing : Type 0 where
       ((c .offsets′ ≡ c .offsets) × (c .columns′ ≡ c .columns) × (c .values′ ≡ c .values))
   pub multiplying : (c : ProductCall) → Refused (c .status)
       → Refuses (c .status) (λ q. multiply (c .rows) (c .offsets) (c .columns) (c .values) (c .input) (c .overwrite) (c .output) (c .work) .answer ≡ Tests.Refused q) (c .output′ ≡ c .output)
+  -- a lent model tested, of which nothing is written
+  pub testing : (d : Answer) (r : Status) → r ≡ answerStatus d → Refused r → Refuses r (λ q. d ≡ Tests.Refused q) (Unit {0})
   -- texts and codes read
   pub reading : (d : ParsedWord) (r : Parsed) → r ≡ parsedOf d → Refused (r .status) → Refuses (r .status) (λ q. d ≡ Read.Refused q) (r .word ≡ identity)
   -- whether a word fits a register
