@@ -13,8 +13,8 @@ use Rattle.word.specs.declared.word.Word.{Word}
 use Rattle.order.specs.Places.{isAmong}
 use Rattle.candidates.specs.Log.{Rows}
 use Rattle.model.specs.Given.{Term}
-use Rattle.model.specs.Stored.{Tables}
-use Rattle.model.specs.declared.tables.Model.{Model}
+use Rattle.model.specs.Stored.{ModelTables}
+use Rattle.model.specs.declared.stored.Model.{Model}
 use Rattle.action.specs.Acts.{actionOf}
 use Rattle.action.specs.declared.act.Acted.the-variants.{Listed}
 use Rattle.in_use.specs.InUse.{SameModel}
@@ -32,7 +32,7 @@ use Rattle.accounting.specs.Homes.{Accounted, AccountedWithoutRoom}
 use Rattle.accounting.proofs.HomeLaws.{accounted-without-room, accounted}
 
 -- the generator is lent t and lanes, leakage t′ and b: the same in the places in use
-module _ (m : Model) (t t′ : Tables) (same : SameModel m t t′) (lanes : List ℕ) (len : ℕ) (b : Leakage.Basis) (same-words : Lent.basisOf lanes len ≡ basisWords b)
+module _ (m : Model) (t t′ : ModelTables) (same : SameModel m t t′) (lanes : List ℕ) (len : ℕ) (b : Leakage.Basis) (same-words : Lent.basisOf lanes len ≡ basisWords b)
     (rows columns : List ℕ) (values : List Float) (g : Lent.Work) (n : ℕ) (generated : generate rows columns values g m t lanes len .out .answer ≡ Listed n)
     (outWords : List ℕ) (outValues : List Float) (w : Leakage.Work) (l : Limits) (k : ℕ) (leaked : Leakage.leak outWords outValues w m t′ b l .out .answer ≡ Listed k) where
   abbrev has : ℕ → ℕ → Float → Type 0

@@ -14,9 +14,9 @@ use Rattle.word.specs.Flat.{words}
 use Rattle.word.specs.Word.{identity}
 use Rattle.word.specs.declared.word.Word.{Word}
 use Rattle.order.specs.Places.{isAmong}
-use Rattle.model.specs.Stored.{Tables}
+use Rattle.model.specs.Stored.{ModelTables}
 use Rattle.model.specs.Given.{Term}
-use Rattle.model.specs.declared.tables.Model.{Model}
+use Rattle.model.specs.declared.stored.Model.{Model}
 use Rattle.action.specs.Acts.{actionOf}
 use Rattle.columns.specs.Members.{Member}
 use Rattle.passes.specs.Leaks.{outside, wordsOf}
@@ -49,7 +49,7 @@ outside-both true c e = absurd (false≢true e)
 outside-both false true e = absurd (false≢true e)
 outside-both false false e = (refl, refl)
 
-module _ (m : Model) (t : Tables) (b : Basis) (each : length (Leak.basisWords b) ≡ b .len) where
+module _ (m : Model) (t : ModelTables) (b : Basis) (each : length (Leak.basisWords b) ≡ b .len) where
   outside-parts : (w : Word) → outside (Leak.basisWords b) (words (b .protected)) w ≡ true → (isAmong w (Leak.basisWords b) ≡ false) × (isAmong w (words (b .protected)) ≡ false)
   unfolding outside
   outside-parts w e = outside-both (isAmong w (Leak.basisWords b)) (isAmong w (words (b .protected))) e

@@ -20,16 +20,16 @@ use Rattle.word.specs.declared.word.Word.{Word}
 use Rattle.number.specs.Floats.{floats, float0}
 use Rattle.gksl.specs.Table.{putAllOver}
 use Rattle.gksl.specs.Words.{pauli}
-use Rattle.table.specs.Sums.{table, answer}
-use Rattle.table.specs.declared.sums.Added.{Added}
-use Rattle.table.specs.declared.sums.Added.the-variants.{Held, Full}
-use Rattle.table.proofs.SumLaws.{rising-empty, answer-held, answer-full}
-use Rattle.model.specs.Stored.{Tables}
+use Rattle.sums.specs.Sums.{sumRows, answer}
+use Rattle.sums.specs.declared.sums.Added.{Added}
+use Rattle.sums.specs.declared.sums.Added.the-variants.{Held, Full}
+use Rattle.sums.proofs.SumLaws.{rising-empty, answer-held, answer-full}
+use Rattle.model.specs.Stored.{ModelTables}
 use Rattle.model.specs.Tested.{testModel}
 use Rattle.model.specs.Given.{Term}
-use Rattle.model.specs.declared.tables.Model.{Model}
-use Rattle.rules.specs.Adds.{rulesStored}
-use Rattle.rules.specs.Sums.{SumsRoom, PutsAll}
+use Rattle.model.specs.declared.stored.Model.{Model}
+use Rattle.rules_by_scan.specs.Adds.{rulesStored}
+use Rattle.rules_by_scan.specs.Sums.{SumsRoom, PutsAll}
 use Rattle.action.specs.declared.act.Acted.the-variants.{Listed, Refused}
 use Rattle.action.specs.Acts.{listed, sumsOf, actionOf, sumPlaces, listPlaces, Lists, ListRoom, Acting, tested, act}
 
@@ -37,7 +37,7 @@ use Rattle.action.specs.Acts.{listed, sumsOf, actionOf, sumPlaces, listP
 pub empty-room : (room : ℕ) (words : List ℕ) (sums : List Float) → 4 * room ≤ length words → 2 * room ≤ length sums → SumsRoom room 0 words sums
 empty-room room words sums l k = record { lanes-long = l; sums-long = k; inside = omega arith; rises = rising-empty words sums }
 
-module _ (m : Model) (t : Tables) (p : Word) (room : ℕ) (words : List ℕ) (sums : List Float) (words′ : List ℕ) (sums′ : List Float) (r : Added)
+module _ (m : Model) (t : ModelTables) (p : Word) (room : ℕ) (words : List ℕ) (sums : List Float) (words′ : List ℕ) (sums′ : List Float) (r : Added)
     (g : PutsAll room 0 (rulesStored m t p) words sums words′ sums′ r) where
   pub sums-full : r ≡ Full → room < length (sumsOf m t p)
   unfolding sumsOf
@@ -48,11 +48,11 @@ module _ (m : Model) (t : Tables) (p : Word) (room : ℕ) (words : List ℕ) (su
     unfolding sumsOf
     sums-held = answer-held room len (putAllOver floats pauli (rulesStored m t p) []) (sym e ∙ g .answers)
 
-    pub sums-are : table len words′ sums′ ≡ sumsOf m t p
+    pub sums-are : sumRows len words′ sums′ ≡ sumsOf m t p
     unfolding sumsOf
     sums-are = g .held len e
 
-    pub listed-are : listed (table len words′ sums′) ≡ actionOf m t p
+    pub listed-are : listed (sumRows len words′ sums′) ≡ actionOf m t p
     unfolding actionOf
     listed-are = ap listed sums-are
 
@@ -60,13 +60,13 @@ module _ (m : Model) (t : Tables) (p : Word) (room : ℕ) (words : List ℕ) (su
       pub sums-inside : (4 * len ≤ length words′) × (2 * len ≤ length sums′)
       sums-inside = let h = sums-held in (omega (arith, h .0, h .1, el), omega (arith, h .0, h .1, es))
 
-      pub list-room : (outWords : List ℕ) (outValues : List Float) (count places : ℕ) → count ≡ length (listed (table len words′ sums′)) → places ≡ listPlaces outWords outValues → count ≤ places
+      pub list-room : (outWords : List ℕ) (outValues : List Float) (count places : ℕ) → count ≡ length (listed (sumRows len words′ sums′)) → places ≡ listPlaces outWords outValues → count ≤ places
           → ListRoom len words′ sums′ outWords outValues
       list-room outWords outValues count places ec ep h =
           record { lanes-long = sums-inside .0; sums-long = sums-inside .1; words-room = omega (arith, ec, ep); values-room = omega (arith, ec, ep) }
 
 -- ---- the answers
-module _ (outWords : List ℕ) (outValues : List Float) (workWords : List ℕ) (workSums : List Float) (m : Model) (t : Tables) (p : Word) where
+module _ (outWords : List ℕ) (outValues : List Float) (workWords : List ℕ) (workSums : List Float) (m : Model) (t : ModelTables) (p : Word) where
   abbrev done : Acting
   done = act outWords outValues workWords workSums m t p
 
@@ -120,7 +120,7 @@ module _ (outWords : List ℕ) (outValues : List Float) (words words′ : List �
   by-test Tests.Accepted h = h
   by-test (Tests.Refused r) h = record { answers = refl; out-words = refl; out-values = refl }
 
-  pub act-independent : length words ≡ length words′ → length sums ≡ length sums′ → (m : Model) (t : Tables) (p : Word)
+  pub act-independent : length words ≡ length words′ → length sums ≡ length sums′ → (m : Model) (t : ModelTables) (p : Word)
       → Alike (act outWords outValues words sums m t p) (act outWords outValues words′ sums′ m t p)
   unfolding act
   act-independent ew es m t p =

@@ -21,8 +21,8 @@ use Rattle.word.specs.Register.{reaches}
 use Rattle.word.specs.declared.word.Word.{Word}
 use Rattle.word.proofs.FlatLaws.{words-high, words-low}
 use Rattle.number.specs.Floats.{float0}
-use Rattle.model.specs.Stored.{Tables}
-use Rattle.model.specs.declared.tables.Model.{Model}
+use Rattle.model.specs.Stored.{ModelTables}
+use Rattle.model.specs.declared.stored.Model.{Model}
 use Rattle.action.specs.Acts.{sumPlaces}
 use Rattle.action.specs.Counts.{most, touchedBy, listedBy, mostPlaces, outsideAt, wordsTests, AllInside, countPlaces}
 use Rattle.action.specs.declared.count.Counted.{Counted}
@@ -77,7 +77,7 @@ unfolding outsideAt
 word-inside lanes n a k h e = ap (λ (v : Word). reaches v n) e ∙ a k h
 
 -- ---- the answers
-module _ (hIndex jIndex mask workWords : List ℕ) (workSums : List Float) (m : Model) (t : Tables) (lanes : List ℕ) where
+module _ (hIndex jIndex mask workWords : List ℕ) (workSums : List Float) (m : Model) (t : ModelTables) (lanes : List ℕ) where
   pub count-refused : (r : Refusal) → wordsTests m t lanes (length hIndex) (length jIndex) (length mask) ≡ Tests.Refused r
       → record { answer = Refused r; hIndex = hIndex; jIndex = jIndex; mask = mask; workWords = workWords; workSums = workSums } ≡ countPlaces hIndex jIndex mask workWords workSums m t lanes
   unfolding countPlaces

@@ -15,10 +15,10 @@ use Rattle.word.specs.Flat.{words, layWord}
 use Rattle.word.proofs.FlatLaws.{words-high}
 use Rattle.number.specs.Floats.{floats}
 use Rattle.gksl.specs.Table.{withoutOver}
-use Rattle.table.specs.Numbers.{complexes}
-use Rattle.table.specs.Sums.{rows, table}
-use Rattle.table.proofs.NumberLaws.{complexes-high}
-use Rattle.table.proofs.SumLaws.{table-long}
+use Rattle.sums.specs.Numbers.{complexes}
+use Rattle.sums.specs.Sums.{rows, sumRows}
+use Rattle.sums.proofs.NumberLaws.{complexes-high}
+use Rattle.sums.proofs.SumLaws.{table-long}
 use Rattle.model.specs.Given.{Term}
 use Rattle.model.specs.Laid.{laid}
 use Rattle.model.specs.Product.{termAt}
@@ -27,20 +27,20 @@ use Rattle.action.specs.Acts.{listed, Lists, ListRoom}
 
 -- what is left to list from place i on
 abbrev pub left : ℕ → List ℕ → List Float → ℕ → List Term
-left len lanes sums i = listed (drop i (table len lanes sums))
+left len lanes sums i = listed (drop i (sumRows len lanes sums))
 
 module _ (len : ℕ) (lanes : List ℕ) (sums : List Float) (hl : 4 * len ≤ length lanes) (hs : 2 * len ≤ length sums) where
   pub left-none : (i : ℕ) → len ≤ i → left len lanes sums i ≡ []
   unfolding withoutOver
   left-none i h =
       let n = table-long len lanes sums hl hs in
-      let l : length (table len lanes sums) ≤ i = omega (arith, n) in
-      ap listed (drop-of-length-le (table len lanes sums) l)
+      let l : length (sumRows len lanes sums) ≤ i = omega (arith, n) in
+      ap listed (drop-of-length-le (sumRows len lanes sums) l)
 
   module _ (i : ℕ) (h : i < len) (t : Term) (e : t ≡ termAt lanes sums i) where
-    next : drop i (table len lanes sums) ≡ t ∷ drop (i + 1) (table len lanes sums)
+    next : drop i (sumRows len lanes sums) ≡ t ∷ drop (i + 1) (sumRows len lanes sums)
     next =
-        let T : List Term = table len lanes sums in
+        let T : List Term = sumRows len lanes sums in
         rw (add-one i)
         (drop-cons T i t (omega (arith, table-long len lanes sums hl hs))
         ∙ ap (λ (u : Term). u ∷ drop (suc i) T)
@@ -62,17 +62,17 @@ module _ (len : ℕ) (lanes : List ℕ) (sums : List Float) (hl : 4 * len ≤ le
 pub record CountState (len : ℕ) (lanes : List ℕ) (sums : List Float) (count i : ℕ) : Type 0 where
   pub high : i ≤ len
   pub few : count ≤ i
-  pub counted : count + length (left len lanes sums i) ≡ length (listed (table len lanes sums))
+  pub counted : count + length (left len lanes sums i) ≡ length (listed (sumRows len lanes sums))
 
 module _ (len : ℕ) (lanes : List ℕ) (sums : List Float) (hl : 4 * len ≤ length lanes) (hs : 2 * len ≤ length sums) (count i : ℕ) (s : CountState len lanes sums count i) where
   module _ (h : i < len) (t : Term) (e : t ≡ termAt lanes sums i) where
     pub count-passes : floats .isZero (t .num .re) ≡ true → CountState len lanes sums count (i + 1)
-    count-passes f = record { high = omega arith; few = omega (arith, s .few); counted = subst (λ (L : List Term). count + length L ≡ length (listed (table len lanes sums))) (left-passed len lanes sums hl hs i h t e f) (s .counted) }
+    count-passes f = record { high = omega arith; few = omega (arith, s .few); counted = subst (λ (L : List Term). count + length L ≡ length (listed (sumRows len lanes sums))) (left-passed len lanes sums hl hs i h t e f) (s .counted) }
 
     pub count-lists : floats .isZero (t .num .re) ≡ false → CountState len lanes sums (count + 1) (i + 1)
     count-lists f = let k = ap length (left-listed len lanes sums hl hs i h t e f) in record { high = omega arith; few = omega (arith, s .few); counted = omega (arith, s .counted, k) }
 
-  pub count-done : len ≤ i → count ≡ length (listed (table len lanes sums))
+  pub count-done : len ≤ i → count ≡ length (listed (sumRows len lanes sums))
   unfolding withoutOver
   count-done h = let k : length (left len lanes sums i) ≡ 0 = ap length (left-none len lanes sums hl hs i h) in omega (arith, s .counted, k)
 
@@ -130,7 +130,7 @@ module _ (len : ℕ) (lanes : List ℕ) (sums : List Float) (outWords₀ : List 
               values-left = rw (add-one place, ev) (subst (λ (L : List Term). laid set place (map (λ c. c .num .re) L) outValues ≡ laid set 0 (map (λ c. c .num .re) (rest 0)) outValues₀) one (s .values-left));
             }
 
-    pub list-done : len ≤ i → Lists (listed (table len lanes sums)) outWords₀ outValues₀ outWords outValues
+    pub list-done : len ≤ i → Lists (listed (sumRows len lanes sums)) outWords₀ outValues₀ outWords outValues
     unfolding laid
     list-done h =
         let n = left-none len lanes sums (room .lanes-long) (room .sums-long) i h in

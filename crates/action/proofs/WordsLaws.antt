@@ -18,15 +18,15 @@ use Rattle.word.specs.Word.{identity}
 use Rattle.word.specs.Flat as Flat
 use Rattle.word.specs.Register.{reaches}
 use Rattle.word.specs.declared.word.Word.{Word}
-use Rattle.model.specs.Stored.{Tables}
+use Rattle.model.specs.Stored.{ModelTables}
 use Rattle.model.specs.Tested.{whereAny, firstTo, testModel}
-use Rattle.model.specs.declared.tables.Model.{Model}
+use Rattle.model.specs.declared.stored.Model.{Model}
 use Rattle.model.proofs.NeedLaws.{need-some}
 use Rattle.model.proofs.Firsts.{first-before}
 use Rattle.model.proofs.BuildLaws.{passed, both, equal-passed, lent-passed, counted-passed}
 use Rattle.action.specs.Counts.{maxWords, rowLanes, outsideAt, insideTo, wordsTests, AllInside}
 
-module _ (m : Model) (t : Tables) (lanes : List ℕ) (h j k : ℕ) where
+module _ (m : Model) (t : ModelTables) (lanes : List ℕ) (h j k : ℕ) where
   abbrev tests : Answer
   tests = wordsTests m t lanes h j k
 
@@ -81,14 +81,14 @@ unfolding outsideAt
 outside-at lanes n k e f = f ∙ ap (λ (v : Word). reaches v n) e
 
 -- ---- what is known where all tests are passed
-pub record Passed (m : Model) (t : Tables) (lanes : List ℕ) (h j k : ℕ) : Type 0 where
+pub record Passed (m : Model) (t : ModelTables) (lanes : List ℕ) (h j k : ℕ) : Type 0 where
   pub model : testModel m t ≡ Accepted
   pub h-long : 0 < length lanes / 4 → rowLanes * m .qubits ≤ h
   pub j-long : 0 < length lanes / 4 → rowLanes * m .qubits ≤ j
   pub mask-long : 0 < length lanes / 4 → rowLanes ≤ k
   pub inside : AllInside lanes (m .qubits)
 
-pub words-passed : (m : Model) (t : Tables) (lanes : List ℕ) (h j k : ℕ) → wordsTests m t lanes h j k ≡ Accepted → Passed m t lanes h j k
+pub words-passed : (m : Model) (t : ModelTables) (lanes : List ℕ) (h j k : ℕ) → wordsTests m t lanes h j k ≡ Accepted → Passed m t lanes h j k
 unfolding wordsTests insideTo
 words-passed m t lanes h j k e =
     let words : ℕ = length lanes / 4 in

@@ -19,18 +19,18 @@ use Rattle.word.specs.declared.word.Word.{Word}
 use Rattle.number.specs.Floats.{floats, float0}
 use Rattle.gksl.specs.Table.{putAllOver, withoutOver}
 use Rattle.gksl.specs.Words.{pauli}
-use Rattle.table.specs.Sums.{table}
-use Rattle.model.specs.Stored.{Tables}
+use Rattle.sums.specs.Sums.{sumRows}
+use Rattle.model.specs.Stored.{ModelTables}
 use Rattle.model.specs.Tested.{testModel}
 use Rattle.model.specs.Given.{Term}
 use Rattle.model.specs.Laid.{laid}
-use Rattle.model.specs.declared.tables.Model.{Model}
-use Rattle.rules.specs.Adds.{rulesStored}
+use Rattle.model.specs.declared.stored.Model.{Model}
+use Rattle.rules_by_scan.specs.Adds.{rulesStored}
 use Rattle.action.specs.declared.act.Acted.{Acted}
 use Rattle.action.specs.declared.act.Acted.the-variants.{Listed, Refused}
 
 -- every sum starts at 0; zero sums are among them
-unfoldable pub sumsOf : Model → Tables → Word → List Term
+unfoldable pub sumsOf : Model → ModelTables → Word → List Term
 sumsOf m t p = putAllOver floats pauli (rulesStored m t p) []
 
 -- those with a real part not equal to 0
@@ -38,7 +38,7 @@ abbrev pub listed : List Term → List Term
 listed T = withoutOver floats pauli (λ c. floats .isZero (c .num .re)) T
 
 -- in word order
-unfoldable pub actionOf : Model → Tables → Word → List Term
+unfoldable pub actionOf : Model → ModelTables → Word → List Term
 actionOf m t p = listed (sumsOf m t p)
 
 -- ---- the places of table 1, words touched by one action, and of table 3, entries listed
@@ -57,8 +57,8 @@ pub record Lists (L : List Term) (outWords : List ℕ) (outValues : List Float) 
 pub record ListRoom (len : ℕ) (lanes : List ℕ) (sums : List Float) (outWords : List ℕ) (outValues : List Float) : Type 0 where
   pub lanes-long : 4 * len ≤ length lanes
   pub sums-long : 2 * len ≤ length sums
-  pub words-room : 4 * length (listed (table len lanes sums)) ≤ length outWords
-  pub values-room : length (listed (table len lanes sums)) ≤ length outValues
+  pub words-room : 4 * length (listed (sumRows len lanes sums)) ≤ length outWords
+  pub values-room : length (listed (sumRows len lanes sums)) ≤ length outValues
 
 -- ---- what the call answers, and the lent tables afterwards
 pub record Acting : Type 0 where
@@ -75,8 +75,8 @@ module _ (outWords : List ℕ) (outValues : List Float) (workWords : List ℕ) (
 
   -- work tables are zero after acceptance and 13
   abbrev pub full : ℕ → ℕ → Acting
-  full table places =
-      record { answer = Refused (TableFull table places); outWords = outWords; outValues = outValues; workWords = replicate (length workWords) 0; workSums = replicate (length workSums) float0 }
+  full sumRows places =
+      record { answer = Refused (TableFull sumRows places); outWords = outWords; outValues = outValues; workWords = replicate (length workWords) 0; workSums = replicate (length workSums) float0 }
 
   abbrev pub listing : List Term → Acting
   listing L = record {
@@ -91,7 +91,7 @@ module _ (outWords : List ℕ) (outValues : List Float) (workWords : List ℕ) (
   tested Tests.Accepted after = after
   tested (Tests.Refused r) after = refusal r
 
-  unfoldable pub act : Model → Tables → Word → Acting
+  unfoldable pub act : Model → ModelTables → Word → Acting
   act m t p =
       tested (testModel m t)
       (cond (reaches p (m .qubits)) (refusal (WordOutsideRegister 0))

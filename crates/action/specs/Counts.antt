@@ -19,10 +19,10 @@ use Rattle.word.specs.Flat.{words}
 use Rattle.word.specs.Register.{reaches}
 use Rattle.word.specs.declared.word.Word.{Word}
 use Rattle.number.specs.Floats.{float0}
-use Rattle.model.specs.Stored.{Tables}
+use Rattle.model.specs.Stored.{ModelTables}
 use Rattle.model.specs.Tested.{counted, lent, whereAny, firstTo, testModel}
 use Rattle.model.specs.Built.{andThen, equal}
-use Rattle.model.specs.declared.tables.Model.{Model}
+use Rattle.model.specs.declared.stored.Model.{Model}
 use Rattle.action.specs.Acts.{sumsOf, actionOf, sumPlaces}
 use Rattle.action.specs.declared.count.Counted.{Counted}
 use Rattle.action.specs.declared.count.Counted.the-variants.{Places, Refused}
@@ -33,10 +33,10 @@ most f [] = 0
 most f (p ∷ ps) = max (f p) (most f ps)
 
 -- the words that one action touches, zero sums included, and those that it lists
-abbrev pub touchedBy : Model → Tables → Word → ℕ
+abbrev pub touchedBy : Model → ModelTables → Word → ℕ
 touchedBy m t p = length (sumsOf m t p)
 
-abbrev pub listedBy : Model → Tables → Word → ℕ
+abbrev pub listedBy : Model → ModelTables → Word → ℕ
 listedBy m t p = length (actionOf m t p)
 
 -- 13 where one action touches more words than there is room for
@@ -60,7 +60,7 @@ unfoldable pub insideTo : ℕ → List ℕ → ℕ → Answer → Answer
 insideTo count lanes n after = cond (ltb (firstTo count (outsideAt lanes n)) count) (Tests.Refused (WordOutsideRegister (firstTo count (outsideAt lanes n)))) after
 
 -- the model, 8, 9, 11; no words ask for no place
-unfoldable pub wordsTests : Model → Tables → List ℕ → ℕ → ℕ → ℕ → Answer
+unfoldable pub wordsTests : Model → ModelTables → List ℕ → ℕ → ℕ → ℕ → Answer
 wordsTests m t lanes hIndex jIndex mask =
     andThen (testModel m t)
     (counted maxWords (length lanes / 4)
@@ -100,7 +100,7 @@ module _ (hIndex jIndex mask workWords : List ℕ) (workSums : List Float) where
   testedWords Tests.Accepted after = after
   testedWords (Tests.Refused r) after = unchanged r
 
-  unfoldable pub countPlaces : Model → Tables → List ℕ → Counting
+  unfoldable pub countPlaces : Model → ModelTables → List ℕ → Counting
   countPlaces m t lanes =
       testedWords (wordsTests m t lanes (length hIndex) (length jIndex) (length mask))
       (zeroed (mostPlaces (sumPlaces workWords workSums) (touchedBy m t) (listedBy m t) (words lanes)))

@@ -5,7 +5,7 @@
 ghost use mathlib.Core.Path.{_≡_};
 ghost use Prim.Native.Nat.{_*_, _≤_};
 ghost use lib.ListN.{length};
-ghost use Rattle.table.specs.Sums.{table};
+ghost use Rattle.sums.specs.Sums.{sumRows};
 ghost use Rattle.action.specs.Acts.{listed, ListRoom, Lists};
 use model::product::term_at;
 use number::scalar::is_zero;
@@ -14,7 +14,7 @@ use word::flat::set_word;
 // How many of the first `len` sums are listed.
 pub fn count_listed(words: &[u64], sums: &[f64], len: usize) -> usize
     requires { ⌜ (4 * len ≤ length (now words)) × (2 * len ≤ length (now sums)) ⌝ }
-    ensures { λ r. ⌜ r ≡ length (listed (table len (now (words .entry)) (now (sums .entry)))) ⌝ }
+    ensures { λ r. ⌜ r ≡ length (listed (sumRows len (now (words .entry)) (now (sums .entry)))) ⌝ }
 {
     let mut count = 0;
     let mut i = 0;
@@ -39,7 +39,7 @@ pub fn list_sums(
     out_values: &mut [f64],
 )
     requires { ⌜ ListRoom len (now words) (now sums) (now «out_words») (now «out_values») ⌝ }
-    ensures { λ _. ⌜ Lists (listed (table len (now (words .entry)) (now (sums .entry)))) (now («out_words» .entry)) (now («out_values» .entry)) (now («out_words» .exit)) (now («out_values» .exit)) ⌝ }
+    ensures { λ _. ⌜ Lists (listed (sumRows len (now (words .entry)) (now (sums .entry)))) (now («out_words» .entry)) (now («out_values» .entry)) (now («out_words» .exit)) (now («out_values» .exit)) ⌝ }
 {
     let mut place = 0;
     let mut i = 0;

@@ -10,7 +10,7 @@ ghost use Rattle.model.specs.Tested.{firstTo};
 ghost use Rattle.action.specs.Counts.{outsideAt, wordsTests};
 use model::lengths::mismatch;
 use model::lengths::where_any;
-use model::tables::Model;
+use model::stored::Model;
 use model::test::test_model;
 use refusal::Answer;
 use refusal::Refusal;

@@ -28,12 +28,12 @@ use Rattle.number.specs.Floats.{floats}
 use Rattle.number.specs.Exact.{Is}
 use Rattle.gksl.specs.Model.{ModelOver}
 use Rattle.gksl.specs.Words.{pauli}
-use Rattle.table.specs.Sums.{row, rows, AllAfter, Rising}
-use Rattle.model.specs.Stored.{Tables}
+use Rattle.sums.specs.Sums.{row, rows, AllAfter, Rising}
+use Rattle.model.specs.Stored.{ModelTables}
 use Rattle.model.specs.Given.{Term}
 use Rattle.model.specs.Tested.{testModel}
 use Rattle.model.specs.Laid.{laid}
-use Rattle.model.specs.declared.tables.Model.{Model}
+use Rattle.model.specs.declared.stored.Model.{Model}
 use Rattle.model.proofs.WorkLaws.{rows-length}
 use Rattle.model_laws.specs.Every.{Every}
 use Rattle.model_laws.proofs.Lists.{every-map}
@@ -50,7 +50,7 @@ use Rattle.action_laws.proofs.MadeExact.{made-exact}
 refused-lists : (q : Refusal) (n : ℕ) → Refused q ≡ Listed n → ⊥
 refused-lists q n e = let z : _≡_ {A = ℕ} 0 1 = cc in omega arith
 
-module _ (outWords : List ℕ) (outValues : List Float) (workWords : List ℕ) (workSums : List Float) (m : Model) (t : Tables) (p : Word) (n : ℕ) where
+module _ (outWords : List ℕ) (outValues : List Float) (workWords : List ℕ) (workSums : List Float) (m : Model) (t : ModelTables) (p : Word) (n : ℕ) where
   record Accepts : Type 0 where
     count : n ≡ length (actionOf m t p)
     places : length (actionOf m t p) ≤ listPlaces outWords outValues
@@ -142,7 +142,7 @@ read-back L outWords outValues sound room =
     numbers-real (c ∷ L) = ap (λ (r : List (Cx floats)). realC floats (c .num .re) ∷ r) (numbers-real L)
 
 -- ---- the call
-module _ (g : ModelOver floats pauli) (m : Model) (t : Tables) (made : Made g m t) (w : ModelOver whole pauli) (numbers : WholeModel g w) (p : Word) (sound : Sound p)
+module _ (g : ModelOver floats pauli) (m : Model) (t : ModelTables) (made : Made g m t) (w : ModelOver whole pauli) (numbers : WholeModel g w) (p : Word) (sound : Sound p)
     (outWords : List ℕ) (outValues : List Float) (workWords : List ℕ) (workSums : List Float) (n : ℕ) (answers : act outWords outValues workWords workSums m t p .answer ≡ Listed n) where
   -- the first n words and values of the lent tables are exactly the generator's
   pub call-exact : ListsGenerator w p (listIn n (act outWords outValues workWords workSums m t p .outWords) (act outWords outValues workWords workSums m t p .outValues))

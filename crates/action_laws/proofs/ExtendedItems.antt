@@ -15,21 +15,21 @@ use Rattle.word.specs.declared.word.Word.{Word}
 use Rattle.number.specs.Floats.{floats}
 use Rattle.gksl.specs.Model.{RealTerm}
 use Rattle.gksl.specs.Words.{pauli}
-use Rattle.model.specs.Stored.{Tables, jumpAt}
+use Rattle.model.specs.Stored.{ModelTables, jumpAt}
 use Rattle.model.specs.Given.{Term}
 use Rattle.model.specs.Product.{termsIn}
 use Rattle.model.specs.Compiled.{Compiled}
 use Rattle.model.specs.Built.{entriesFrom, ratesOf}
-use Rattle.model.specs.declared.tables.Model.{Model}
-use Rattle.model.specs.declared.tables.Jump.{Jump}
-use Rattle.model.specs.declared.tables.Jump.the-variants.{Pauli}
+use Rattle.model.specs.declared.stored.Model.{Model}
+use Rattle.model.specs.declared.stored.Jump.{Jump}
+use Rattle.model.specs.declared.stored.Jump.the-variants.{Pauli}
 use Rattle.model_laws.specs.Every.{Every}
 use Rattle.model_laws.specs.Stands.{Stands}
 use Rattle.model_laws.specs.Extended.{Additions, larger, extended}
 use Rattle.model_laws.proofs.Lists.{every-map}
 use Rattle.model_laws.proofs.LaidLaws.{set-other, set-here, words-other, words-here, entries-other, entries-here, jump-same}
 use Rattle.model_laws.proofs.CompiledLaws.{entries-length}
-use Rattle.rules.specs.Adds.{upTo, realAt, realsIn, jumpsIn, jumpAdds, pairAdds, gatherJumps}
+use Rattle.rules_by_scan.specs.Adds.{upTo, realAt, realsIn, jumpsIn, jumpAdds, pairAdds, gatherJumps}
 use Rattle.in_use.proofs.KeptItems.{read-same, jumps-kept, pairs-kept}
 use Rattle.action_laws.proofs.LaidTerms.{terms-kept, word-kept}
 
@@ -81,7 +81,7 @@ jumps-at at (c ∷ cs) zero d h = refl
 jumps-at at (c ∷ cs) (suc i) d h = jumps-at (at + length (c .terms)) cs i d (omega arith)
 
 -- ---- what is laid: words that are read back, entries of eight numbers, and room
-pub record Laying (m : Model) (t : Tables) (a : Additions) : Type 0 where
+pub record Laying (m : Model) (t : ModelTables) (a : Additions) : Type 0 where
   pub rates-each : length (a .rates) ≡ length (a .entries)
   pub reals : Every (λ h. Sound (h .word)) (a .reals)
   pub eight : Every (λ e. length e ≡ 8) (a .entries)
@@ -93,8 +93,8 @@ pub record Laying (m : Model) (t : Tables) (a : Additions) : Type 0 where
   pub t-words-room : 4 * (m .terms + length (a .terms)) ≤ length (t .tWords)
   pub t-numbers-room : 2 * (m .terms + length (a .terms)) ≤ length (t .tNumbers)
 
-module _ (m : Model) (t : Tables) (a : Additions) (x : Laying m t a) where
-  abbrev after : Tables
+module _ (m : Model) (t : ModelTables) (a : Additions) (x : Laying m t a) where
+  abbrev after : ModelTables
   after = extended m t a
 
   -- ---- Hamiltonian terms
@@ -155,7 +155,7 @@ unfolding gatherJumps
 gathered-both f [] K = refl
 gathered-both f (j ∷ J) K = ap (λ (l : List Term). f j ++ l) (gathered-both f J K) ∙ sym (append-assoc (f j) (gatherJumps f J) (gatherJumps f K))
 
-module _ (m : Model) (t : Tables) (a : Additions) (s : Stands m t) (x : Laying m t a) (p : Word) where
+module _ (m : Model) (t : ModelTables) (a : Additions) (s : Stands m t) (x : Laying m t a) (p : Word) where
   terms-stay : (b e : ℕ) → b ≤ e → e ≤ m .terms → termsIn (extended m t a .tWords) (extended m t a .tNumbers) b e ≡ termsIn (t .tWords) (t .tNumbers) b e
   unfolding extended
   terms-stay = terms-kept (m .terms) (a .terms) (t .tWords) (t .tNumbers) (x .terms) (x .t-words-room) (x .t-numbers-room)

@@ -24,17 +24,17 @@ use Rattle.number.proofs.RangeLaws.{atMost-neg, atMost-two}
 use Rattle.gksl.specs.Table.{putAllOver}
 use Rattle.gksl.specs.Rules.{overlapsOver}
 use Rattle.gksl.specs.Words.{pauli}
-use Rattle.table.specs.Numbers.{complexes, noNumber}
-use Rattle.table.specs.Sums.{rows}
-use Rattle.table.proofs.NumberLaws.{complexes-at}
+use Rattle.sums.specs.Numbers.{complexes, noNumber}
+use Rattle.sums.specs.Sums.{rows}
+use Rattle.sums.proofs.NumberLaws.{complexes-at}
 use Rattle.model.specs.Given.{Term}
-use Rattle.model.specs.Stored.{Tables, jumpAt, given}
+use Rattle.model.specs.Stored.{ModelTables, jumpAt, given}
 use Rattle.model.specs.Product.{termsIn}
 use Rattle.model.specs.Tested.{inside, width, badJump, testModel}
-use Rattle.model.specs.declared.tables.Model.{Model}
-use Rattle.model.specs.declared.tables.Range.{Range}
-use Rattle.model.specs.declared.tables.Jump.{Jump}
-use Rattle.model.specs.declared.tables.Jump.the-variants.{Pauli, General, Pair}
+use Rattle.model.specs.declared.stored.Model.{Model}
+use Rattle.model.specs.declared.stored.Range.{Range}
+use Rattle.model.specs.declared.stored.Jump.{Jump}
+use Rattle.model.specs.declared.stored.Jump.the-variants.{Pauli, General, Pair}
 use Rattle.model_laws.specs.Every.{Every}
 use Rattle.model_laws.specs.Stands.{numberAt, Stands}
 use Rattle.model_laws.proofs.Lists.{every-weaken, every-map}
@@ -43,7 +43,7 @@ use Rattle.model_laws.proofs.StandsLaws.{tested-stands}
 use Rattle.model_laws.proofs.TestedNumbers.{real-size, term-size, given-size, pauli-size, general-size}
 use Rattle.model_laws.proofs.ActionBounds.{sandwich-value, product-value, factor-value, twice-value, diagonal-value, both-value, sums-finite}
 use Rattle.model_laws.proofs.RuleBounds.{Small, Added, none, append, choose, pairs, gather, signed-small, factored-small, clash-small, terms-small}
-use Rattle.rules.specs.Adds.{upTo, realAt, realsIn, jumpsIn, op, sandwich, dampen, folded, doubled, eachFactor, diagonal, bothSides, oneSide, jumpAdds, pairAdds, gatherJumps, rulesStored}
+use Rattle.rules_by_scan.specs.Adds.{upTo, realAt, realsIn, jumpsIn, op, sandwich, dampen, folded, doubled, eachFactor, diagonal, bothSides, oneSide, jumpAdds, pairAdds, gatherJumps, rulesStored}
 use Rattle.action_laws.proofs.Runs.{every-up, every-first, every-rest}
 
 -- ---- lists of what is added
@@ -107,7 +107,7 @@ module _ (p : Word) where
   one-small f keeps c h = choose (floats .slight (c .num .im)) none (factored-small _ _ _ (keeps (c .num .im) (h .im)))
 
 -- ---- the items of a model that stands
-module _ (m : Model) (t : Tables) (s : Stands m t) (p : Word) where
+module _ (m : Model) (t : ModelTables) (s : Stands m t) (p : Word) where
   -- terms from one place to before another
   places-small : (k a e : ℕ) → e ≤ m .terms → ((i : ℕ) → i < m .terms → a ≤ i → i < e → AtMostC k (numberAt (t .tNumbers) i)) → Every (Small k) (termsIn (t .tWords) (t .tNumbers) a e)
   places-small k a e h size =
@@ -180,5 +180,5 @@ module _ (m : Model) (t : Tables) (s : Stands m t) (p : Word) where
       (append (each-jump (jumpAdds p t) (λ j l. jump-small j l _ refl)) (each-jump (pairAdds p t) (λ j l. pair-small j l _ refl)))
 
 -- every sum of the action is finite
-pub sums-finite-stored : (m : Model) (t : Tables) → testModel m t ≡ Accepted → (p : Word) → Every (λ c. T (isFinite (c .num .re)) × T (isFinite (c .num .im))) (putAllOver floats pauli (rulesStored m t p) [])
+pub sums-finite-stored : (m : Model) (t : ModelTables) → testModel m t ≡ Accepted → (p : Word) → Every (λ c. T (isFinite (c .num .re)) × T (isFinite (c .num .im))) (putAllOver floats pauli (rulesStored m t p) [])
 sums-finite-stored m t accepted p = sums-finite (rulesStored m t p) (rules-stored-small m t (tested-stands m t accepted) p .each)

@@ -16,14 +16,14 @@ use Rattle.number.specs.Floats.{floats}
 use Rattle.gksl.specs.Model.{JumpOver}
 use Rattle.gksl.specs.Rules.{overlapsOver, formedOver, clashOver, generalOver, shapeOver, jumpsOver}
 use Rattle.gksl.specs.Words.{pauli}
-use Rattle.table.specs.Numbers.{complexes}
-use Rattle.table.specs.Sums.{rows}
-use Rattle.model.specs.Stored.{Tables, jumpAt}
+use Rattle.sums.specs.Numbers.{complexes}
+use Rattle.sums.specs.Sums.{rows}
+use Rattle.model.specs.Stored.{ModelTables, jumpAt}
 use Rattle.model.specs.Given.{Term}
 use Rattle.model.specs.Compiled.{Compiled, compileJump, pauliJump, generalJump}
 use Rattle.model.specs.Built.{termsOf}
-use Rattle.model.specs.declared.tables.Jump.{Jump}
-use Rattle.rules.specs.Adds.{sandwich, dampen, jumpAdds, pairAdds, gatherJumps}
+use Rattle.model.specs.declared.stored.Jump.{Jump}
+use Rattle.rules_by_scan.specs.Adds.{sandwich, dampen, jumpAdds, pairAdds, gatherJumps}
 use Rattle.action_laws.proofs.LaidTerms.{Holds, holds-left, holds-right, holds-part, holds-word}
 use Rattle.action_laws.proofs.ExtendedItems.{jumpsFrom}
 
@@ -31,7 +31,7 @@ use Rattle.action_laws.proofs.ExtendedItems.{jumpsFrom}
 abbrev pub jumpOf : Compiled → ℕ → Jump
 jumpOf c at = jumpAt (c .numbers at) (c .rate ∷ []) 0
 
-module _ (p : Word) (t : Tables) where
+module _ (p : Word) (t : ModelTables) where
   abbrev R : List Term
   R = rows (words (t .tWords)) (complexes (t .tNumbers))
 

@@ -15,9 +15,9 @@ use Rattle.word.specs.declared.word.Word.{Word}
 use Rattle.word.proofs.FlatLaws.{words-high, words-set}
 use Rattle.number.specs.Numbers.{Cx}
 use Rattle.number.specs.Floats.{floats}
-use Rattle.table.specs.Numbers.{complexes, layNumber}
-use Rattle.table.specs.Sums.{rows, row}
-use Rattle.table.proofs.NumberLaws.{complexes-high, complexes-set}
+use Rattle.sums.specs.Numbers.{complexes, layNumber}
+use Rattle.sums.specs.Sums.{rows, row}
+use Rattle.sums.proofs.NumberLaws.{complexes-high, complexes-set}
 use Rattle.model.specs.Given.{Term}
 use Rattle.model.specs.Laid.{laid}
 use Rattle.model.proofs.Parts.{part-is}

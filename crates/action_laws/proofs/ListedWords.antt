@@ -23,16 +23,16 @@ use Rattle.gksl.specs.Table.{putOver, putAllOver}
 use Rattle.gksl.specs.Rules.{pairsOver, gatherOver, signed, factored, overlapsOver, termsOver, clashOver}
 use Rattle.gksl.specs.Words.{pauli}
 use Rattle.model.specs.Given.{Term}
-use Rattle.model.specs.Stored.{Tables}
+use Rattle.model.specs.Stored.{ModelTables}
 use Rattle.model.specs.Product.{termsIn}
 use Rattle.model.specs.Tested.{width}
-use Rattle.model.specs.declared.tables.Model.{Model}
-use Rattle.model.specs.declared.tables.Jump.{Jump}
-use Rattle.model.specs.declared.tables.Jump.the-variants.{Pauli, General, Pair}
+use Rattle.model.specs.declared.stored.Model.{Model}
+use Rattle.model.specs.declared.stored.Jump.{Jump}
+use Rattle.model.specs.declared.stored.Jump.the-variants.{Pauli, General, Pair}
 use Rattle.model_laws.specs.Every.{Every}
 use Rattle.model_laws.proofs.Lists.{every-all, every-append, every-map, every-weaken}
 use Rattle.model_laws.proofs.RuleBounds.{every-without}
-use Rattle.rules.specs.Adds.{realsIn, jumpsIn, op, sandwich, dampen, folded, doubled, eachFactor, diagonal, bothSides, oneSide, jumpAdds, pairAdds, gatherJumps, rulesStored}
+use Rattle.rules_by_scan.specs.Adds.{realsIn, jumpsIn, op, sandwich, dampen, folded, doubled, eachFactor, diagonal, bothSides, oneSide, jumpAdds, pairAdds, gatherJumps, rulesStored}
 use Rattle.action.specs.Acts.{sumsOf, actionOf}
 
 module _ (p : Word) where
@@ -136,7 +136,7 @@ module _ (p : Word) where
   sandwich-formed g a b = by-mul (mul (a .word) p) (b .word)
 
   -- ---- the items of a model
-  module _ (t : Tables) where
+  module _ (t : ModelTables) where
     jump-formed : (j : Jump) → AllFormed (jumpAdds p t j)
     unfolding jumpAdds
     jump-formed (Pauli rate term) = choose (share (getD (words (t .tWords)) term identity) p) (clash-formed _ rate) none
@@ -166,7 +166,7 @@ module _ (p : Word) where
   jumps-formed f make [] = none
   jumps-formed f make (j ∷ J) = append (make j) (jumps-formed f make J)
 
-  rules-formed : (m : Model) (t : Tables) → AllFormed (rulesStored m t p)
+  rules-formed : (m : Model) (t : ModelTables) → AllFormed (rulesStored m t p)
   unfolding rulesStored
   rules-formed m t = append (terms-formed (realsIn m t)) (append (jumps-formed (jumpAdds p t) (jump-formed t) (jumpsIn m t)) (jumps-formed (pairAdds p t) (pair-formed t) (jumpsIn m t)))
 
@@ -187,12 +187,12 @@ module _ (p : Word) where
   put-all-formed [] R h k = k
   put-all-formed (c ∷ A) R h k = put-all-formed A (putOver floats pauli c R) (h .1) (put-formed c R (h .0) k)
 
-  pub listed-formed : (m : Model) (t : Tables) → Every OfFormed (actionOf m t p)
+  pub listed-formed : (m : Model) (t : ModelTables) → Every OfFormed (actionOf m t p)
   unfolding actionOf sumsOf
   listed-formed m t = every-without OfFormed _ _ (put-all-formed (rulesStored m t p) [] (rules-formed m t .each) tt)
 
 -- so the action on a word of two x and two z lanes lists only such
-pub listed-sound : (p : Word) (m : Model) (t : Tables) → Sound p → Every (λ c. Sound (c .word)) (actionOf m t p)
+pub listed-sound : (p : Word) (m : Model) (t : ModelTables) → Sound p → Every (λ c. Sound (c .word)) (actionOf m t p)
 listed-sound p m t s = every-weaken (OfFormed p) (λ c. Sound (c .word)) (λ c h. sound (c .word) h) (actionOf m t p) (listed-formed p m t)
   where
     sound : (w : Word) → Formed p w → Sound w

@@ -13,9 +13,9 @@ use Rattle.gksl.specs.Model.{ModelOver}
 use Rattle.gksl.specs.Table.{putAllOver}
 use Rattle.gksl.specs.Rules.{actionOver}
 use Rattle.gksl.specs.Words.{pauli}
-use Rattle.model.specs.Stored.{Tables}
+use Rattle.model.specs.Stored.{ModelTables}
 use Rattle.model.specs.Given.{Term}
-use Rattle.model.specs.declared.tables.Model.{Model}
+use Rattle.model.specs.declared.stored.Model.{Model}
 use Rattle.action.specs.Acts.{listed, sumsOf, actionOf}
 use Rattle.action_laws.specs.Made.{Made}
 use Rattle.action_laws.specs.WholeModel.{WholeModel}
@@ -24,7 +24,7 @@ use Rattle.action_laws.proofs.MadeRules.{made-rules}
 use Rattle.action_laws.proofs.MadeLimits.{made-limits, made-moderate}
 use Rattle.action_laws.proofs.WholeListed.{lists-generator}
 
-module _ (g : ModelOver floats pauli) (m : Model) (t : Tables) (made : Made g m t) (p : Word) where
+module _ (g : ModelOver floats pauli) (m : Model) (t : ModelTables) (made : Made g m t) (p : Word) where
   pub made-action : actionOf m t p ≡ actionOver floats pauli g p
   unfolding actionOf sumsOf actionOver
   made-action = ap (λ (A : List Term). listed (putAllOver floats pauli A [])) (made-rules g m t made p)

@@ -12,11 +12,11 @@ use Rattle.number.specs.Whole.{whole}
 use Rattle.number.specs.Floats.{floats}
 use Rattle.gksl.specs.Model.{MatrixOver, ModelOver, AllModerate}
 use Rattle.gksl.specs.Words.{pauli}
-use Rattle.model.specs.Stored.{Tables}
+use Rattle.model.specs.Stored.{ModelTables}
 use Rattle.model.specs.Given.{readJump}
 use Rattle.model.specs.Compiled.{compileJump}
 use Rattle.model.specs.Built.{jumpsGiven}
-use Rattle.model.specs.declared.tables.Model.{Model}
+use Rattle.model.specs.declared.stored.Model.{Model}
 use Rattle.kossakowski.specs.Matrix.{hermitian, pairPlaces}
 use Rattle.kossakowski.specs.Pairs.{pairAt}
 use Rattle.kossakowski.specs.Added.{operators, matrix}
@@ -50,7 +50,7 @@ unfolding pairCount
 pairs-last [] k = omega arith
 pairs-last (j ∷ Ks) k = omega (arith, pairs-last Ks k)
 
-made-parts : (g : ModelOver floats pauli) (m : Model) (t : Tables) → Made g m t → Parts g m
+made-parts : (g : ModelOver floats pauli) (m : Model) (t : ModelTables) → Made g m t → Parts g m
 unfolding pairCount
 made-parts _ _ _ (built n i t workWords workNumbers m hs js answer reals read) =
     let is = built-is n i t workWords workNumbers m hs js answer reals read .0 in
@@ -87,7 +87,7 @@ made-parts _ _ _ (added g m t made i workWords workNumbers m′ As answer read) 
 made-parts _ _ _ (lent g m t t′ made same) = made-parts g m t made
 
 -- ---- the limits
-pub made-limits : (g : ModelOver floats pauli) (m : Model) (t : Tables) → Made g m t → Limits g
+pub made-limits : (g : ModelOver floats pauli) (m : Model) (t : ModelTables) → Made g m t → Limits g
 made-limits g m t made =
     let parts = made-parts g m t made in
     let s = tested-stands m t (made-passes g m t made) in
@@ -113,5 +113,5 @@ all-moderate (k ∷ Ks) (w ∷ Gs) a h =
     let many = beside-length (Exactly 256) (k .ops) (w .ops) (h .0 .ops) in
     (accepted-moderate w (k .entries) (h .0 .entries) (ap (λ (n : ℕ). hermitian n (k .entries) Accepted) (sym many) ∙ a .0 .square), all-moderate Ks Gs (a .1) (h .1))
 
-pub made-moderate : (g : ModelOver floats pauli) (m : Model) (t : Tables) → Made g m t → (w : ModelOver whole pauli) → WholeModel g w → AllModerate pauli (w .matrices)
+pub made-moderate : (g : ModelOver floats pauli) (m : Model) (t : ModelTables) → Made g m t → (w : ModelOver whole pauli) → WholeModel g w → AllModerate pauli (w .matrices)
 made-moderate g m t made w h = all-moderate (g .matrices) (w .matrices) (made-parts g m t made .matrices) (h .matrices)

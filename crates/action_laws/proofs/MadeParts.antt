@@ -18,14 +18,14 @@ use Rattle.word.specs.Word.{maxQubits}
 use Rattle.number.specs.Floats.{floats}
 use Rattle.gksl.specs.Model.{RealTerm, JumpOver}
 use Rattle.gksl.specs.Words.{pauli}
-use Rattle.model.specs.Stored.{Tables}
+use Rattle.model.specs.Stored.{ModelTables}
 use Rattle.model.specs.Fails.{numberFails}
 use Rattle.model.specs.Tested.{maxHamiltonian, maxJumps, counted, testModel}
 use Rattle.model.specs.Given.{Read, got, Term}
 use Rattle.model.specs.Compiled.{Compiled, compileJump}
 use Rattle.model.specs.Built.{Building, finished, tested, whenRead, readHamiltonian, readJumps, termsOf, termPlaces}
 use Rattle.model.specs.Built as Compiling
-use Rattle.model.specs.declared.tables.Model.{Model}
+use Rattle.model.specs.declared.stored.Model.{Model}
 use Rattle.model.specs.declared.spec.Built.the-variants as Answers
 use Rattle.model.proofs.BuildLaws.{both, counted-passed}
 use Rattle.kossakowski.specs.Matrix.{hermitian}
@@ -39,12 +39,12 @@ use Rattle.model_laws.proofs.StandsLaws.{none-bad}
 no-model : (r : Refusal) (m : Model) → Answers.Refused r ≡ Answers.Model m → ⊥
 no-model r m e = let z : _≡_ {A = ℕ} 0 1 = cc in omega arith
 
-module _ (t : Tables) (workWords : List ℕ) (workNumbers : List Float) (m : Model) where
+module _ (t : ModelTables) (workWords : List ℕ) (workNumbers : List Float) (m : Model) where
   by-test : (a : Answer) (after : Building) → tested t workWords workNumbers a after .answer ≡ Answers.Model m → (a ≡ Tests.Accepted) × (tested t workWords workNumbers a after ≡ after)
   by-test Tests.Accepted after e = (refl, refl)
   by-test (Tests.Refused r) after e = absurd (no-model r m e)
 
-  by-room : (places terms : ℕ) (made : Model) (after : Tables)
+  by-room : (places terms : ℕ) (made : Model) (after : ModelTables)
       → cond (ltb places terms) (finished t workWords workNumbers (Answers.Refused (TableFull 4 places)) t) (finished t workWords workNumbers (Answers.Model made) after) .answer ≡ Answers.Model m
       → (made ≡ m)
       × (cond (ltb places terms) (finished t workWords workNumbers (Answers.Refused (TableFull 4 places)) t) (finished t workWords workNumbers (Answers.Model made) after) .tables ≡ after)
@@ -57,7 +57,7 @@ module _ (t : Tables) (workWords : List ℕ) (workNumbers : List Float) (m : Mod
       go false e = (cc, refl)
 
 -- ---- building
-module _ (n : ℕ) (i : Compiling.Input) (t : Tables) (workWords : List ℕ) (workNumbers : List Float) (m : Model) (hs : List (RealTerm floats pauli)) (js : List (JumpOver floats pauli)) where
+module _ (n : ℕ) (i : Compiling.Input) (t : ModelTables) (workWords : List ℕ) (workNumbers : List Float) (m : Model) (hs : List (RealTerm floats pauli)) (js : List (JumpOver floats pauli)) where
   abbrev jumps : List Compiled
   jumps = map compileJump js
 
@@ -82,7 +82,7 @@ module _ (n : ℕ) (i : Compiling.Input) (t : Tables) (workWords : List ℕ) (wo
       (last .0, ap (λ (b : Building). b .tables) step ∙ last .1)
 
 -- ---- adding
-module _ (m : Model) (i : Adding.Input) (t : Tables) (workWords : List ℕ) (workNumbers : List Float) where
+module _ (m : Model) (i : Adding.Input) (t : ModelTables) (workWords : List ℕ) (workNumbers : List Float) where
   -- what the tests before the operators settle
   pub record Settled : Type 0 where
     pub lengths : LengthsFit m i t workWords workNumbers

@@ -18,16 +18,16 @@ use Rattle.number.specs.Floats.{floats}
 use Rattle.gksl.specs.Model.{RealTerm, JumpOver, MatrixOver, ModelOver, entryIn, entryOver, rowsOver}
 use Rattle.gksl.specs.Rules.{termsOver, jumpsOver, matrixOver, matricesOver, rulesOver}
 use Rattle.gksl.specs.Words.{pauli}
-use Rattle.table.specs.Numbers.{complexes, layNumber}
-use Rattle.table.specs.Sums.{rows}
-use Rattle.model.specs.Stored.{Tables}
+use Rattle.sums.specs.Numbers.{complexes, layNumber}
+use Rattle.sums.specs.Sums.{rows}
+use Rattle.model.specs.Stored.{ModelTables}
 use Rattle.model.specs.Tested.{testModel}
 use Rattle.model.specs.Given.{got, Term, readReal, readJump}
 use Rattle.model.specs.Laid.{laid, layEntry}
 use Rattle.model.specs.Compiled.{Compiled, compileJump}
 use Rattle.model.specs.Built.{hamiltonian, jumpsGiven, readHamiltonian, readJumps, entriesFrom, termsOf, ratesOf}
 use Rattle.model.specs.Built as Building
-use Rattle.model.specs.declared.tables.Model.{Model}
+use Rattle.model.specs.declared.stored.Model.{Model}
 use Rattle.model.specs.declared.spec.Built.the-variants as Answers
 use Rattle.kossakowski.specs.Matrix.{pairPlaces}
 use Rattle.kossakowski.specs.Pairs.{pairsOf}
@@ -43,7 +43,7 @@ use Rattle.model_laws.proofs.ReadItems.{JumpGood, real-read, jump-read, each-ev
 use Rattle.model_laws.proofs.CompiledLaws.{TermGood, CompiledGood, compiled-good, entries-length, terms-good, entries-good}
 use Rattle.model_laws.proofs.BuiltLaws.{empty, built-passes}
 use Rattle.model_laws.proofs.AddedLaws.{added-passes}
-use Rattle.rules.specs.Adds.{upTo, realsIn, jumpsIn, jumpAdds, pairAdds, gatherJumps, rulesStored}
+use Rattle.rules_by_scan.specs.Adds.{upTo, realsIn, jumpsIn, jumpAdds, pairAdds, gatherJumps, rulesStored}
 use Rattle.in_use.proofs.SameModels.{same-passes, same-rules}
 use Rattle.action_laws.specs.Made.{Made, built, added, lent, withMatrix}
 use Rattle.action_laws.proofs.LaidTerms.{holds-left, holds-right, laid-holds}
@@ -54,13 +54,13 @@ use Rattle.action_laws.proofs.OperatorsRead.{operators-good, operators-
 use Rattle.action_laws.proofs.MadeParts.{built-is, added-is}
 
 -- a model that was made passes the test
-pub made-passes : (g : ModelOver floats pauli) (m : Model) (t : Tables) → Made g m t → testModel m t ≡ Accepted
+pub made-passes : (g : ModelOver floats pauli) (m : Model) (t : ModelTables) → Made g m t → testModel m t ≡ Accepted
 made-passes _ _ _ (built n i t workWords workNumbers m hs js answer reals jumps) = built-passes n i t workWords workNumbers m answer
 made-passes _ _ _ (added g m t made i workWords workNumbers m′ As answer read) = added-passes m i t workWords workNumbers m′ answer
 made-passes _ _ _ (lent g m t t′ made same) = same-passes m t t′ same (made-passes g m t made)
 
 -- ---- there was room for what stands
-laying-of : (m : Model) (t : Tables) (a : Additions) → Stands (larger m a) (extended m t a) → length (a .rates) ≡ length (a .entries)
+laying-of : (m : Model) (t : ModelTables) (a : Additions) → Stands (larger m a) (extended m t a) → length (a .rates) ≡ length (a .entries)
     → Every (λ h. Sound (h .word)) (a .reals) → Every (λ e. length e ≡ 8) (a .entries) → Every (λ z. Sound (z .word)) (a .terms) → Laying m t a
 unfolding extended
 laying-of m t a s rates reals eight terms = record {
@@ -77,7 +77,7 @@ laying-of m t a s rates reals eight terms = record {
 }
 
 -- ---- building
-module _ (n : ℕ) (i : Building.Input) (t : Tables) (workWords : List ℕ) (workNumbers : List Float) (m : Model) (hs : List (RealTerm floats pauli)) (js : List (JumpOver floats pauli))
+module _ (n : ℕ) (i : Building.Input) (t : ModelTables) (workWords : List ℕ) (workNumbers : List Float) (m : Model) (hs : List (RealTerm floats pauli)) (js : List (JumpOver floats pauli))
     (answer : Building.build n i t workWords workNumbers .answer ≡ Answers.Model m) (reals : readHamiltonian n i ≡ got hs) (read : readJumps n i ≡ got js) where
   abbrev compiledJumps : List Compiled
   compiledJumps = map compileJump js
@@ -85,7 +85,7 @@ module _ (n : ℕ) (i : Building.Input) (t : Tables) (workWords : List ℕ) (wor
   abbrev given : Additions
   given = record { reals = hs; entries = entriesFrom 0 compiledJumps; rates = ratesOf compiledJumps; terms = termsOf compiledJumps }
 
-  abbrev after : Tables
+  abbrev after : ModelTables
   after = extended (empty n) t given
 
   model-is : larger (empty n) given ≡ m
@@ -130,7 +130,7 @@ module _ (n : ℕ) (i : Building.Input) (t : Tables) (workWords : List ℕ) (wor
     built-rules : rulesStored m (Building.build n i t workWords workNumbers .tables) p ≡ rulesOver floats pauli (record { terms = hs; jumps = js; matrices = [] }) p
     unfolding rulesStored rulesOver matricesOver
     built-rules =
-        ap₂ (λ (m : Model) (t : Tables). rulesStored m t p) (sym model-is) tables-are
+        ap₂ (λ (m : Model) (t : ModelTables). rulesStored m t p) (sym model-is) tables-are
         ∙ ap₂ (λ (a b : List Term). a ++ b) reals-added
         (ap₂ (λ (a b : List Term). a ++ b) jumps-added (ap (gatherJumps (pairAdds p after)) jumps-are ∙ jumps-no-pairs p after js 0))
 
@@ -148,7 +148,7 @@ matrices-last (j ∷ Ks) k p =
 at-the-end : (a b c d : List Term) → a ++ (b ++ (c ++ d)) ≡ (a ++ (b ++ c)) ++ d
 at-the-end a b c d = ap (λ (l : List Term). a ++ l) (sym (append-assoc b c d)) ∙ sym (append-assoc a (b ++ c) d)
 
-module _ (m : Model) (t : Tables) (tested : testModel m t ≡ Accepted) (i : Adding.Input) (workWords : List ℕ) (workNumbers : List Float) (m′ : Model) (As : List (List Term))
+module _ (m : Model) (t : ModelTables) (tested : testModel m t ≡ Accepted) (i : Adding.Input) (workWords : List ℕ) (workNumbers : List Float) (m′ : Model) (As : List (List Term))
     (answer : Adding.add m i t workWords workNumbers .answer ≡ Answers.Model m′) (read : readOperators (m .qubits) i ≡ got As) where
   abbrev pairs : List Compiled
   pairs = pairsOf (m .terms) (i .counts) (matrix i) As
@@ -159,7 +159,7 @@ module _ (m : Model) (t : Tables) (tested : testModel m t ≡ Accepted) (i : Add
   abbrev more : Additions
   more = record { reals = []; entries = entriesFrom from pairs; rates = ratesOf pairs; terms = allTerms As ++ termsOf pairs }
 
-  abbrev then : Tables
+  abbrev then : ModelTables
   then = extended m t more
 
   larger-is : larger m more ≡ m′
@@ -218,7 +218,7 @@ module _ (m : Model) (t : Tables) (tested : testModel m t ≡ Accepted) (i : Add
     added-rules : rulesStored m′ (Adding.add m i t workWords workNumbers .tables) p ≡ rulesStored m t p ++ matrixAdds
     unfolding rulesStored
     added-rules =
-        ap₂ (λ (m : Model) (t : Tables). rulesStored m t p) (sym larger-is) then-is
+        ap₂ (λ (m : Model) (t : ModelTables). rulesStored m t p) (sym larger-is) then-is
         ∙ ap₂ (λ (a b : List Term). a ++ b) (ap (λ (H : List (RealTerm floats pauli)). termsOver floats pauli H p) reals-same)
         (ap₂ (λ (a b : List Term). a ++ b) jumps-same pairs-more)
         ∙ at-the-end (termsOver floats pauli (realsIn m t) p) (gatherJumps (jumpAdds p t) (jumpsIn m t)) (gatherJumps (pairAdds p t) (jumpsIn m t)) matrixAdds
@@ -232,7 +232,7 @@ rules-with g k p =
     ∙ ap (λ (l : List Term). termsOver floats pauli (g .terms) p ++ (jumpsOver floats pauli (g .jumps) p ++ l)) (sym (matrices-last (g .matrices) k p))
 
 -- ---- the rules over what is stored are those over what was given
-pub made-rules : (g : ModelOver floats pauli) (m : Model) (t : Tables) → Made g m t → (p : Word) → rulesStored m t p ≡ rulesOver floats pauli g p
+pub made-rules : (g : ModelOver floats pauli) (m : Model) (t : ModelTables) → Made g m t → (p : Word) → rulesStored m t p ≡ rulesOver floats pauli g p
 made-rules _ _ _ (built n i t workWords workNumbers m hs js answer reals jumps) p = built-rules n i t workWords workNumbers m hs js answer reals jumps p
 made-rules _ _ _ (added g m t made i workWords workNumbers m′ As answer read) p =
     added-rules m t (made-passes g m t made) i workWords workNumbers m′ As answer read p

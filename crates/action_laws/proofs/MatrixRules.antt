@@ -19,13 +19,13 @@ use Rattle.number.specs.Floats.{floats}
 use Rattle.gksl.specs.Model.{rowsOver, entryIn}
 use Rattle.gksl.specs.Rules.{diagonalOver, pairOver, rowOver, matrixOver}
 use Rattle.gksl.specs.Words.{pauli}
-use Rattle.table.specs.Numbers.{complexes}
-use Rattle.table.specs.Sums.{rows}
-use Rattle.model.specs.Stored.{Tables}
+use Rattle.sums.specs.Numbers.{complexes}
+use Rattle.sums.specs.Sums.{rows}
+use Rattle.model.specs.Stored.{ModelTables}
 use Rattle.model.specs.Given.{Term}
 use Rattle.model.specs.Built.{termsOf}
 use Rattle.model.specs.Items.{total}
-use Rattle.model.specs.declared.tables.Range.{Range}
+use Rattle.model.specs.declared.stored.Range.{Range}
 use Rattle.kossakowski.specs.Matrix.{skipped, isPair, passing, pairPlaces}
 use Rattle.kossakowski.specs.Pairs.{rangeOf, pairAt, pairsOf}
 use Rattle.kossakowski.specs.Added.{allTerms}
@@ -34,7 +34,7 @@ use Rattle.model_laws.specs.Every.{Every}
 use Rattle.model_laws.proofs.Lists.{every-both, every-weaken}
 use Rattle.model_laws.proofs.JumpTests.{both}
 use Rattle.model_laws.proofs.PairsGood.{passing-below}
-use Rattle.rules.specs.Adds.{upTo, jumpAdds, pairAdds, gatherJumps}
+use Rattle.rules_by_scan.specs.Adds.{upTo, jumpAdds, pairAdds, gatherJumps}
 use Rattle.action_laws.proofs.LaidTerms.{Holds, holds-left, holds-right, holds-part}
 use Rattle.action_laws.proofs.ExtendedItems.{upTo-parted, jumpsFrom}
 use Rattle.action_laws.proofs.JumpRules.{jumpOf}
@@ -137,7 +137,7 @@ module _ (p : Word) (counts : List ℕ) (K : List (Cx floats)) (As : List (List 
   entryAdds n m = cond (eqb n m) (diagonalOver floats pauli big (entry n m) (op n) p) (pairOver floats pauli big (entry n m) (op n) (op m) p)
 
   -- ---- the pairs that are stored
-  module _ (t : Tables) (counted : Counted As counts) (from : ℕ) (own : Holds (rows (words (t .tWords)) (complexes (t .tNumbers))) from (allTerms As)) where
+  module _ (t : ModelTables) (counted : Counted As counts) (from : ℕ) (own : Holds (rows (words (t .tWords)) (complexes (t .tNumbers))) from (allTerms As)) where
     abbrev R : List Term
     R = rows (words (t .tWords)) (complexes (t .tNumbers))
 
@@ -200,7 +200,7 @@ module _ (p : Word) (counts : List ℕ) (K : List (Cx floats)) (As : List (List 
         ap₂ (λ (a b : List Term). a ++ b) (place-adds q (e .0 .0) (e .0 .1) at (holds-left R at mine rest h))
         (places-add ps (e .1) (at + length mine) (holds-right R at mine rest h))
 
-  pub no-jumps : (t : Tables) (from : ℕ) (ps : List ℕ) (at : ℕ) → gatherJumps (jumpAdds p t) (jumpsFrom at (map (pairAt from counts K As) ps)) ≡ []
+  pub no-jumps : (t : ModelTables) (from : ℕ) (ps : List ℕ) (at : ℕ) → gatherJumps (jumpAdds p t) (jumpsFrom at (map (pairAt from counts K As) ps)) ≡ []
   unfolding gatherJumps jumpsFrom
   no-jumps t from [] at = refl
   no-jumps t from (q ∷ ps) at =
@@ -287,7 +287,7 @@ module _ (p : Word) (counts : List ℕ) (K : List (Cx floats)) (As : List (List 
       (ap (λ (x : ℕ). flatMap placeAdds (upTo x (r * k))) next ∙ matrix-adds Bs (suc n) (omega arith) (λ i j h. g (suc i) j (omega arith)))
 
   -- ---- the pairs of a matrix add what its rows do
-  pub pairs-add : (t : Tables) → Counted As counts → (from : ℕ) → Holds (rows (words (t .tWords)) (complexes (t .tNumbers))) from (allTerms As)
+  pub pairs-add : (t : ModelTables) → Counted As counts → (from : ℕ) → Holds (rows (words (t .tWords)) (complexes (t .tNumbers))) from (allTerms As)
       → (at : ℕ) → Holds (rows (words (t .tWords)) (complexes (t .tNumbers))) at (termsOf (pairsOf from counts K As))
       → gatherJumps (pairAdds p t) (jumpsFrom at (pairsOf from counts K As)) ≡ matrixOver floats pauli big (entryIn floats (length As) K) (rowsOver floats pauli 0 As) p
   pairs-add t counted from own at h =

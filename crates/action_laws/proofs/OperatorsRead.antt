@@ -20,7 +20,7 @@ use Rattle.model.specs.Items.{total}
 use Rattle.model.specs.Built.{parts, entriesFrom, termsOf}
 use Rattle.model.specs.Taken.{termTaken}
 use Rattle.model.specs.Work.{operatorTaken}
-use Rattle.model.specs.declared.tables.Range.{Range}
+use Rattle.model.specs.declared.stored.Range.{Range}
 use Rattle.model.proofs.TakenLaws.{operator-taken, operator-few}
 use Rattle.kossakowski.specs.Matrix.{isPair, pairPlaces}
 use Rattle.kossakowski.specs.Pairs.{factorOf, factorsOf, scaled, productAfter, compilePair, rangeOf, pairAt, pairsOf}

@@ -16,15 +16,15 @@ use Rattle.number.specs.Numbers.{Cx, square}
 use Rattle.number.specs.Floats.{floats}
 use Rattle.gksl.specs.Rules.{pairsOver, gatherOver, formedOver, diagonalOver, bothOver, oneOver, pairOver}
 use Rattle.gksl.specs.Words.{pauli}
-use Rattle.table.specs.Numbers.{complexes}
-use Rattle.table.specs.Sums.{rows}
-use Rattle.model.specs.Stored.{Tables, jumpAt}
+use Rattle.sums.specs.Numbers.{complexes}
+use Rattle.sums.specs.Sums.{rows}
+use Rattle.model.specs.Stored.{ModelTables, jumpAt}
 use Rattle.model.specs.Tested.{width}
 use Rattle.model.specs.Given.{Term}
-use Rattle.model.specs.declared.tables.Range.{Range}
+use Rattle.model.specs.declared.stored.Range.{Range}
 use Rattle.kossakowski.specs.Pairs.{factorOf, factorsOf, scaled, productAfter, compilePair}
 use Rattle.model_laws.proofs.RelatedLaws.{pairs-length}
-use Rattle.rules.specs.Adds.{folded, doubled, eachFactor, diagonal, bothSides, oneSide, jumpAdds, pairAdds}
+use Rattle.rules_by_scan.specs.Adds.{folded, doubled, eachFactor, diagonal, bothSides, oneSide, jumpAdds, pairAdds}
 use Rattle.action_laws.proofs.LaidTerms.{Holds, holds-left, holds-right, holds-part}
 use Rattle.action_laws.proofs.JumpRules.{jumpOf}
 
@@ -51,7 +51,7 @@ each-pair p f g n (a ∷ A) B h =
     (ap (map (f (a .word))) (take-at own rest n many) ∙ map-twice (f (a .word)) (g a) B)
     (ap (eachFactor p f n A) (drop-at own rest n many) ∙ each-pair p f g n A B h)
 
-module _ (p : Word) (t : Tables) where
+module _ (p : Word) (t : ModelTables) where
   abbrev R : List Term
   R = rows (words (t .tWords)) (complexes (t .tNumbers))
 

@@ -16,11 +16,11 @@ use Rattle.gksl.specs.Table.{putAllOver}
 use Rattle.gksl.specs.Rules.{overlapsOver, formedOver, generalOver, shapeOver, jumpsOver, diagonalOver, bothOver, oneOver, pairOver, rowOver, matrixOver, matricesOver, rulesOver}
 use Rattle.gksl.specs.Words.{pauli}
 use Rattle.model.specs.Given.{Term}
-use Rattle.model.specs.Stored.{Tables}
-use Rattle.model.specs.declared.tables.Model.{Model}
+use Rattle.model.specs.Stored.{ModelTables}
+use Rattle.model.specs.declared.stored.Model.{Model}
 use Rattle.model_laws.specs.Every.{Every}
 use Rattle.model_laws.proofs.RuleBounds.{every-without}
-use Rattle.rules.specs.Adds.{rulesStored}
+use Rattle.rules_by_scan.specs.Adds.{rulesStored}
 use Rattle.action_laws.specs.Made.{Made}
 use Rattle.action_laws.specs.Untouched.{Clear, Untouched}
 use Rattle.action_laws.proofs.MadeRules.{made-rules}
@@ -117,7 +117,7 @@ module _ (q : ℕ) (low : q < maxQubits) (p : Word) where
   unfolding rulesOver
   rules-near g u = append (terms-near q low p (g .terms) (u .terms)) (append (jumps-near (g .jumps) (u .jumps)) (matrices-near (g .matrices) (u .matrices)))
 
-module _ (g : ModelOver floats pauli) (m : Model) (t : Tables) (made : Made g m t) (q : ℕ) (low : q < maxQubits) (untouched : Untouched g q) (p : Word) where
+module _ (g : ModelOver floats pauli) (m : Model) (t : ModelTables) (made : Made g m t) (q : ℕ) (low : q < maxQubits) (untouched : Untouched g q) (p : Word) where
   pub reached-made : Every (λ c. letterAt (c .word) q ≡ letterAt p q) (rulesStored m t p)
   reached-made = subst⁻¹ (λ (A : List Term). Near q (letterAt p q) A) (made-rules g m t made p) (rules-near q low p g untouched) .each
 

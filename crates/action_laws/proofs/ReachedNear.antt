@@ -26,21 +26,21 @@ use Rattle.gksl.specs.Model.{RealTerm}
 use Rattle.gksl.specs.Table.{putOver, putAllOver}
 use Rattle.gksl.specs.Rules.{pairsOver, gatherOver, onto, signed, factored, overlapsOver, termsOver, clashOver}
 use Rattle.gksl.specs.Words.{pauli}
-use Rattle.table.specs.Numbers.{complexes}
-use Rattle.table.specs.Sums.{rows}
+use Rattle.sums.specs.Numbers.{complexes}
+use Rattle.sums.specs.Sums.{rows}
 use Rattle.model.specs.Given.{Term}
-use Rattle.model.specs.Stored.{Tables, jumpAt}
+use Rattle.model.specs.Stored.{ModelTables, jumpAt}
 use Rattle.model.specs.Product.{termsIn}
 use Rattle.model.specs.Tested.{inside, width, badJump, testModel}
-use Rattle.model.specs.declared.tables.Model.{Model}
-use Rattle.model.specs.declared.tables.Range.{Range}
-use Rattle.model.specs.declared.tables.Jump.{Jump}
-use Rattle.model.specs.declared.tables.Jump.the-variants.{Pauli, General, Pair}
+use Rattle.model.specs.declared.stored.Model.{Model}
+use Rattle.model.specs.declared.stored.Range.{Range}
+use Rattle.model.specs.declared.stored.Jump.{Jump}
+use Rattle.model.specs.declared.stored.Jump.the-variants.{Pauli, General, Pair}
 use Rattle.model_laws.specs.Every.{Every}
 use Rattle.model_laws.proofs.Lists.{every-weaken, every-append, every-map}
 use Rattle.model_laws.proofs.JumpTests.{both}
 use Rattle.model_laws.proofs.StandsLaws.{tested-stands}
-use Rattle.rules.specs.Adds.{upTo, realAt, realsIn, jumpsIn, op, sandwich, dampen, folded, doubled, eachFactor, diagonal, bothSides, oneSide, jumpAdds, pairAdds, gatherJumps, rulesStored}
+use Rattle.rules_by_scan.specs.Adds.{upTo, realAt, realsIn, jumpsIn, op, sandwich, dampen, folded, doubled, eachFactor, diagonal, bothSides, oneSide, jumpAdds, pairAdds, gatherJumps, rulesStored}
 use Rattle.action_laws.specs.Untouched.{Clear}
 use Rattle.action_laws.proofs.Runs.{every-up, every-first, every-within, every-rest}
 
@@ -158,7 +158,7 @@ module _ (q : ℕ) (low : q < maxQubits) (p : Word) where
   sandwich-near g a b h k = through-near (a .word) (b .word) h k
 
   -- ---- the items of a model
-  module _ (places : ℕ) (t : Tables) (clear : (i : ℕ) → i < places → letterAt (getD (words (t .tWords)) i identity) q ≡ 0) where
+  module _ (places : ℕ) (t : ModelTables) (clear : (i : ℕ) → i < places → letterAt (getD (words (t .tWords)) i identity) q ≡ 0) where
     rows-clear : (n : ℕ) (ws : List Word) (zs : List (Cx floats)) → ((i : ℕ) → i < n → letterAt (getD ws i identity) q ≡ 0) → Every (Clear q) (take n (rows ws zs))
     unfolding rows
     rows-clear zero ws zs h = tt
@@ -234,7 +234,7 @@ module _ (q l : ℕ) where
   put-all-near (c ∷ A) T h k = put-all-near A (putOver floats pauli c T) (h .1) (put-near c T (h .0) k)
 
 -- ---- a model whose tables were accepted, and a qubit on which none of its words acts
-module _ (m : Model) (t : Tables) (accepted : testModel m t ≡ Accepted) (q : ℕ) (low : q < maxQubits)
+module _ (m : Model) (t : ModelTables) (accepted : testModel m t ≡ Accepted) (q : ℕ) (low : q < maxQubits)
     (reals : (i : ℕ) → i < m .hamiltonian → letterAt (getD (words (t .hWords)) i identity) q ≡ 0)
     (terms : (i : ℕ) → i < m .terms → letterAt (getD (words (t .tWords)) i identity) q ≡ 0) (p : Word) where
   each-jump : (f : Jump → List Term) → ((j : Jump) → badJump (m .terms) j ≡ false → Near q (letterAt p q) (f j)) → Near q (letterAt p q) (gatherJumps f (jumpsIn m t))

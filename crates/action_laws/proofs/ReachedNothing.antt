@@ -17,11 +17,11 @@ use Rattle.gksl.specs.Model.{RealTerm}
 use Rattle.gksl.specs.Rules.{overlapsOver, termsOver}
 use Rattle.gksl.specs.Words.{pauli}
 use Rattle.model.specs.Given.{Term}
-use Rattle.model.specs.Stored.{Tables}
-use Rattle.model.specs.declared.tables.Model.{Model}
-use Rattle.model.specs.declared.tables.Jump.{Jump}
-use Rattle.model.specs.declared.tables.Jump.the-variants.{Pauli, General, Pair}
-use Rattle.rules.specs.Adds.{op, realsIn, jumpsIn, jumpAdds, pairAdds, gatherJumps, rulesStored}
+use Rattle.model.specs.Stored.{ModelTables}
+use Rattle.model.specs.declared.stored.Model.{Model}
+use Rattle.model.specs.declared.stored.Jump.{Jump}
+use Rattle.model.specs.declared.stored.Jump.the-variants.{Pauli, General, Pair}
+use Rattle.rules_by_scan.specs.Adds.{op, realsIn, jumpsIn, jumpAdds, pairAdds, gatherJumps, rulesStored}
 
 shares-none : (w : Word) → share w identity ≡ false
 unfolding share
@@ -42,7 +42,7 @@ unfolding termsOver
 terms-none [] = refl
 terms-none (h ∷ H) = rw (shares-none (h .word), terms-none H) refl
 
-module _ (t : Tables) where
+module _ (t : ModelTables) where
   jump-none : (j : Jump) → jumpAdds identity t j ≡ []
   unfolding jumpAdds
   jump-none (Pauli rate term) = rw (shares-none _) refl
@@ -64,7 +64,7 @@ unfolding gatherJumps
 gather-none f h [] = refl
 gather-none f h (j ∷ J) = ap₂ _++_ (h j) (gather-none f h J)
 
-pub identity-nothing : (m : Model) (t : Tables) → rulesStored m t identity ≡ []
+pub identity-nothing : (m : Model) (t : ModelTables) → rulesStored m t identity ≡ []
 unfolding rulesStored
 identity-nothing m t =
     ap₂ _++_ (terms-none (realsIn m t)) (ap₂ _++_ (gather-none (jumpAdds identity t) (jump-none t) (jumpsIn m t)) (gather-none (pairAdds identity t) (pair-none t) (jumpsIn m t)))

@@ -23,8 +23,8 @@ use Rattle.gksl.specs.Rules.{rulesOver, actionOver}
 use Rattle.gksl.specs.Words.{pauli}
 use Rattle.gksl.proofs.GaussLaws.{re-add}
 use Rattle.gksl.proofs.AtWords.{action-is, action-real}
-use Rattle.table.specs.Sums.{AllAfter, Rising}
-use Rattle.table.proofs.SumLaws.{rising-none, rising-put-all}
+use Rattle.sums.specs.Sums.{AllAfter, Rising}
+use Rattle.sums.proofs.SumLaws.{rising-none, rising-put-all}
 use Rattle.model.specs.Given.{Term}
 use Rattle.model_laws.specs.Every.{Every}
 use Rattle.action_laws.specs.Exact.{listedAt, ListsGenerator}

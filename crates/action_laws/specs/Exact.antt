@@ -21,7 +21,7 @@ use Rattle.gksl.specs.Operator.{coeff}
 use Rattle.gksl.specs.Model.{ModelOver}
 use Rattle.gksl.specs.Generator.{generator2}
 use Rattle.gksl.specs.Words.{pauli}
-use Rattle.table.specs.Sums.{rows, Rising}
+use Rattle.sums.specs.Sums.{rows, Rising}
 use Rattle.model.specs.Given.{Term}
 use Rattle.model_laws.specs.Every.{Every}
 

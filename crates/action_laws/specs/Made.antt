@@ -10,10 +10,10 @@ use lib.Ieee.{Float}
 use Rattle.number.specs.Floats.{floats}
 use Rattle.gksl.specs.Model.{RealTerm, JumpOver, MatrixOver, ModelOver}
 use Rattle.gksl.specs.Words.{pauli}
-use Rattle.model.specs.Stored.{Tables}
+use Rattle.model.specs.Stored.{ModelTables}
 use Rattle.model.specs.Given.{Term, got}
 use Rattle.model.specs.Built as Building
-use Rattle.model.specs.declared.tables.Model.{Model}
+use Rattle.model.specs.declared.stored.Model.{Model}
 use Rattle.model.specs.declared.spec.Built.the-variants as Answers
 use Rattle.kossakowski.specs.Added as Adding
 use Rattle.in_use.specs.InUse.{SameModel}
@@ -22,17 +22,17 @@ use Rattle.in_use.specs.InUse.{SameModel}
 abbrev pub withMatrix : ModelOver floats pauli → MatrixOver floats pauli → ModelOver floats pauli
 withMatrix g k = record { terms = g .terms; jumps = g .jumps; matrices = g .matrices ++ (k ∷ []) }
 
-pub data Made : ModelOver floats pauli → Model → Tables → Type 0 where
-  built : (n : ℕ) (i : Building.Input) (t : Tables) (workWords : List ℕ) (workNumbers : List Float)
+pub data Made : ModelOver floats pauli → Model → ModelTables → Type 0 where
+  built : (n : ℕ) (i : Building.Input) (t : ModelTables) (workWords : List ℕ) (workNumbers : List Float)
       (m : Model) (hs : List (RealTerm floats pauli)) (js : List (JumpOver floats pauli))
       → Building.build n i t workWords workNumbers .answer ≡ Answers.Model m
       → Building.readHamiltonian n i ≡ got hs
       → Building.readJumps n i ≡ got js
       → Made (record { terms = hs; jumps = js; matrices = [] }) m (Building.build n i t workWords workNumbers .tables)
-  added : (g : ModelOver floats pauli) (m : Model) (t : Tables) → Made g m t
+  added : (g : ModelOver floats pauli) (m : Model) (t : ModelTables) → Made g m t
       → (i : Adding.Input) (workWords : List ℕ) (workNumbers : List Float) (m′ : Model) (As : List (List Term))
       → Adding.add m i t workWords workNumbers .answer ≡ Answers.Model m′
       → Adding.readOperators (m .qubits) i ≡ got As
       → Made (withMatrix g (record { ops = As; entries = Adding.matrix i })) m′ (Adding.add m i t workWords workNumbers .tables)
   -- trimmed, or copied to other tables
-  lent : (g : ModelOver floats pauli) (m : Model) (t t′ : Tables) → Made g m t → SameModel m t t′ → Made g m t′
+  lent : (g : ModelOver floats pauli) (m : Model) (t t′ : ModelTables) → Made g m t → SameModel m t t′ → Made g m t′

@@ -19,7 +19,7 @@ use Rattle.order.specs.Places.{wordBefore, byWord}
 use Rattle.order.proofs.OrderLaws.{ordered-sorted}
 use Rattle.order.proofs.PlaceLaws.{word-order}
 use Rattle.candidates.specs.Sums.{Row, row, putOver, putAll}
-use Rattle.candidates.specs.Log.{Rows, rows, table, putAt, putRows}
+use Rattle.candidates.specs.Log.{Rows, rows, candidateRows, putAt, putRows}
 use Rattle.candidates.proofs.PutLaws.{strict, InOrder, all-append, law}
 use Rattle.candidates.proofs.RowLaws.{noRow, rows-at, rows-long, rows-few}
 
@@ -66,7 +66,7 @@ rows-take (suc k) [] b = refl
 rows-take (suc k) (w ∷ a) [] = refl
 rows-take (suc k) (w ∷ a) (x ∷ b) = ap (λ (t : Rows). row w x ∷ t) (rows-take k a b)
 
-pub first-entries : (count : ℕ) (log : List ℕ) (values : List Float) → rows (words (take (count * 4) log)) values ≡ table count log values
+pub first-entries : (count : ℕ) (log : List ℕ) (values : List Float) → rows (words (take (count * 4) log)) values ≡ candidateRows count log values
 first-entries count log values =
     let e : count * 4 ≡ 4 * count = omega arith in
     rw (e, words-take count log) (rows-take count (words log) values)

@@ -10,7 +10,7 @@ use native.Mathlib.Omega.{arith}
 use lib.Ieee.{Float, nan}
 use lib.ListN.{length, getD, set, take, drop, drop-of-length-le}
 use Rattle.word.specs.declared.word.Word.{Word}
-use Rattle.table.specs.declared.sums.Added.the-variants.{Full, Held}
+use Rattle.sums.specs.declared.sums.Added.the-variants.{Full, Held}
 use Rattle.word.specs.Flat.{words}
 use Rattle.word.specs.Order.{before}
 use Rattle.word.specs.Word.{identity}
@@ -18,7 +18,7 @@ use Rattle.word.proofs.FlatLaws.{words-high}
 use Rattle.number.specs.Floats.{floats}
 use Rattle.order.specs.Places.{wordBefore, byWord}
 use Rattle.candidates.specs.Sums.{row}
-use Rattle.candidates.specs.Log.{Rows, rows, table, putRows, Holds, Beside}
+use Rattle.candidates.specs.Log.{Rows, rows, candidateRows, putRows, Holds, Beside}
 use Rattle.candidates.proofs.PutLaws.{strict, InOrder}
 use Rattle.candidates.proofs.RowLaws.{noRow, rows-sum, rows-at, rows-length, table-long, table-at, held-holds, full-holds, beside-false}
 use Rattle.candidates.proofs.LogLaws.{by-word-puts}
@@ -27,12 +27,12 @@ use Rattle.candidates.proofs.Turns.{moved, moved-full, Going, begins, a
 -- what the merge keeps: its abstract invariant, on the rows in slices
 unfoldable pub Goes : List ℕ → List Float → ℕ → List Word → List Float → List ℕ → Rows → List ℕ → List Float → ℕ → ℕ → ℕ → Type 0
 Goes held kept n ws vs L g out sums i j k =
-    Going before (floats .plus) (floats .nought) strict (λ (p : ℕ). getD ws p identity) (λ (p : ℕ). getD vs p nan) noRow L (table n held kept) g (rows (words out) sums) i j k
+    Going before (floats .plus) (floats .nought) strict (λ (p : ℕ). getD ws p identity) (λ (p : ℕ). getD vs p nan) noRow L (candidateRows n held kept) g (rows (words out) sums) i j k
 
 -- ---- a held table of n rows
 module _ (held : List ℕ) (kept : List Float) (n : ℕ) (h-held : 4 * n ≤ length held) (h-kept : n ≤ length kept) where
   abbrev T : Rows
-  T = table n held kept
+  T = candidateRows n held kept
 
   T-long : length T ≡ n
   T-long = table-long n held kept h-held h-kept
@@ -52,7 +52,7 @@ module _ (held : List ℕ) (kept : List Float) (n : ℕ) (h-held : 4 * n ≤ len
     pub rest-end : n ≤ i → (room : ℕ) → room ≡ length sums → Holds room g out sums (Held k)
     rest-end a room c =
         let z : drop i T ≡ [] = drop-of-length-le T {i = i} (omega (arith, T-long)) in
-        held-holds room k g out sums h-out c (omega arith) (sym (append-nil (table k out sums)) ∙ (rw z at e))
+        held-holds room k g out sums h-out c (omega arith) (sym (append-nil (candidateRows k out sums)) ∙ (rw z at e))
 
   -- ---- the turns, over a log of words ws and values vs whose positions L are ordered
   module _ (ws : List Word) (vs : List Float) (L : List ℕ) where

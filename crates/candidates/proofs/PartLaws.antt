@@ -12,12 +12,12 @@ use lib.Dec.{ltb}
 use lib.Ieee.{Float}
 use lib.ListN.{length}
 use Rattle.word.specs.declared.word.Word.{Word}
-use Rattle.table.specs.declared.sums.Added.{Added}
-use Rattle.table.specs.declared.sums.Added.the-variants.{Full, Held}
+use Rattle.sums.specs.declared.sums.Added.{Added}
+use Rattle.sums.specs.declared.sums.Added.the-variants.{Full, Held}
 use Rattle.word.specs.Order.{before}
 use Rattle.number.specs.Floats.{floats}
 use Rattle.candidates.specs.Sums.{Row, putAll}
-use Rattle.candidates.specs.Log.{Rows, table, putRow, putRows, answer, oneByOne, Holds}
+use Rattle.candidates.specs.Log.{Rows, candidateRows, putRow, putRows, answer, oneByOne, Holds}
 use Rattle.candidates.proofs.PutLaws.{strict, all-append, all-grow}
 use Rattle.candidates.proofs.RowLaws.{full-holds}
 
@@ -46,7 +46,7 @@ full-long room g e = go (ltb room (length g)) refl e
 
 -- the table that a part leaves is what the next part starts from
 pub chunk-next : (room : ℕ) (a b t : Rows) (out out′ : List ℕ) (sums sums′ : List Float) (m : ℕ) (r r′ : Added) → Holds room (putRows a t) out sums r → r ≡ Held m
-    → Holds room (putRows b (table m out sums)) out′ sums′ r′ → Holds room (putRows (a ++ b) t) out′ sums′ r′
+    → Holds room (putRows b (candidateRows m out sums)) out′ sums′ r′ → Holds room (putRows (a ++ b) t) out′ sums′ r′
 chunk-next room a b t out out′ sums sums′ m r r′ h e k = rw (parts a b t, ← (h .holds m e)) k
 
 -- where a part finds no room, the whole has none

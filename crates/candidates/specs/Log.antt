@@ -14,8 +14,8 @@ use Rattle.word.specs.Order.{before}
 use Rattle.word.specs.Word.{identity}
 use Rattle.word.specs.declared.word.Word.{Word}
 use Rattle.number.specs.Floats.{floats}
-use Rattle.table.specs.declared.sums.Added.{Added}
-use Rattle.table.specs.declared.sums.Added.the-variants.{Held, Full}
+use Rattle.sums.specs.declared.sums.Added.{Added}
+use Rattle.sums.specs.declared.sums.Added.the-variants.{Held, Full}
 use Rattle.candidates.specs.Sums.{Row, row, putOver, putAll}
 
 abbrev pub Rows : Type 0
@@ -28,8 +28,8 @@ rows (w ∷ ws) [] = []
 rows (w ∷ ws) (x ∷ xs) = row w x ∷ rows ws xs
 
 -- the first n rows of the lent lists
-abbrev pub table : ℕ → List ℕ → List Float → Rows
-table n lanes sums = take n (rows (words lanes) sums)
+abbrev pub candidateRows : ℕ → List ℕ → List Float → Rows
+candidateRows n lanes sums = take n (rows (words lanes) sums)
 
 -- one entry, in word order, by the additions of floats; sums start at 0
 abbrev pub putRow : Word → Float → Rows → Rows
@@ -57,7 +57,7 @@ oneByOne room (e ∷ l) t =
 -- the answer says whether there is room for the rows g, and where there is the lists hold them
 pub record Holds (room : ℕ) (g : Rows) (lanes : List ℕ) (sums : List Float) (r : Added) : Type 0 where
   pub answers : r ≡ answer room g
-  pub holds : (m : ℕ) → r ≡ Held m → table m lanes sums ≡ g
+  pub holds : (m : ℕ) → r ≡ Held m → candidateRows m lanes sums ≡ g
 
 -- a test against a row that may not be there: b where at is below n, else true
 pub record Beside (at n : ℕ) (b r : Bool) : Type 0 where

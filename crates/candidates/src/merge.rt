@@ -13,10 +13,10 @@ ghost use Rattle.word.specs.Order.{before};
 ghost use Rattle.word.specs.Word.{identity};
 ghost use Rattle.order.specs.Places.{byWord};
 ghost use Rattle.candidates.specs.Sums.{row};
-ghost use Rattle.candidates.specs.Log.{rows, table, putRows, Beside, Holds};
+ghost use Rattle.candidates.specs.Log.{rows, candidateRows, putRows, Beside, Holds};
 use order::places::is_before;
 use order::places::order_words;
-use table::sums::Added;
+use sums::sums::Added;
 use word::flat::WORD_LANES;
 use word::flat::set_word;
 use word::flat::word_at;
@@ -67,7 +67,7 @@ fn take_rest(
 ) -> Added
     requires { ⌜ (4 * n ≤ length (now held)) × (n ≤ length (now kept)) × (from ≤ n) ⌝ }
     requires { ⌜ (length (now out) ≡ 4 * length (now sums)) × (written ≤ length (now sums)) ⌝ }
-    ensures { λ r. ⌜ Holds (length (now (sums .entry))) (table written (now (out .entry)) (now (sums .entry)) ++ drop from (table n (now (held .entry)) (now (kept .entry)))) (now (out .exit)) (now (sums .exit)) r ⌝ }
+    ensures { λ r. ⌜ Holds (length (now (sums .entry))) (candidateRows written (now (out .entry)) (now (sums .entry)) ++ drop from (candidateRows n (now (held .entry)) (now (kept .entry)))) (now (out .exit)) (now (sums .exit)) r ⌝ }
 {
     let mut i = from;
     let mut k = written;
@@ -98,7 +98,7 @@ fn merge_log(
     requires { ⌜ (4 * n ≤ length (now held)) × (n ≤ length (now kept)) ⌝ }
     requires { ⌜ (4 * length (now order) ≡ length (now log)) × (length (now order) ≤ length (now values)) × (now order ≡ byWord (words (now log))) ⌝ }
     requires { ⌜ length (now out) ≡ 4 * length (now sums) ⌝ }
-    ensures { λ r. ⌜ Holds (length (now (sums .entry))) (putRows (rows (words (now (log .entry))) (now (values .entry))) (table n (now (held .entry)) (now (kept .entry)))) (now (out .exit)) (now (sums .exit)) r ⌝ }
+    ensures { λ r. ⌜ Holds (length (now (sums .entry))) (putRows (rows (words (now (log .entry))) (now (values .entry))) (candidateRows n (now (held .entry)) (now (kept .entry)))) (now (out .exit)) (now (sums .exit)) r ⌝ }
 {
     let mut i = 0;
     let mut j = 0;
@@ -146,7 +146,7 @@ fn absorb_all(
     requires { ⌜ (4 * n ≤ length (now held)) × (n ≤ length (now kept)) ⌝ }
     requires { ⌜ (4 * length (now order) ≡ length (now log)) × (4 * length (now work) ≡ length (now log)) × (length (now order) ≤ length (now values)) ⌝ }
     requires { ⌜ length (now out) ≡ 4 * length (now sums) ⌝ }
-    ensures { λ r. ⌜ Holds (length (now (sums .entry))) (putRows (rows (words (now (log .entry))) (now (values .entry))) (table n (now (held .entry)) (now (kept .entry)))) (now (out .exit)) (now (sums .exit)) r ⌝ }
+    ensures { λ r. ⌜ Holds (length (now (sums .entry))) (putRows (rows (words (now (log .entry))) (now (values .entry))) (candidateRows n (now (held .entry)) (now (kept .entry)))) (now (out .exit)) (now (sums .exit)) r ⌝ }
 {
     order_words(log, order, work);
     merge_log(held, kept, n, log, values, order, out, sums)
@@ -169,7 +169,7 @@ pub fn absorb(
     requires { ⌜ (4 * n ≤ length (now held)) × (n ≤ length (now kept)) ⌝ }
     requires { ⌜ (4 * count ≤ length (now log)) × (count ≤ length (now values)) × (count ≤ length (now order)) × (count ≤ length (now work)) ⌝ }
     requires { ⌜ length (now out) ≡ 4 * length (now sums) ⌝ }
-    ensures { λ r. ⌜ Holds (length (now (sums .entry))) (putRows (table count (now (log .entry)) (now (values .entry))) (table n (now (held .entry)) (now (kept .entry)))) (now (out .exit)) (now (sums .exit)) r ⌝ }
+    ensures { λ r. ⌜ Holds (length (now (sums .entry))) (putRows (candidateRows count (now (log .entry)) (now (values .entry))) (candidateRows n (now (held .entry)) (now (kept .entry)))) (now (out .exit)) (now (sums .exit)) r ⌝ }
 {
     absorb_all(
         held,

@@ -20,11 +20,11 @@ use Rattle.refusal.specs.declared.Answer.{Answer}
 use Rattle.refusal.specs.declared.Answer.the-variants as Tests
 use Rattle.word.specs.Word.{identity}
 use Rattle.word.specs.declared.word.Word.{Word}
-use Rattle.table.specs.declared.sums.Added.{Added}
-use Rattle.table.specs.declared.sums.Added.the-variants.{Held, Full}
-use Rattle.model.specs.Stored.{Tables}
+use Rattle.sums.specs.declared.sums.Added.{Added}
+use Rattle.sums.specs.declared.sums.Added.the-variants.{Held, Full}
+use Rattle.model.specs.Stored.{ModelTables}
 use Rattle.model.specs.Given.{Term}
-use Rattle.model.specs.declared.tables.Model.{Model}
+use Rattle.model.specs.declared.stored.Model.{Model}
 use Rattle.action.specs.Acts.{actionOf}
 use Rattle.action.specs.Counts.{touchedBy}
 use Rattle.action.specs.declared.act.Acted.{Acted}
@@ -140,7 +140,7 @@ module _ (touch : Word → ℕ) (act : Word → List Term) (bs : List Word) (sum
         (sym (append-nil (staged end rows columns values)) ∙ ap (λ (W : List Word). staged end rows columns values ++ columnsFrom act bs c W) (sym z) ∙ s .gives) (s .long)
 
 -- ---- of a model
-pub stages-are : (m : Model) (t : Tables) (bs : List Word) (sumRoom entryRoom : ℕ) (rows columns : List ℕ) (values : List Float) (r : Acted)
+pub stages-are : (m : Model) (t : ModelTables) (bs : List Word) (sumRoom entryRoom : ℕ) (rows columns : List ℕ) (values : List Float) (r : Acted)
     → Stages (columnTests (touchedBy m t) (actionOf m t) bs sumRoom entryRoom 0 0 bs) (columnsFrom (actionOf m t) bs 0 bs) rows columns values r
     → Stages (generatorRoom m t bs sumRoom entryRoom) (generatorOf m t bs) rows columns values r
 unfolding generatorRoom generatorOf

@@ -16,9 +16,9 @@ use Rattle.refusal.specs.declared.Answer.the-variants.{Accepted}
 use Rattle.word.specs.declared.word.Word.{Word}
 use Rattle.order.specs.Merge.{All, AllBelow}
 use Rattle.order.proofs.Members.{all-append}
-use Rattle.model.specs.Stored.{Tables}
+use Rattle.model.specs.Stored.{ModelTables}
 use Rattle.model.specs.Given.{Term}
-use Rattle.model.specs.declared.tables.Model.{Model}
+use Rattle.model.specs.declared.stored.Model.{Model}
 use Rattle.model.proofs.BuildLaws.{passed}
 use Rattle.action.specs.Acts.{actionOf}
 use Rattle.action.specs.Counts.{touchedBy}
@@ -54,7 +54,7 @@ columns-below act bs c (p ∷ ps) =
     rw (map-append (columnEntries bs c (act p)) (columnsFrom act bs (suc c) ps))
     (all-append (λ x. x < length bs) (rowsOf (columnEntries bs c (act p))) (rowsOf (columnsFrom act bs (suc c) ps)) (column-below bs c (act p)) (columns-below act bs (suc c) ps))
 
-pub rows-below : (m : Model) (t : Tables) (bs : List Word) → AllBelow (length bs) (rowsOf (generatorOf m t bs))
+pub rows-below : (m : Model) (t : ModelTables) (bs : List Word) → AllBelow (length bs) (rowsOf (generatorOf m t bs))
 unfolding generatorOf
 rows-below m t bs = columns-below (actionOf m t) bs 0 bs
 
@@ -71,6 +71,6 @@ module _ (touch : Word → ℕ) (act : Word → List Term) (bs : List Word) (sum
       let l = length-append (columnEntries bs c (act p)) (columnsFrom act bs (suc c) ps) in
       omega (arith, i, l)
 
-pub generator-fits : (m : Model) (t : Tables) (bs : List Word) (sumRoom entryRoom : ℕ) → generatorRoom m t bs sumRoom entryRoom ≡ Accepted → length (generatorOf m t bs) ≤ entryRoom
+pub generator-fits : (m : Model) (t : ModelTables) (bs : List Word) (sumRoom entryRoom : ℕ) → generatorRoom m t bs sumRoom entryRoom ≡ Accepted → length (generatorOf m t bs) ≤ entryRoom
 unfolding generatorRoom generatorOf
 generator-fits m t bs sumRoom entryRoom e = let h = columns-fit (touchedBy m t) (actionOf m t) bs sumRoom entryRoom 0 0 bs (omega arith) e in omega (arith, h)

@@ -18,9 +18,9 @@ use Rattle.word.specs.Word.{identity}
 use Rattle.word.specs.declared.word.Word.{Word}
 use Rattle.slots.specs.Slots.{lastOf}
 use Rattle.slots.proofs.PlaceLaws.{last-inside, last-word, last-after, last-among}
-use Rattle.model.specs.Stored.{Tables}
+use Rattle.model.specs.Stored.{ModelTables}
 use Rattle.model.specs.Given.{Term}
-use Rattle.model.specs.declared.tables.Model.{Model}
+use Rattle.model.specs.declared.stored.Model.{Model}
 use Rattle.model.proofs.Firsts.{first-before}
 use Rattle.action.specs.Acts.{actionOf}
 use Rattle.columns.specs.Entries.{Entry, entry}
@@ -119,7 +119,7 @@ module _ (act : Word → List Term) (bs : List Word) where
       rw z (member-right (entry r (suc c + k) v) (columnEntries bs c (act w)) (columnsFrom act bs (suc c) ps) (columns-enter (suc c) r k v ps t (omega arith) m p q))
 
 -- an entry of the generator is exactly a term whose word is in the basis
-module _ (m : Model) (t : Tables) (bs : List Word) (r c : ℕ) (v : Float) where
+module _ (m : Model) (t : ModelTables) (bs : List Word) (r c : ℕ) (v : Float) where
   pub entered : Member (entry r c v) (generatorOf m t bs) → Entered (actionOf m t) bs r c v
   unfolding generatorOf
   entered h =

@@ -14,8 +14,8 @@ use lib.ListN.{length, set, length-set, length-append}
 use Rattle.word.specs.declared.word.Word.{Word}
 use Rattle.number.specs.Floats.{floats}
 use Rattle.slots.proofs.PlaceLaws.{last-inside}
-use Rattle.table.specs.Sums as Terms
-use Rattle.table.specs.declared.sums.Added.the-variants.{Held, Full}
+use Rattle.sums.specs.Sums as Terms
+use Rattle.sums.specs.declared.sums.Added.the-variants.{Held, Full}
 use Rattle.model.specs.Given.{Term}
 use Rattle.model.specs.Product.{termAt}
 use Rattle.action.specs.Acts.{listed}
@@ -31,7 +31,7 @@ module _ (bs : List Word) (column touched : ℕ) (lanes : List ℕ) (sums : List
   toLay i = columnEntries bs column (left touched lanes sums i)
 
   abbrev whole : List Entry
-  whole = staged count rows₀ columns₀ values₀ ++ columnEntries bs column (listed (Terms.table touched lanes sums))
+  whole = staged count rows₀ columns₀ values₀ ++ columnEntries bs column (listed (Terms.sumRows touched lanes sums))
 
   pub record TermState (rows columns : List ℕ) (values : List Float) (end i : ℕ) : Type 0 where
     pub rows-same : length rows ≡ length rows₀

@@ -12,9 +12,9 @@ use Rattle.refusal.specs.declared.Answer.{Answer}
 use Rattle.refusal.specs.declared.Answer.the-variants.{Accepted, Refused}
 use Rattle.word.specs.declared.word.Word.{Word}
 use Rattle.slots.specs.Slots.{lastOf}
-use Rattle.model.specs.Stored.{Tables}
+use Rattle.model.specs.Stored.{ModelTables}
 use Rattle.model.specs.Given.{Term}
-use Rattle.model.specs.declared.tables.Model.{Model}
+use Rattle.model.specs.declared.stored.Model.{Model}
 use Rattle.action.specs.Acts.{actionOf}
 use Rattle.action.specs.Counts.{touchedBy}
 use Rattle.columns.specs.Entries.{Entry, entry}
@@ -34,7 +34,7 @@ unfoldable pub columnsFrom : (Word → List Term) → List Word → ℕ → List
 columnsFrom act bs c [] = []
 columnsFrom act bs c (p ∷ ps) = columnEntries bs c (act p) ++ columnsFrom act bs (suc c) ps
 
-unfoldable pub generatorOf : Model → Tables → List Word → List Entry
+unfoldable pub generatorOf : Model → ModelTables → List Word → List Entry
 generatorOf m t bs = columnsFrom (actionOf m t) bs 0 bs
 
 -- ---- 13
@@ -51,5 +51,5 @@ module _ (touched : Word → ℕ) (act : Word → List Term) (bs : List Word) (s
       (roomFor 3 entryRoom (before + length (columnEntries bs c (act p)))
       (columnTests (suc c) (before + length (columnEntries bs c (act p))) ps))
 
-unfoldable pub generatorRoom : Model → Tables → List Word → ℕ → ℕ → Answer
+unfoldable pub generatorRoom : Model → ModelTables → List Word → ℕ → ℕ → Answer
 generatorRoom m t bs sumRoom entryRoom = columnTests (touchedBy m t) (actionOf m t) bs sumRoom entryRoom 0 0 bs

@@ -13,19 +13,19 @@ use Rattle.refusal.specs.declared.Answer.{Answer}
 use Rattle.refusal.specs.declared.Answer.the-variants as Tests
 use Rattle.word.specs.Flat.{words}
 use Rattle.slots.specs.Slots.{Slotted}
-use Rattle.table.specs.declared.sums.Added.{Added}
-use Rattle.table.specs.declared.sums.Added.the-variants.{Held, Full}
-use Rattle.model.specs.Stored.{Tables}
+use Rattle.sums.specs.declared.sums.Added.{Added}
+use Rattle.sums.specs.declared.sums.Added.the-variants.{Held, Full}
+use Rattle.model.specs.Stored.{ModelTables}
 use Rattle.model.specs.Tested.{testModel}
-use Rattle.model.specs.declared.tables.Model.{Model}
-use Rattle.kernel.specs.Near.{ModelIndexed}
+use Rattle.model.specs.declared.stored.Model.{Model}
+use Rattle.rules_by_index.specs.Near.{ModelIndexed}
 use Rattle.action.specs.Counts.{AllInside}
 use Rattle.action.specs.declared.act.Acted.{Acted}
 use Rattle.action.specs.declared.act.Acted.the-variants as Acts
 use Rattle.columns.specs.Entries.{Entry, staged}
 
 -- a tested model with its index, and a mask
-pub record ModelReady (m : Model) (t : Tables) (hIndex jIndex mask : List ℕ) : Type 0 where
+pub record ModelReady (m : Model) (t : ModelTables) (hIndex jIndex mask : List ℕ) : Type 0 where
   pub tested : testModel m t ≡ Tests.Accepted
   pub indexed : ModelIndexed m t hIndex jIndex
   pub h-rows : 64 * m .qubits ≤ length hIndex

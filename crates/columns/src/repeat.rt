@@ -14,7 +14,7 @@ ghost use Rattle.slots.specs.Slots.{Slotted};
 ghost use Rattle.columns.specs.Repeats.{repeatsAt, firstRepeat, allZero, LaysDistinct};
 use slots::lay_slots;
 use slots::place_before;
-use table::clear::clear_lanes;
+use sums::clear::clear_lanes;
 use word::flat::WORD_LANES;
 use word::flat::word_at;
 use word::word::same_word;

@@ -13,10 +13,10 @@ use crate::terms::stage_terms;
 use action::act::Acted;
 use action::act::LIST_TABLE;
 use action::act::SUMS_TABLE;
-use kernel::near::put_rules_near;
-use model::tables::Model;
+use rules_by_index::near::put_rules_near;
+use model::stored::Model;
 use refusal::Refusal;
-use table::sums::Added;
+use sums::sums::Added;
 use word::flat::WORD_LANES;
 use word::flat::word_at;
 

@@ -7,7 +7,7 @@ ghost use Prim.Native.Nat.{_*_, _≤_, _<_};
 ghost use lib.ListN.{length};
 ghost use Rattle.word.specs.Flat.{words};
 ghost use Rattle.slots.specs.Slots.{Slotted};
-ghost use Rattle.table.specs.Sums.{table};
+ghost use Rattle.sums.specs.Sums.{sumRows};
 ghost use Rattle.action.specs.Acts.{listed};
 ghost use Rattle.columns.specs.Entries.{staged};
 ghost use Rattle.columns.specs.Columns.{columnEntries};
@@ -15,7 +15,7 @@ ghost use Rattle.columns.specs.Stages.{StageRoom, Lays};
 use model::product::term_at;
 use number::scalar::is_zero;
 use slots::last_place;
-use table::sums::Added;
+use sums::sums::Added;
 
 // Lays an entry for each of the first `touched` sums that is listed and whose word is in the basis,
 // behind the `count` entries that stand: how many stand then, or that there is no room.
@@ -34,7 +34,7 @@ pub fn stage_terms(
     count: usize,
 ) -> Added
     requires { ⌜ (4 * touched ≤ length (now «sum_words»)) × (2 * touched ≤ length (now sums)) × Slotted (words (now basis)) (now heads) (now nexts) × (length (words (now basis)) < 4294967296) × (column < 4294967296) × StageRoom room (now rows) (now columns) (now values) × (count ≤ room) ⌝ }
-    ensures { λ r. ⌜ Lays room (staged count (now (rows .entry)) (now (columns .entry)) (now (values .entry)) ++ columnEntries (words (now (basis .entry))) column (listed (table touched (now («sum_words» .entry)) (now (sums .entry))))) (now (rows .exit)) (now (columns .exit)) (now (values .exit)) r ⌝ }
+    ensures { λ r. ⌜ Lays room (staged count (now (rows .entry)) (now (columns .entry)) (now (values .entry)) ++ columnEntries (words (now (basis .entry))) column (listed (sumRows touched (now («sum_words» .entry)) (now (sums .entry))))) (now (rows .exit)) (now (columns .exit)) (now (values .exit)) r ⌝ }
 {
     let mut end = count;
     let mut i = 0;

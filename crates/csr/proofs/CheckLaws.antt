@@ -22,7 +22,7 @@ use Rattle.model.proofs.Firsts.{NoneBefore, first-none, first-before}
 use Rattle.model.proofs.TestOrder.{entries-refused, entries-passed}
 use Rattle.model.proofs.BuildLaws.{equal-passed, lent-passed, counted-passed}
 use Rattle.action.specs.Counts.{maxWords}
-use Rattle.basis.specs.Tests.{notFinite}
+use Rattle.truncate.specs.Tests.{notFinite}
 use Rattle.csr.specs.Lent.{badOffset, badColumn, rowsTests, placesTests}
 use Rattle.csr.specs.Products.{lengthTests, tableTests}
 

@@ -16,9 +16,9 @@ use lib.Seq.{ext-getD}
 use Rattle.number.specs.Floats.{float0, isFinite}
 use Rattle.model.specs.Tested.{firstTo}
 use Rattle.model.proofs.Firsts.{NoneBefore, first-inside, first-before, first-none, first-cong}
-use Rattle.rules.specs.Adds.{upTo}
-use Rattle.kernel.proofs.IndexLaws.{items-length, items-at}
-use Rattle.basis.specs.Tests.{notFinite}
+use Rattle.rules_by_scan.specs.Adds.{upTo}
+use Rattle.rules_by_index.proofs.IndexLaws.{items-length, items-at}
+use Rattle.truncate.specs.Tests.{notFinite}
 use Rattle.csr.specs.Rows.{partOf}
 use Rattle.csr.specs.Lent.{badColumn}
 use Rattle.csr.specs.Products.{beside, rowEntries, storedAt, product}

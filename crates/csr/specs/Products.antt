@@ -15,8 +15,8 @@ use Rattle.refusal.specs.declared.Answer.the-variants.{Accepted, Refused}
 use Rattle.number.specs.Floats.{float0}
 use Rattle.model.specs.Tested.{lent, firstTo, entries}
 use Rattle.model.specs.Built.{equal}
-use Rattle.rules.specs.Adds.{upTo}
-use Rattle.basis.specs.Tests.{notFinite}
+use Rattle.rules_by_scan.specs.Adds.{upTo}
+use Rattle.truncate.specs.Tests.{notFinite}
 use Rattle.csr.specs.Lent.{rowsTests, placesTests}
 use Rattle.csr.specs.Rows.{rowAt, partOf, rowOf}
 

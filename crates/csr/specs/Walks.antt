@@ -13,8 +13,8 @@ use lib.IntN.{pos, negsuc}
 use lib.ListN.{getD, length, take, drop}
 use Rattle.number.specs.Floats.{float0, isFinite}
 use Rattle.model.specs.Tested.{firstTo}
-use Rattle.basis.specs.Tests.{notFinite}
-use Rattle.rules.specs.Adds.{upTo}
+use Rattle.truncate.specs.Tests.{notFinite}
+use Rattle.rules_by_scan.specs.Adds.{upTo}
 use Rattle.csr.specs.Rows.{rowOf}
 use Rattle.refusal.specs.declared.Answer.the-variants.{Accepted}
 use Rattle.csr.specs.Products.{RowEntry, beside, rowEntries, tableTests, product}

@@ -14,7 +14,7 @@ ghost use Rattle.csr.specs.Walks.{badPlace};
 use crate::rows::wide;
 use crate::sums::is_misplaced;
 use action::words::MAX_WORDS;
-use basis::tests::first_not_finite;
+use truncate::tests::first_not_finite;
 use model::lengths::mismatch;
 use refusal::Answer;
 use refusal::Refusal;

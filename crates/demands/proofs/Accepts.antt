@@ -9,8 +9,8 @@ use Rattle.refusal.specs.declared.Refusal.{Refusal}
 use Rattle.refusal.specs.declared.Refusal.the-variants.{TooManyQubits, WrongLength, InvalidPauliByte, InvalidPauliCode, NegativeRate, EmptyLincomb, NumberOutOfRange, CountAboveLimit, LengthMismatch, KMatrixNotHermitian, WordOutsideRegister, RepeatedBasisWord, TableFull, SumNotFinite}
 use Rattle.action.specs.declared.act.Acted.{Acted}
 use Rattle.action.specs.declared.act.Acted.the-variants as Acted
-use Rattle.basis.specs.declared.kept.Kept.{Kept}
-use Rattle.basis.specs.declared.kept.Kept.the-variants as Kept
+use Rattle.truncate.specs.declared.kept.Kept.{Kept}
+use Rattle.truncate.specs.declared.kept.Kept.the-variants as Kept
 use Rattle.pebblelinen.specs.Actions.{listedOf}
 use Rattle.pebblelinen.specs.Bases.{keptOf}
 use Rattle.pebblelinen.specs.declared.actions.ListedWords.{ListedWords}

@@ -19,22 +19,22 @@ use Rattle.word.proofs.FlatLaws.{words-high, words-low}
 use Rattle.number.specs.Floats.{float0, isFinite, magnitude}
 use Rattle.number.specs.Key.{key}
 use Rattle.number.proofs.KeyLaws.{magnitude-le}
-use Rattle.truncate.specs.Retained.{pick, flagged}
-use Rattle.truncate.specs.Admitted.{picked}
-use Rattle.truncate.proofs.PruneLaws.{Number}
-use Rattle.basis.specs.Prunes.{protectedFlags, prune, cap}
-use Rattle.basis.specs.Admissions.{admitFlags, Admitting, admit}
-use Rattle.basis.specs.declared.kept.Kept.the-variants.{Entries}
-use Rattle.basis.proofs.PruneLaws.{prune-room}
-use Rattle.basis.proofs.CapLaws.{cap-room, cap-finite}
-use Rattle.basis.proofs.AdmitLaws.{admit-count}
-use Rattle.basis.proofs.AdmissionLaws.{values-finite, larger-first, words-after, coeffs-after, length-after, appended-count}
-use Rattle.basis_laws.specs.Keeps as Flags
-use Rattle.basis_laws.proofs.AcceptedCalls.{entries-same, prune-accepted, prune-finite, cap-accepted, admit-lent, admit-each}
-use Rattle.basis_laws.proofs.StaysLaws.{protected-long, admit-long, prune-stays, cap-stays}
-use Rattle.basis_laws.proofs.LosesLaws.{number-of, prune-loses-nobody, cap-loses-nobody, admit-loses-nobody}
-use Rattle.basis_laws.proofs.CapLaws.{cap-count, cap-nothing, cap-larger}
-use Rattle.basis_laws.proofs.PruneLaws.{prune-larger}
+use Rattle.keep.specs.Retained.{pick, flagged}
+use Rattle.keep.specs.Admitted.{picked}
+use Rattle.keep.proofs.PruneLaws.{Number}
+use Rattle.truncate.specs.Prunes.{protectedFlags, prune, cap}
+use Rattle.truncate.specs.Admissions.{admitFlags, Admitting, admit}
+use Rattle.truncate.specs.declared.kept.Kept.the-variants.{Entries}
+use Rattle.truncate.proofs.PruneLaws.{prune-room}
+use Rattle.truncate.proofs.CapLaws.{cap-room, cap-finite}
+use Rattle.truncate.proofs.AdmitLaws.{admit-count}
+use Rattle.truncate.proofs.AdmissionLaws.{values-finite, larger-first, words-after, coeffs-after, length-after, appended-count}
+use Rattle.truncate_laws.specs.Keeps as Flags
+use Rattle.truncate_laws.proofs.AcceptedCalls.{entries-same, prune-accepted, prune-finite, cap-accepted, admit-lent, admit-each}
+use Rattle.truncate_laws.proofs.StaysLaws.{protected-long, admit-long, prune-stays, cap-stays}
+use Rattle.truncate_laws.proofs.LosesLaws.{number-of, prune-loses-nobody, cap-loses-nobody, admit-loses-nobody}
+use Rattle.truncate_laws.proofs.CapLaws.{cap-count, cap-nothing, cap-larger}
+use Rattle.truncate_laws.proofs.PruneLaws.{prune-larger}
 use Rattle.leakage.specs.Leakages.{Basis}
 use Rattle.leakage_laws.specs.Calls.{SameBasis}
 use Rattle.demands.specs.Calls.{Accepted, PruneCall, CapCall, AdmitCall}

@@ -17,15 +17,15 @@ use Rattle.word.specs.Word.{identity}
 use Rattle.word.specs.declared.word.Word.{Word}
 use Rattle.number.specs.Key.{key}
 use Rattle.order.specs.Magnitudes.{keyAt}
-use Rattle.truncate.specs.Retained.{pick}
-use Rattle.truncate.proofs.PruneLaws.{Number}
+use Rattle.keep.specs.Retained.{pick}
+use Rattle.keep.proofs.PruneLaws.{Number}
 use Rattle.candidates.specs.Sums.{Row, row}
-use Rattle.candidates.specs.Log.{Rows, table}
-use Rattle.model.specs.declared.tables.Model.{Model}
+use Rattle.candidates.specs.Log.{Rows, candidateRows}
+use Rattle.model.specs.declared.stored.Model.{Model}
 use Rattle.action.specs.declared.act.Acted.the-variants.{Listed}
 use Rattle.passes.specs.Leaks.{sumsOf, passSize, passCount}
 use Rattle.leakage.specs.Leakages.{Leaking, tauOf, leak}
-use Rattle.basis_laws.proofs.LosesLaws.{number-of}
+use Rattle.truncate_laws.proofs.LosesLaws.{number-of}
 use Rattle.leakage_laws.specs.Members.{Member}
 use Rattle.leakage_laws.specs.Calls.{roomOf, stayAfter, heldIn, listOf, listedBy, SameBasis, Looser}
 use Rattle.leakage_laws.specs.Calls as Leak
@@ -90,7 +90,7 @@ module _ (c : LeakCall) (ok : Accepted (c .answer .status)) where
 
   -- the list in the tables that were lent
   pub leaked-is : leakedBy c ≡ listedBy done (c .answer .count)
-  leaked-is = ap₂ (λ (ws : List ℕ) (xs : List Float). table (c .answer .count) ws xs) (c .leaves .out-words) (c .leaves .out-values)
+  leaked-is = ap₂ (λ (ws : List ℕ) (xs : List Float). candidateRows (c .answer .count) ws xs) (c .leaves .out-words) (c .leaves .out-values)
 
   pub leak-lists : leakedBy c ≡ listOf (c .model) (c .tables) (c .basis) (c .limits)
   leak-lists = leaked-is ∙ leakage-lists (c .outWords) (c .outValues) (c .work) (c .model) (c .tables) (c .basis) (c .limits) (c .answer .count) leak-answer

@@ -9,9 +9,9 @@ use lib.Ieee.{Float}
 use Rattle.refusal.specs.declared.Answer.the-variants as Tests
 use Rattle.word.specs.Flat.{words}
 use Rattle.word.specs.declared.word.Word.{Word}
-use Rattle.model.specs.Stored.{Tables}
+use Rattle.model.specs.Stored.{ModelTables}
 use Rattle.model.specs.Tested.{testModel}
-use Rattle.model.specs.declared.tables.Model.{Model}
+use Rattle.model.specs.declared.stored.Model.{Model}
 use Rattle.action.specs.Acts.{actionOf}
 use Rattle.action.specs.declared.act.Acted.the-variants.{Listed}
 use Rattle.candidates.specs.Log.{Rows}
@@ -70,7 +70,7 @@ module _ (c : CsrCall) (ok : Accepted (c .answer .status)) where
       (csr-exact (c .offsets) (c .columns) (c .values) (c .work) (c .model) (c .tables) (c .lanes) (c .len) (c .answer .count) csr-answer)
 
 -- ---- one model in two lendings acts alike
-acts-alike : (m m′ : Model) (t t′ : Tables) → SameModelLent m t m′ t′ → testModel m t ≡ Tests.Accepted → (q : Word) → actionOf m t q ≡ actionOf m′ t′ q
+acts-alike : (m m′ : Model) (t t′ : ModelTables) → SameModelLent m t m′ t′ → testModel m t ≡ Tests.Accepted → (q : Word) → actionOf m t q ≡ actionOf m′ t′ q
 acts-alike m m′ t t′ same passes q = same-action m t t′ (same .same-places) passes q ∙ (λ i. actionOf (same .same-model i) t′ q)
 
 pub keeps-entries : KeepsEntries

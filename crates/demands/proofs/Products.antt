@@ -20,17 +20,17 @@ use Rattle.word.specs.declared.word.Word.{Word}
 use Rattle.number.specs.Floats.{isFinite}
 use Rattle.order.specs.Merge.{AllBelow}
 use Rattle.model.specs.Given.{Term}
-use Rattle.model.specs.Stored.{Tables}
+use Rattle.model.specs.Stored.{ModelTables}
 use Rattle.model.specs.Tested.{testModel}
 use Rattle.model.specs.Built.{andThen}
-use Rattle.model.specs.declared.tables.Model.{Model}
+use Rattle.model.specs.declared.stored.Model.{Model}
 use Rattle.model.proofs.Firsts.{NoneBefore}
 use Rattle.model_laws.proofs.Lists.{every-at}
 use Rattle.model_laws.proofs.StandsLaws.{any-one}
 use Rattle.action.specs.Acts.{actionOf}
 use Rattle.action.specs.Counts.{maxWords}
 use Rattle.action_laws.proofs.ReachedListed.{listed-finite}
-use Rattle.basis.specs.Tests.{notFinite}
+use Rattle.truncate.specs.Tests.{notFinite}
 use Rattle.columns.specs.Entries.{Entry}
 use Rattle.columns.specs.Columns.{generatorOf}
 use Rattle.columns.proofs.GeneratorLaws.{rows-below}
@@ -55,7 +55,7 @@ unfolding notFinite
 finite-sound l n h f k low = ap not (f k (omega arith))
 
 -- ---- the generator over n words by rows
-module _ (m : Model) (t : Tables) (bs : List Word) (n : ℕ) (all : length bs ≡ n) where
+module _ (m : Model) (t : ModelTables) (bs : List Word) (n : ℕ) (all : length bs ≡ n) where
   abbrev entries : List Entry
   entries = generatorOf m t bs
 
@@ -135,7 +135,7 @@ module _ (rows : ℕ) (few : rows ≤ maxWords) (input : List Float) (overwrite 
       ∙ sound-accepted rows offsets columns values input overwrite output s
 
   module _ (input-finite : AllFinite input) (output-finite : overwrite ≡ false → AllFinite output) where
-    generator-passed : (m : Model) (t : Tables) (bs : List Word) → length bs ≡ rows → testModel m t ≡ Tests.Accepted
+    generator-passed : (m : Model) (t : ModelTables) (bs : List Word) → length bs ≡ rows → testModel m t ≡ Tests.Accepted
         → answer (offsetsOf rows (generatorOf m t bs)) (columnsBy rows (generatorOf m t bs)) (valuesBy rows (generatorOf m t bs)) ≡ Tests.Accepted
     generator-passed m t bs e passes =
         let G : List Entry = generatorOf m t bs in
@@ -150,7 +150,7 @@ module _ (rows : ℕ) (few : rows ≤ maxWords) (input : List Float) (overwrite 
         })
 
     -- what a call leaves
-    left-passed : (m : Model) (t : Tables) (bs : List Word) (out : CsrOut) (count : ℕ) → RowListing m t bs rows out count
+    left-passed : (m : Model) (t : ModelTables) (bs : List Word) (out : CsrOut) (count : ℕ) → RowListing m t bs rows out count
         → answer (take (rows + 1) (out .offsets)) (take count (out .columns)) (take count (out .values)) ≡ Tests.Accepted
     left-passed m t bs out count l =
         let G : List Entry = generatorOf m t bs in

@@ -28,29 +28,29 @@ use Rattle.word.specs.declared.word.ParsedWord.the-variants as Read
 use Rattle.number.specs.Floats.{floats, float0}
 use Rattle.gksl.specs.Model.{RealTerm, JumpOver}
 use Rattle.gksl.specs.Words.{pauli}
-use Rattle.model.specs.Stored.{Tables}
+use Rattle.model.specs.Stored.{ModelTables}
 use Rattle.model.specs.Given.{Term, Read, got, refused}
 use Rattle.model.specs.Tested.{maxHamiltonian, maxJumps, counted, firstTo, testModel}
 use Rattle.model.specs.Compiled.{Compiled, compileJump}
 use Rattle.model.specs.Laid.{laid}
 use Rattle.model.specs.Built as Building
-use Rattle.model.specs.declared.tables.Model.{Model}
+use Rattle.model.specs.declared.stored.Model.{Model}
 use Rattle.model.specs.declared.spec.Built.{Built}
 use Rattle.model.specs.declared.spec.Built.the-variants as Built
 use Rattle.kossakowski.specs.Pairs.{pairsOf}
 use Rattle.kossakowski.specs.Added as Adding
-use Rattle.truncate.specs.Retained.{flagged, retainedLanes, retainedNumbers}
-use Rattle.truncate.specs.Admitted.{appendedLanes, appendedZeros, picked}
+use Rattle.keep.specs.Retained.{flagged, retainedLanes, retainedNumbers}
+use Rattle.keep.specs.Admitted.{appendedLanes, appendedZeros, picked}
 use Rattle.action.specs.Acts as Acts
 use Rattle.action.specs.declared.act.Acted.{Acted}
 use Rattle.action.specs.declared.act.Acted.the-variants as Acted
 use Rattle.action.specs.declared.count.Counted.{Counted}
 use Rattle.action.specs.declared.count.Counted.the-variants as Counted
-use Rattle.basis.specs.Tests.{notFinite}
-use Rattle.basis.specs.Prunes as Prunes
-use Rattle.basis.specs.Admissions as Admissions
-use Rattle.basis.specs.declared.kept.Kept.{Kept}
-use Rattle.basis.specs.declared.kept.Kept.the-variants as Kept
+use Rattle.truncate.specs.Tests.{notFinite}
+use Rattle.truncate.specs.Prunes as Prunes
+use Rattle.truncate.specs.Admissions as Admissions
+use Rattle.truncate.specs.declared.kept.Kept.{Kept}
+use Rattle.truncate.specs.declared.kept.Kept.the-variants as Kept
 use Rattle.candidates.specs.Log.{Rows}
 use Rattle.passes.specs.Leaks.{wordsOf, sumsOf, above}
 use Rattle.leakage.specs.Leakages as Leakage
@@ -170,7 +170,7 @@ unfolding written
 written-kept w n out q e = write-kept (writeAnswer w n out) w n out q e
 
 -- ---- building and adding
-module _ (t : Tables) (ww : List ℕ) (wn : List Float) where
+module _ (t : ModelTables) (ww : List ℕ) (wn : List Float) where
   abbrev SafeModel : Building.Building → Type 0
   SafeModel b = (q : Refusal) → b .answer ≡ Built.Refused q → b .tables ≡ t
 
@@ -182,7 +182,7 @@ module _ (t : Tables) (ww : List ℕ) (wn : List Float) where
   read-model (got a) f s = s a
   read-model (refused r) f s = λ q e. refl
 
-  finished-model : (b : Bool) (q : Refusal) (m : Model) (after : Tables)
+  finished-model : (b : Bool) (q : Refusal) (m : Model) (after : ModelTables)
       → SafeModel (cond b (Building.finished t ww wn (Built.Refused q) t) (Building.finished t ww wn (Built.Model m) after))
   finished-model b q m after = either SafeModel b (Building.finished t ww wn (Built.Refused q) t) (Building.finished t ww wn (Built.Model m) after) (λ r e. refl) (λ r e. absurd (model-not m r e))
 
@@ -224,7 +224,7 @@ module _ (outWords : List ℕ) (outValues : List Float) (ww : List ℕ) (ws : Li
   tested-list Tests.Accepted after s = s
   tested-list (Tests.Refused r) after s = λ q e. (refl, refl)
 
-  act-kept : (m : Model) (t : Tables) (p : Word) → SafeList (Acts.act outWords outValues ww ws m t p)
+  act-kept : (m : Model) (t : ModelTables) (p : Word) → SafeList (Acts.act outWords outValues ww ws m t p)
   unfolding Acts.act
   act-kept m t p =
       tested-list (testModel m t) _
@@ -298,7 +298,7 @@ module _ (outWords : List ℕ) (outValues : List Float) (w : Leakage.Work) where
       (record { answer = Acted.Listed (length (above tau T)); outWords = laid layWord 0 (wordsOf (above tau T)) outWords; outValues = laid set 0 (sumsOf (above tau T)) outValues })
       (λ q e. (refl, refl)) (λ q e. absurd (listed-not (length (above tau T)) q e))
 
-  leak-kept : (m : Model) (t : Tables) (b : Leakage.Basis) (l : Limits) → SafeOut (Leakage.leak outWords outValues w m t b l .out)
+  leak-kept : (m : Model) (t : ModelTables) (b : Leakage.Basis) (l : Limits) → SafeOut (Leakage.leak outWords outValues w m t b l .out)
   unfolding Leakage.leak
   leak-kept m t b l = tested-out (Leakage.leakTests m t b l w) (Leakage.listing (Leakage.tauOf l) outWords outValues (Leakage.leakCourse m t b l w)) (listing-kept (Leakage.tauOf l) (Leakage.leakCourse m t b l w))
 
@@ -315,7 +315,7 @@ module _ (rows columns : List ℕ) (values : List Float) (w : Work) where
   tested-entries Tests.Accepted o s = s
   tested-entries (Tests.Refused r) o s = λ q e. (refl, refl, refl)
 
-  generate-kept : (m : Model) (t : Tables) (lanes : List ℕ) (len : ℕ) → SafeEntries (Generators.generate rows columns values w m t lanes len .out)
+  generate-kept : (m : Model) (t : ModelTables) (lanes : List ℕ) (len : ℕ) → SafeEntries (Generators.generate rows columns values w m t lanes len .out)
   unfolding Generators.generate Generators.listedOver
   generate-kept m t lanes len =
       let bs : List Word = basisOf lanes len in
@@ -334,7 +334,7 @@ module _ (offsets columns : List ℕ) (values : List Float) (w : Work) where
   tested-rows Tests.Accepted o s = s
   tested-rows (Tests.Refused r) o s = λ q e. (refl, refl, refl)
 
-  csr-kept : (m : Model) (t : Tables) (lanes : List ℕ) (len : ℕ) → SafeRows (Generators.buildCsr offsets columns values w m t lanes len .out)
+  csr-kept : (m : Model) (t : ModelTables) (lanes : List ℕ) (len : ℕ) → SafeRows (Generators.buildCsr offsets columns values w m t lanes len .out)
   unfolding Generators.buildCsr Generators.csrOver
   csr-kept m t lanes len =
       let bs : List Word = basisOf lanes len in

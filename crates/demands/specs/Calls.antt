@@ -15,13 +15,13 @@ use Rattle.refusal.specs.declared.Status.{Status}
 use Rattle.word.specs.Word.{Sound}
 use Rattle.word.specs.declared.word.Word.{Word}
 use Rattle.number.specs.Floats.{isFinite}
-use Rattle.model.specs.Stored.{Tables}
+use Rattle.model.specs.Stored.{ModelTables}
 use Rattle.model.specs.Built as Building
-use Rattle.model.specs.declared.tables.Model.{Model}
+use Rattle.model.specs.declared.stored.Model.{Model}
 use Rattle.kossakowski.specs.Added as Adding
 use Rattle.action.specs.Acts.{act}
-use Rattle.basis.specs.Prunes.{prune, cap}
-use Rattle.basis.specs.Admissions.{admit}
+use Rattle.truncate.specs.Prunes.{prune, cap}
+use Rattle.truncate.specs.Admissions.{admit}
 use Rattle.leakage.specs.Leakages as Leakage
 use Rattle.leakage.specs.declared.limits.Limits.{Limits}
 use Rattle.generator.specs.Lent as Generator
@@ -67,11 +67,11 @@ pub record WriteCall : Type 0 where
 pub record BuildCall : Type 0 where
   pub qubits : ℕ
   pub given : Building.Input
-  pub tables : Tables
+  pub tables : ModelTables
   pub workWords : List ℕ
   pub workNumbers : List Float
   pub answer : BuiltModel
-  pub tables′ : Tables
+  pub tables′ : ModelTables
   pub workWords′ : List ℕ
   pub workNumbers′ : List Float
   pub leaves : Leaves (Building.build qubits given tables workWords workNumbers) answer tables′ workWords′ workNumbers′
@@ -80,11 +80,11 @@ pub record BuildCall : Type 0 where
 pub record AddCall : Type 0 where
   pub model : Model
   pub given : Adding.Input
-  pub tables : Tables
+  pub tables : ModelTables
   pub workWords : List ℕ
   pub workNumbers : List Float
   pub answer : BuiltModel
-  pub tables′ : Tables
+  pub tables′ : ModelTables
   pub workWords′ : List ℕ
   pub workNumbers′ : List Float
   pub leaves : Leaves (Adding.add model given tables workWords workNumbers) answer tables′ workWords′ workNumbers′
@@ -92,7 +92,7 @@ pub record AddCall : Type 0 where
 -- ---- pebblelinen_compute_action_terms
 pub record ActionCall : Type 0 where
   pub model : Model
-  pub tables : Tables
+  pub tables : ModelTables
   pub word : Word
   pub outWords : List ℕ
   pub outValues : List Float
@@ -169,7 +169,7 @@ pub record AdmitCall : Type 0 where
 -- ---- pebblelinen_leakage_with_prune
 pub record LeakCall : Type 0 where
   pub model : Model
-  pub tables : Tables
+  pub tables : ModelTables
   pub basis : Leakage.Basis
   pub limits : Limits
   pub work : Leakage.Work
@@ -185,7 +185,7 @@ pub record LeakCall : Type 0 where
 -- ---- pebblelinen_generator
 pub record GeneratorCall : Type 0 where
   pub model : Model
-  pub tables : Tables
+  pub tables : ModelTables
   pub lanes : List ℕ
   pub len : ℕ
   pub work : Generator.Work
@@ -202,7 +202,7 @@ pub record GeneratorCall : Type 0 where
 -- ---- pebblelinen_build_csr
 pub record CsrCall : Type 0 where
   pub model : Model
-  pub tables : Tables
+  pub tables : ModelTables
   pub lanes : List ℕ
   pub len : ℕ
   pub work : Generator.Work

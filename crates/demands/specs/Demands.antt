@@ -29,23 +29,23 @@ use Rattle.number.specs.Whole.{whole}
 use Rattle.number.specs.Floats.{floats, float0, magnitude}
 use Rattle.gksl.specs.Model.{ModelOver}
 use Rattle.gksl.specs.Words.{pauli}
-use Rattle.model.specs.Stored.{Tables}
+use Rattle.model.specs.Stored.{ModelTables}
 use Rattle.model.specs.Built as Building
-use Rattle.model.specs.declared.tables.Model.{Model}
+use Rattle.model.specs.declared.stored.Model.{Model}
 use Rattle.model.specs.declared.spec.Built.the-variants as Built
 use Rattle.kossakowski.specs.Added as Adding
-use Rattle.truncate.specs.Retained.{pick, flagged}
+use Rattle.keep.specs.Retained.{pick, flagged}
 use Rattle.action.specs.Acts.{actionOf, Acting, act}
 use Rattle.action.specs.Counts.{Counting}
 use Rattle.action.specs.declared.act.Acted.the-variants as Acted
 use Rattle.action.specs.declared.count.Counted.the-variants as Counted
-use Rattle.basis.specs.Prunes.{Keeping, protectedFlags, prune, cap}
-use Rattle.basis.specs.Admissions.{Admitting, admitFlags, admit}
-use Rattle.basis.specs.declared.kept.Kept.the-variants as Kept
+use Rattle.truncate.specs.Prunes.{Keeping, protectedFlags, prune, cap}
+use Rattle.truncate.specs.Admissions.{Admitting, admitFlags, admit}
+use Rattle.truncate.specs.declared.kept.Kept.the-variants as Kept
 use Rattle.leakage.specs.Leakages as Leakage
 use Rattle.passes.specs.Leaks.{wordsOf, passSize, passCount}
 use Rattle.candidates.specs.Sums.{Row}
-use Rattle.candidates.specs.Log.{Rows, table}
+use Rattle.candidates.specs.Log.{Rows, candidateRows}
 use Rattle.generator.specs.Lent as Generator
 use Rattle.generator.specs.Lent.{basisOf}
 use Rattle.generator.specs.Generators.{Generating, CsrBuilding, generate, buildCsr}
@@ -77,8 +77,8 @@ use Rattle.in_use.specs.InUse.{SameModel}
 use Rattle.action_laws.specs.Made.{Made}
 use Rattle.action_laws.specs.WholeModel.{WholeModel}
 use Rattle.action_laws.specs.Exact.{listIn, ListsGenerator}
-use Rattle.basis_laws.specs.Keeps.{prunedFlags, cappedFlags, Flagged}
-use Rattle.basis_laws.specs.Keeps as Flags
+use Rattle.truncate_laws.specs.Keeps.{prunedFlags, cappedFlags, Flagged}
+use Rattle.truncate_laws.specs.Keeps as Flags
 use Rattle.leakage_laws.specs.Members.{Member}
 use Rattle.leakage_laws.specs.Calls.{basisWords, basisCoeffs, roomOf, stayAfter, heldIn, listOf, SameBasis, Looser, TauBelowZero, RoomForAll}
 use Rattle.leakage_laws.specs.Calls as Leak
@@ -93,7 +93,7 @@ use Rattle.demands.specs.Calls.{Accepted, Refused, AllFinite, WriteCall,
 -- show.)
 pub record OneAnswer : Type 0 where
   pub writing : (w : Word) (n : ℕ) (out : List ℕ) (r r′ : Status) (o o′ : List ℕ) → Writes w n out r o → Writes w n out r′ o′ → (r ≡ r′) × (o ≡ o′)
-  pub building : (d : Building.Building) (r r′ : BuiltModel) (t t′ : Tables) (w w′ : List ℕ) (x x′ : List Float)
+  pub building : (d : Building.Building) (r r′ : BuiltModel) (t t′ : ModelTables) (w w′ : List ℕ) (x x′ : List Float)
       → Leaves d r t w x → Leaves d r′ t′ w′ x′ → (r ≡ r′) × (t ≡ t′) × (w ≡ w′) × (x ≡ x′)
   pub acting : (d : Acting) (r r′ : ListedWords) (o o′ : List ℕ) (v v′ : List Float) (w w′ : List ℕ) (x x′ : List Float)
       → LeavesList d r o v w x → LeavesList d r′ o′ v′ w′ x′ → (r ≡ r′) × (o ≡ o′) × (v ≡ v′) × (w ≡ w′) × (x ≡ x′)
@@ -189,7 +189,7 @@ ActionIsGenerator =
 
 -- ==== 3
 -- A model or a basis may be lent twice in tables of other lengths: it is the same if the places in use are
-pub record SameModelLent (m : Model) (t : Tables) (m′ : Model) (t′ : Tables) : Type 0 where
+pub record SameModelLent (m : Model) (t : ModelTables) (m′ : Model) (t′ : ModelTables) : Type 0 where
   pub same-model : m ≡ m′
   pub same-places : SameModel m t t′
 
@@ -228,7 +228,7 @@ pub record SameListed (c c′ : AdmitCall) : Type 0 where
 
 -- the words that leakage lists, each with its value
 abbrev pub leakedBy : LeakCall → Rows
-leakedBy c = table (c .answer .count) (c .outWords′) (c .outValues′)
+leakedBy c = candidateRows (c .answer .count) (c .outWords′) (c .outValues′)
 
 -- "Of two accepted calls of leakage over at most 4,096 words, of admission, prune or cap, alike but for a raised word limit, a lowered
 -- threshold or both, whatever places each was lent, the second keeps every word that the first kept, with the same coefficient."

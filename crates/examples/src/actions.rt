@@ -3,7 +3,7 @@
 
 // The action of a model of two qubits on a word, printed word by word.
 use crate::print;
-use model::tables::Model;
+use model::stored::Model;
 use word::flat::word_at;
 
 // The places of the work tables and of the list: more than these small models need.

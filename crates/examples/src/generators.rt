@@ -4,7 +4,7 @@
 // The generator of H 0.5 (ZI + IZ) over the basis XX, YX, XY, YY, the same matrix by rows, its product with a vector, its norm
 // and degrees. Rows and columns are positions in the basis.
 use crate::print;
-use model::tables::Model;
+use model::stored::Model;
 use pebblelinen::actions::ListedWords;
 use pebblelinen::norms::Partition;
 

@@ -5,7 +5,7 @@
 use crate::actions::print_list;
 use crate::print;
 use leakage::limits::Limits;
-use model::tables::Model;
+use model::stored::Model;
 use pebblelinen::actions::ListedWords;
 
 // The words that leaked, or the refusal.

@@ -5,7 +5,7 @@
 use crate::actions::print_action;
 use crate::models;
 use crate::print;
-use model::tables::Model;
+use model::stored::Model;
 use pebblelinen::models::BuiltModel;
 
 // Adds the matrix K over the operators XI and IX to a model of two qubits without items.

@@ -13,10 +13,10 @@ use Rattle.refusal.specs.declared.Refusal.{Refusal}
 use Rattle.refusal.specs.declared.Answer.{Answer}
 use Rattle.refusal.specs.declared.Answer.the-variants as Tests
 use Rattle.word.specs.declared.word.Word.{Word}
-use Rattle.model.specs.Stored.{Tables}
+use Rattle.model.specs.Stored.{ModelTables}
 use Rattle.model.specs.Tested.{lent}
 use Rattle.model.specs.Built.{andThen}
-use Rattle.model.specs.declared.tables.Model.{Model}
+use Rattle.model.specs.declared.stored.Model.{Model}
 use Rattle.model.proofs.BuildLaws.{both, lent-passed}
 use Rattle.action.specs.Acts.{sumPlaces}
 use Rattle.action.specs.Counts.{insideTo}
@@ -38,7 +38,7 @@ answered-listed : (tests : Answer) (k n : ℕ) → Listed n ≡ answered tests k
 answered-listed Tests.Accepted k n e = (refl, cc)
 answered-listed (Tests.Refused q) k n e = absurd (let z : _≡_ {A = ℕ} 0 1 = cc in omega arith)
 
-module _ (m : Model) (t : Tables) (bs : List Word) (sumRoom entryRoom : ℕ) (rows columns : List ℕ) (values : List Float) (r : Acted) (s : Stages (generatorRoom m t bs sumRoom entryRoom) (generatorOf m t bs) rows columns values r) where
+module _ (m : Model) (t : ModelTables) (bs : List Word) (sumRoom entryRoom : ℕ) (rows columns : List ℕ) (values : List Float) (r : Acted) (s : Stages (generatorRoom m t bs sumRoom entryRoom) (generatorOf m t bs) rows columns values r) where
   staged-few : (n : ℕ) → r ≡ Listed n → n ≤ entryRoom
   staged-few n e =
       let a = answered-listed (generatorRoom m t bs sumRoom entryRoom) (length (generatorOf m t bs)) n (sym e ∙ s .answers) in
@@ -66,7 +66,7 @@ module _ (m : Model) (t : Tables) (bs : List Word) (sumRoom entryRoom : ℕ) (ro
           record { rows-long = a; columns-long = b; values-long = d; below = rw (← i, ← z) (rows-below m t bs) }
 
 -- ---- the generator
-module _ (rows columns : List ℕ) (values : List Float) (w : Work) (m : Model) (t : Tables) where
+module _ (rows columns : List ℕ) (values : List Float) (w : Work) (m : Model) (t : ModelTables) where
   module _ (bs : List Word) where
     pub tested-repeated : (q : Refusal) (after : Work) → distinct bs ≡ Tests.Refused q → after ≡ w
         → record { out = record { answer = Refused q; rows = rows; columns = columns; values = values }; work = after } ≡ tested rows columns values w (distinct bs) (listedOver rows columns values w m t bs)
@@ -98,7 +98,7 @@ module _ (rows columns : List ℕ) (values : List Float) (w : Work) (m : Model) 
         rw (b, a .0, inside-then len lanes (m .qubits) (distinct (basisOf lanes len)) (a .1))
 
 -- ---- by rows
-module _ (offsets columns : List ℕ) (values : List Float) (w : Work) (m : Model) (t : Tables) where
+module _ (offsets columns : List ℕ) (values : List Float) (w : Work) (m : Model) (t : ModelTables) where
   module _ (n : ℕ) (bs : List Word) where
     pub csr-repeated : (q : Refusal) (after : Work) → distinct bs ≡ Tests.Refused q → after ≡ w
         → record { out = record { answer = Refused q; offsets = offsets; columns = columns; values = values }; work = after } ≡ csrTested offsets columns values w (distinct bs) (csrOver offsets columns values w n m t bs)

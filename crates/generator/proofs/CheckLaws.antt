@@ -15,17 +15,17 @@ use Rattle.refusal.specs.declared.Refusal.{Refusal}
 use Rattle.refusal.specs.declared.Refusal.the-variants.{CountAboveLimit, LengthMismatch, WordOutsideRegister}
 use Rattle.refusal.specs.declared.Answer.{Answer}
 use Rattle.refusal.specs.declared.Answer.the-variants.{Accepted, Refused}
-use Rattle.model.specs.Stored.{Tables}
+use Rattle.model.specs.Stored.{ModelTables}
 use Rattle.model.specs.Tested.{lent, whereAny, firstTo, testModel}
 use Rattle.model.specs.Built.{andThen}
-use Rattle.model.specs.declared.tables.Model.{Model}
+use Rattle.model.specs.declared.stored.Model.{Model}
 use Rattle.model.proofs.NeedLaws.{need-some}
 use Rattle.model.proofs.Firsts.{first-before}
 use Rattle.model.proofs.BuildLaws.{passed, both, lent-passed, counted-passed, refused-not}
 use Rattle.action.specs.Counts.{maxWords, rowLanes, outsideAt, insideTo}
 use Rattle.generator.specs.Lent.{tableTests}
 
-module _ (m : Model) (t : Tables) (lanes : List ℕ) (len h j k he ne : ℕ) where
+module _ (m : Model) (t : ModelTables) (lanes : List ℕ) (len h j k he ne : ℕ) where
   abbrev tests : Answer
   tests = tableTests m t lanes len h j k he ne
 
@@ -77,7 +77,7 @@ module _ (m : Model) (t : Tables) (lanes : List ℕ) (len h j k he ne : ℕ) whe
                   tables-accepted = rw (ok, le-ltb maxWords len h1, le-ltb places len h2, ← rows-are, le-ltb h rows h3, le-ltb j rows h4, ← row-is, le-ltb k row h5, le-ltb he len h6, le-ltb ne len h7)
 
 -- ---- what is known where they are passed
-pub record Passed (m : Model) (t : Tables) (lanes : List ℕ) (len h j k he ne : ℕ) : Type 0 where
+pub record Passed (m : Model) (t : ModelTables) (lanes : List ℕ) (len h j k he ne : ℕ) : Type 0 where
   pub model : testModel m t ≡ Accepted
   pub few : len ≤ maxWords
   pub words-long : len ≤ length lanes / 4
@@ -87,7 +87,7 @@ pub record Passed (m : Model) (t : Tables) (lanes : List ℕ) (len h j k he ne :
   pub heads-long : len ≤ he
   pub nexts-long : len ≤ ne
 
-pub tables-passed : (m : Model) (t : Tables) (lanes : List ℕ) (len h j k he ne : ℕ) → tableTests m t lanes len h j k he ne ≡ Accepted → Passed m t lanes len h j k he ne
+pub tables-passed : (m : Model) (t : ModelTables) (lanes : List ℕ) (len h j k he ne : ℕ) → tableTests m t lanes len h j k he ne ≡ Accepted → Passed m t lanes len h j k he ne
 unfolding tableTests
 tables-passed m t lanes len h j k he ne e =
     let e0 = both (testModel m t) _ e in

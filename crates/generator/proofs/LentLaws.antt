@@ -20,9 +20,9 @@ use Rattle.word.specs.declared.word.Word.{Word}
 use Rattle.word.proofs.FlatLaws.{words-low, words-high}
 use Rattle.slots.specs.Slots.{Slotted}
 use Rattle.candidates.proofs.LogLaws.{words-take}
-use Rattle.model.specs.Stored.{Tables}
-use Rattle.model.specs.declared.tables.Model.{Model}
-use Rattle.kernel.specs.Near.{ModelIndexed}
+use Rattle.model.specs.Stored.{ModelTables}
+use Rattle.model.specs.declared.stored.Model.{Model}
+use Rattle.rules_by_index.specs.Near.{ModelIndexed}
 use Rattle.action.specs.Acts.{sumPlaces}
 use Rattle.action.specs.Counts.{outsideAt}
 use Rattle.action.specs.declared.act.Acted.{Acted}
@@ -33,7 +33,7 @@ use Rattle.generator.specs.Lent.{basisOf, distinct, ModelLent, BasisLent
 use Rattle.generator.proofs.CheckLaws.{Passed}
 
 -- ---- after the tests
-module _ (m : Model) (t : Tables) (lanes : List ℕ) (len : ℕ) (hIndex jIndex mask heads nexts : List ℕ) (p : Passed m t lanes len (length hIndex) (length jIndex) (length mask) (length heads) (length nexts)) where
+module _ (m : Model) (t : ModelTables) (lanes : List ℕ) (len : ℕ) (hIndex jIndex mask heads nexts : List ℕ) (p : Passed m t lanes len (length hIndex) (length jIndex) (length mask) (length heads) (length nexts)) where
   basis-long : length (take (len * 4) lanes) ≡ len * 4
   basis-long = length-take-le (len * 4) lanes (omega (arith, p .words-long))
 
@@ -59,7 +59,7 @@ module _ (m : Model) (t : Tables) (lanes : List ℕ) (len : ℕ) (hIndex jIndex 
       }
 
 -- ---- the index made
-pub model-ready : (m : Model) (t : Tables) (hIndex hIndex′ jIndex jIndex′ mask : List ℕ) → ModelLent m t hIndex jIndex mask → ModelIndexed m t hIndex′ jIndex′ → length hIndex′ ≡ length hIndex → length jIndex′ ≡ length jIndex
+pub model-ready : (m : Model) (t : ModelTables) (hIndex hIndex′ jIndex jIndex′ mask : List ℕ) → ModelLent m t hIndex jIndex mask → ModelIndexed m t hIndex′ jIndex′ → length hIndex′ ≡ length hIndex → length jIndex′ ≡ length jIndex
     → ModelReady m t hIndex′ jIndex′ mask
 model-ready m t hIndex hIndex′ jIndex jIndex′ mask l i eh ej =
     record { tested = l .accepted; indexed = i; h-rows = omega (arith, l .h-rows, eh); j-rows = omega (arith, l .j-rows, ej); row = l .row }
@@ -104,6 +104,6 @@ module _ (n len : ℕ) (lanes heads nexts : List ℕ) (l : BasisLent n len lanes
 pub sums-room : {r : ℕ} (workWords : List ℕ) (workSums : List Float) → r ≡ min (length workWords / 4) (length workSums / 2) → SumRoom r workWords workSums
 sums-room workWords workSums e = record { words-long = omega (arith, e); sums-long = omega (arith, e) }
 
-pub stages-room : (m : Model) (t : Tables) (bs : List Word) (workWords : List ℕ) (workSums : List Float) (entryRoom : ℕ) {s : ℕ} → s ≡ sumPlaces workWords workSums → (rows columns : List ℕ) (values : List Float) (r : Acted)
+pub stages-room : (m : Model) (t : ModelTables) (bs : List Word) (workWords : List ℕ) (workSums : List Float) (entryRoom : ℕ) {s : ℕ} → s ≡ sumPlaces workWords workSums → (rows columns : List ℕ) (values : List Float) (r : Acted)
     → Stages (generatorRoom m t bs s entryRoom) (generatorOf m t bs) rows columns values r → Stages (generatorRoom m t bs (sumPlaces workWords workSums) entryRoom) (generatorOf m t bs) rows columns values r
 stages-room m t bs workWords workSums entryRoom e rows columns values r k = rw (← e) k

@@ -10,9 +10,9 @@ use lib.ListN.{length, set}
 use Rattle.refusal.specs.declared.Answer.{Answer}
 use Rattle.refusal.specs.declared.Answer.the-variants as Tests
 use Rattle.word.specs.declared.word.Word.{Word}
-use Rattle.model.specs.Stored.{Tables}
+use Rattle.model.specs.Stored.{ModelTables}
 use Rattle.model.specs.Laid.{laid}
-use Rattle.model.specs.declared.tables.Model.{Model}
+use Rattle.model.specs.declared.stored.Model.{Model}
 use Rattle.action.specs.Acts.{sumPlaces}
 use Rattle.action.specs.declared.act.Acted.{Acted}
 use Rattle.action.specs.declared.act.Acted.the-variants.{Listed, Refused}
@@ -49,13 +49,13 @@ module _ (rows columns : List ℕ) (values : List Float) (w : Work) where
   tested Tests.Accepted out = record { out = out; work = zeroed w }
   tested (Tests.Refused q) out = record { out = record { answer = Refused q; rows = rows; columns = columns; values = values }; work = w }
 
-  unfoldable pub listedOver : Model → Tables → List Word → Out
+  unfoldable pub listedOver : Model → ModelTables → List Word → Out
   listedOver m t bs =
       listing rows columns values
       (answered (generatorRoom m t bs (sumPlaces (w .workWords) (w .workSums)) (entryPlaces w rows columns values)) (length (generatorOf m t bs)))
       (generatorOf m t bs)
 
-  unfoldable pub generate : Model → Tables → List ℕ → ℕ → Generating
+  unfoldable pub generate : Model → ModelTables → List ℕ → ℕ → Generating
   generate m t lanes len = tested (generatorTests m t lanes len w) (listedOver m t (basisOf lanes len))
 
 -- ---- by rows
@@ -83,13 +83,13 @@ module _ (offsets columns : List ℕ) (values : List Float) (w : Work) where
   csrTested (Tests.Refused q) out = record { out = record { answer = Refused q; offsets = offsets; columns = columns; values = values }; work = w }
 
   -- over a basis of n words
-  unfoldable pub csrOver : ℕ → Model → Tables → List Word → CsrOut
+  unfoldable pub csrOver : ℕ → Model → ModelTables → List Word → CsrOut
   csrOver n m t bs =
       byRows n offsets columns values
       (answered (generatorRoom m t bs (sumPlaces (w .workWords) (w .workSums)) (csrPlaces w columns values)) (length (generatorOf m t bs)))
       (generatorOf m t bs)
 
-  unfoldable pub buildCsr : Model → Tables → List ℕ → ℕ → CsrBuilding
+  unfoldable pub buildCsr : Model → ModelTables → List ℕ → ℕ → CsrBuilding
   buildCsr m t lanes len = csrTested (csrTests m t lanes len w offsets) (csrOver len m t (basisOf lanes len))
 
 -- ---- for the functions that work on lent tables

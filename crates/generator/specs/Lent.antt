@@ -15,10 +15,10 @@ use Rattle.refusal.specs.declared.Answer.the-variants.{Accepted, Refused}
 use Rattle.word.specs.Flat.{words}
 use Rattle.word.specs.declared.word.Word.{Word}
 use Rattle.number.specs.Floats.{float0}
-use Rattle.model.specs.Stored.{Tables}
+use Rattle.model.specs.Stored.{ModelTables}
 use Rattle.model.specs.Tested.{counted, lent, whereAny, testModel}
 use Rattle.model.specs.Built.{andThen}
-use Rattle.model.specs.declared.tables.Model.{Model}
+use Rattle.model.specs.declared.stored.Model.{Model}
 use Rattle.action.specs.Counts.{maxWords, rowLanes, insideTo, AllInside}
 use Rattle.columns.specs.Repeats.{firstRepeat}
 
@@ -68,7 +68,7 @@ basisOf lanes len = take len (words lanes)
 
 -- ---- the tests
 -- the model, 8, 9; no words ask for no place
-unfoldable pub tableTests : Model → Tables → List ℕ → ℕ → ℕ → ℕ → ℕ → ℕ → ℕ → Answer
+unfoldable pub tableTests : Model → ModelTables → List ℕ → ℕ → ℕ → ℕ → ℕ → ℕ → ℕ → Answer
 tableTests m t lanes len hIndex jIndex mask heads nexts =
     andThen (testModel m t)
     (counted maxWords len
@@ -84,14 +84,14 @@ tableTests m t lanes len hIndex jIndex mask heads nexts =
 unfoldable pub distinct : List Word → Answer
 distinct ws = cond (ltb (firstRepeat ws) (length ws)) (Refused (RepeatedBasisWord (firstRepeat ws))) Accepted
 
-abbrev pub lentTests : Model → Tables → List ℕ → ℕ → Work → Answer
+abbrev pub lentTests : Model → ModelTables → List ℕ → ℕ → Work → Answer
 lentTests m t lanes len w = tableTests m t lanes len (length (w .hIndex)) (length (w .jIndex)) (length (w .mask)) (length (w .heads)) (length (w .nexts))
 
-unfoldable pub generatorTests : Model → Tables → List ℕ → ℕ → Work → Answer
+unfoldable pub generatorTests : Model → ModelTables → List ℕ → ℕ → Work → Answer
 generatorTests m t lanes len w = andThen (lentTests m t lanes len w) (insideTo len lanes (m .qubits) (distinct (basisOf lanes len)))
 
 -- a matrix by rows needs an offset for each row, and one more
-unfoldable pub csrTests : Model → Tables → List ℕ → ℕ → Work → List ℕ → Answer
+unfoldable pub csrTests : Model → ModelTables → List ℕ → ℕ → Work → List ℕ → Answer
 csrTests m t lanes len w offsets =
     andThen (lentTests m t lanes len w) (lent (suc len) (length offsets) (insideTo len lanes (m .qubits) (distinct (basisOf lanes len))))
 
@@ -101,7 +101,7 @@ stagePlaces w = min (min (length (w .stageRows)) (length (w .stageColumns))) (le
 
 -- ---- for the functions that work on lent tables
 -- a tested model, and places for its index and a mask
-pub record ModelLent (m : Model) (t : Tables) (hIndex jIndex mask : List ℕ) : Type 0 where
+pub record ModelLent (m : Model) (t : ModelTables) (hIndex jIndex mask : List ℕ) : Type 0 where
   pub accepted : testModel m t ≡ Accepted
   pub h-rows : 64 * m .qubits ≤ length hIndex
   pub j-rows : 64 * m .qubits ≤ length jIndex

@@ -17,7 +17,7 @@ use action::words::ROW_LANES;
 use action::words::first_outside;
 use model::lengths::mismatch;
 use model::lengths::where_any;
-use model::tables::Model;
+use model::stored::Model;
 use model::test::test_model;
 use refusal::Answer;
 use refusal::Refusal;

@@ -17,11 +17,11 @@ use crate::tables::places_of;
 use action::act::Acted;
 use columns::repeat::lay_distinct;
 use csr_build::sort_rows;
-use model::tables::Model;
+use model::stored::Model;
 use model::test::smaller;
 use refusal::Answer;
 use refusal::Refusal;
-use table::clear::clear_lanes;
+use sums::clear::clear_lanes;
 use word::flat::WORD_LANES;
 
 // What is staged, by rows; or the refusal at which the columns stopped. The work table is zero

@@ -15,11 +15,11 @@ ghost use Rattle.columns.specs.Stages.{BasisReady, StageRoom, Stages};
 ghost use Rattle.generator.specs.Lent.{ModelLent};
 use action::act::Acted;
 use columns::stage::stage_columns as stage_all;
-use kernel::indexed::index_model;
-use model::tables::Model;
+use rules_by_index::indexed::index_model;
+use model::stored::Model;
 use model::test::smaller;
-use table::clear::clear_lanes;
-use table::clear::clear_numbers;
+use sums::clear::clear_lanes;
+use sums::clear::clear_numbers;
 use word::flat::WORD_LANES;
 
 pub fn gather(

@@ -18,11 +18,11 @@ use crate::tables::copy_values;
 use crate::tables::places_of;
 use action::act::Acted;
 use columns::repeat::lay_distinct;
-use model::tables::Model;
+use model::stored::Model;
 use model::test::smaller;
 use refusal::Answer;
 use refusal::Refusal;
-use table::clear::clear_lanes;
+use sums::clear::clear_lanes;
 use word::flat::WORD_LANES;
 
 // What is staged, listed; or the refusal at which the columns stopped.

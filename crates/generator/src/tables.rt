@@ -9,7 +9,7 @@ ghost use lib.ListN.{length, take, set, replicate};
 ghost use Rattle.number.specs.Floats.{float0};
 ghost use Rattle.model.specs.Laid.{laid};
 use model::test::smaller;
-use table::clear::clear_numbers;
+use sums::clear::clear_numbers;
 
 fn clear_places(t: &mut [u32])
     ensures { λ _. ⌜ now (t .exit) ≡ replicate (length (now (t .entry))) 0 ⌝ }

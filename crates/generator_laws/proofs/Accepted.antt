@@ -19,9 +19,9 @@ use Rattle.refusal.specs.declared.Answer.the-variants as Tests
 use Rattle.word.specs.declared.word.Word.{Word}
 use Rattle.word.specs.Flat.{words}
 use Rattle.word.proofs.FlatLaws.{words-high}
-use Rattle.model.specs.Stored.{Tables}
+use Rattle.model.specs.Stored.{ModelTables}
 use Rattle.model.specs.Tested.{firstTo, testModel}
-use Rattle.model.specs.declared.tables.Model.{Model}
+use Rattle.model.specs.declared.stored.Model.{Model}
 use Rattle.model.proofs.Firsts.{first-inside}
 use Rattle.model.proofs.BuildLaws.{passed, both, lent-passed}
 use Rattle.action.specs.Acts.{sumPlaces}
@@ -52,14 +52,14 @@ differ bs e =
     let i = first-inside (length bs) (repeatsAt bs) in
     omega (arith, l, i)
 
-generator-passed : (m : Model) (t : Tables) (lanes : List ℕ) (len : ℕ) (w : Work) → generatorTests m t lanes len w ≡ Tests.Accepted → (testModel m t ≡ Tests.Accepted) × (distinct (basisOf lanes len) ≡ Tests.Accepted)
+generator-passed : (m : Model) (t : ModelTables) (lanes : List ℕ) (len : ℕ) (w : Work) → generatorTests m t lanes len w ≡ Tests.Accepted → (testModel m t ≡ Tests.Accepted) × (distinct (basisOf lanes len) ≡ Tests.Accepted)
 unfolding generatorTests
 generator-passed m t lanes len w e =
     let a = both (lentTests m t lanes len w) _ e in
     let p = tables-passed m t lanes len (length (w .hIndex)) (length (w .jIndex)) (length (w .mask)) (length (w .heads)) (length (w .nexts)) (a .0) in
     (p .model, inside-after len lanes (m .qubits) (distinct (basisOf lanes len)) (a .1))
 
-csr-passed : (m : Model) (t : Tables) (lanes : List ℕ) (len : ℕ) (w : Work) (offsets : List ℕ) → csrTests m t lanes len w offsets ≡ Tests.Accepted → (len < length offsets) × (distinct (basisOf lanes len) ≡ Tests.Accepted) × (length (basisOf lanes len) ≡ len) × (testModel m t ≡ Tests.Accepted) × (len ≤ maxWords)
+csr-passed : (m : Model) (t : ModelTables) (lanes : List ℕ) (len : ℕ) (w : Work) (offsets : List ℕ) → csrTests m t lanes len w offsets ≡ Tests.Accepted → (len < length offsets) × (distinct (basisOf lanes len) ≡ Tests.Accepted) × (length (basisOf lanes len) ≡ len) × (testModel m t ≡ Tests.Accepted) × (len ≤ maxWords)
 unfolding csrTests
 csr-passed m t lanes len w offsets e =
     let a = both (lentTests m t lanes len w) _ e in
@@ -69,13 +69,13 @@ csr-passed m t lanes len w offsets e =
 
 -- ---- the generator
 -- what an accepted call shows
-pub record Listing (m : Model) (t : Tables) (bs : List Word) (out : Out) (n : ℕ) : Type 0 where
+pub record Listing (m : Model) (t : ModelTables) (bs : List Word) (out : Out) (n : ℕ) : Type 0 where
   pub model-passes : testModel m t ≡ Tests.Accepted
   pub words-differ : firstRepeat bs ≡ length bs
   pub size : n ≡ length (generatorOf m t bs)
   pub entries-are : stagedEntries (out .answer) (out .rows) (out .columns) (out .values) ≡ generatorOf m t bs
 
-module _ (rows columns : List ℕ) (values : List Float) (w : Work) (m : Model) (t : Tables) where
+module _ (rows columns : List ℕ) (values : List Float) (w : Work) (m : Model) (t : ModelTables) where
   over-listed : (bs : List Word) (n : ℕ) → testModel m t ≡ Tests.Accepted → firstRepeat bs ≡ length bs → listedOver rows columns values w m t bs .answer ≡ Listed n → Listing m t bs (listedOver rows columns values w m t bs) n
   unfolding listedOver
   over-listed bs n passes d e = go (generatorRoom m t bs (sumPlaces (w .workWords) (w .workSums)) (entryPlaces w rows columns values)) refl e
@@ -100,7 +100,7 @@ module _ (rows columns : List ℕ) (values : List Float) (w : Work) (m : Model) 
 
 -- ---- by rows
 -- what an accepted call shows: its tables before it, and places for all
-pub record RowListing (m : Model) (t : Tables) (bs : List Word) (len : ℕ) (out : CsrOut) (n : ℕ) : Type 0 where
+pub record RowListing (m : Model) (t : ModelTables) (bs : List Word) (len : ℕ) (out : CsrOut) (n : ℕ) : Type 0 where
   pub model-passes : testModel m t ≡ Tests.Accepted
   pub words-differ : firstRepeat bs ≡ length bs
   pub rows-all : length bs ≡ len
@@ -114,7 +114,7 @@ pub record RowListing (m : Model) (t : Tables) (bs : List Word) (len : ℕ) (out
   pub values-long : length (generatorOf m t bs) ≤ length values₀
   pub is : out ≡ byRows len offsets₀ columns₀ values₀ (Listed (length (generatorOf m t bs))) (generatorOf m t bs)
 
-module _ (offsets columns : List ℕ) (values : List Float) (w : Work) (m : Model) (t : Tables) where
+module _ (offsets columns : List ℕ) (values : List Float) (w : Work) (m : Model) (t : ModelTables) where
   over-rows : (len : ℕ) (bs : List Word) (n : ℕ) → testModel m t ≡ Tests.Accepted → firstRepeat bs ≡ length bs → length bs ≡ len → len ≤ maxWords → len < length offsets → csrOver offsets columns values w len m t bs .answer ≡ Listed n → RowListing m t bs len (csrOver offsets columns values w len m t bs) n
   unfolding csrOver
   over-rows len bs n passes d b s l e = go (generatorRoom m t bs (sumPlaces (w .workWords) (w .workSums)) (csrPlaces w columns values)) refl e

@@ -14,9 +14,9 @@ use Rattle.word.specs.declared.word.Word.{Word}
 use Rattle.order.specs.Merge.{AllBelow}
 use Rattle.order.specs.Places.{isAmong}
 use Rattle.refusal.specs.declared.Answer.the-variants.{Accepted}
-use Rattle.model.specs.Stored.{Tables}
+use Rattle.model.specs.Stored.{ModelTables}
 use Rattle.model.specs.Tested.{testModel}
-use Rattle.model.specs.declared.tables.Model.{Model}
+use Rattle.model.specs.declared.stored.Model.{Model}
 use Rattle.action.specs.Acts.{actionOf}
 use Rattle.action.specs.declared.act.Acted.the-variants.{Listed}
 use Rattle.columns.specs.Entries.{Entry, entry}
@@ -33,7 +33,7 @@ use Rattle.generator_laws.proofs.Accepted.{Listing, generator-accepted,
 use Rattle.generator_laws.proofs.RowEntries.{in-row, from-row, row-columns}
 use Rattle.generator_laws.proofs.Growth.{Exact, row-reached, reached-row}
 
-listing-exact : (m : Model) (t : Tables) (bs : List Word) (out : Out) (n : ℕ) → Listing m t bs out n → Exact m t bs (Lists out)
+listing-exact : (m : Model) (t : ModelTables) (bs : List Word) (out : Out) (n : ℕ) → Listing m t bs out n → Exact m t bs (Lists out)
 unfolding Lists
 listing-exact m t bs out n l = record {
   differ = l .words-differ;
@@ -41,7 +41,7 @@ listing-exact m t bs out n l = record {
   held = λ r c v h k. subst (Member (entry r c v)) (l .entries-are) k;
 }
 
-module _ (m : Model) (t : Tables) (bs : List Word) (len : ℕ) (out : CsrOut) (n : ℕ) (l : RowListing m t bs len out n) where
+module _ (m : Model) (t : ModelTables) (bs : List Word) (len : ℕ) (out : CsrOut) (n : ℕ) (l : RowListing m t bs len out n) where
   below : AllBelow len (rowsOf (generatorOf m t bs))
   below = rw (← (l .rows-all)) (rows-below m t bs)
 
@@ -58,7 +58,7 @@ module _ (m : Model) (t : Tables) (bs : List Word) (len : ℕ) (out : CsrOut) (n
   rows-part r h = rw (l .is) (row-columns len (length (generatorOf m t bs)) (generatorOf m t bs) below (l .offsets₀) (l .columns₀) (l .values₀) (l .offsets-long) (l .columns-long) (l .values-long) r h)
 
 -- ---- the generator
-module _ (rows columns : List ℕ) (values : List Float) (w : Work) (m : Model) (t : Tables) (lanes : List ℕ) (len n : ℕ) (accepted : generate rows columns values w m t lanes len .out .answer ≡ Listed n) where
+module _ (rows columns : List ℕ) (values : List Float) (w : Work) (m : Model) (t : ModelTables) (lanes : List ℕ) (len n : ℕ) (accepted : generate rows columns values w m t lanes len .out .answer ≡ Listed n) where
   pub generator-model : testModel m t ≡ Accepted
   generator-model = generator-accepted rows columns values w m t lanes len n accepted .model-passes
 
@@ -74,7 +74,7 @@ module _ (rows columns : List ℕ) (values : List Float) (w : Work) (m : Model) 
   reached-generator-row v e r = reached-row m t (basisOf lanes len) (Lists (generate rows columns values w m t lanes len .out)) generator-exact v e r
 
 -- ---- the matrix by rows
-module _ (offsets columns : List ℕ) (values : List Float) (w : Work) (m : Model) (t : Tables) (lanes : List ℕ) (len n : ℕ) (accepted : buildCsr offsets columns values w m t lanes len .out .answer ≡ Listed n) where
+module _ (offsets columns : List ℕ) (values : List Float) (w : Work) (m : Model) (t : ModelTables) (lanes : List ℕ) (len n : ℕ) (accepted : buildCsr offsets columns values w m t lanes len .out .answer ≡ Listed n) where
   listed : RowListing m t (basisOf lanes len) len (buildCsr offsets columns values w m t lanes len .out) n
   listed = csr-accepted offsets columns values w m t lanes len n accepted
 

@@ -19,9 +19,9 @@ use Rattle.order.specs.Places.{isAmong}
 use Rattle.slots.specs.Slots.{lastOf}
 use Rattle.slots.proofs.SlotLaws.{holds}
 use Rattle.slots.proofs.PlaceLaws.{last-after}
-use Rattle.model.specs.Stored.{Tables}
+use Rattle.model.specs.Stored.{ModelTables}
 use Rattle.model.specs.Given.{Term}
-use Rattle.model.specs.declared.tables.Model.{Model}
+use Rattle.model.specs.declared.stored.Model.{Model}
 use Rattle.action.specs.Acts.{actionOf}
 use Rattle.columns.specs.Entries.{entry}
 use Rattle.columns.specs.Columns.{placeIn, generatorOf}
@@ -49,7 +49,7 @@ at-among bs w r h e =
     sym (holds w bs) ∙ ap not (ne-eqb (lastOf w bs (length bs)) 0 (λ z. omega (arith, a, z)))
 
 -- ---- tables that hold exactly the entries of the generator
-pub record Exact (m : Model) (t : Tables) (bs : List Word) (has : ℕ → ℕ → Float → Type 0) : Type 0 where
+pub record Exact (m : Model) (t : ModelTables) (bs : List Word) (has : ℕ → ℕ → Float → Type 0) : Type 0 where
   pub differ : firstRepeat bs ≡ length bs
   pub hold : (r c : ℕ) (v : Float) → r < length bs → Member (entry r c v) (generatorOf m t bs) → has r c v
   pub held : (r c : ℕ) (v : Float) → r < length bs → has r c v → Member (entry r c v) (generatorOf m t bs)
@@ -61,7 +61,7 @@ record Linked (act : Word → List Term) (p q : Word) (v : Float) : Type 0 where
   pub word-is : term .word ≡ p
   pub value : v ≡ term .num .re
 
-module _ (m : Model) (t : Tables) (bs : List Word) (has : ℕ → ℕ → Float → Type 0) (x : Exact m t bs has) where
+module _ (m : Model) (t : ModelTables) (bs : List Word) (has : ℕ → ℕ → Float → Type 0) (x : Exact m t bs has) where
   module _ (p q : Word) (v : Float) where
     linked : Between bs has p q v → Linked (actionOf m t) p q v
     linked b =
@@ -106,7 +106,7 @@ relinked : (act act′ : Word → List Term) → ((q : Word) → act q ≡ act�
 relinked act act′ same p q v l = record { term = l .term; listed = subst (Member (l .term)) (same q) (l .listed); word-is = l .word-is; value = l .value }
 
 -- over models that act alike
-pub growth : (m m′ : Model) (t t′ : Tables) → ((q : Word) → actionOf m t q ≡ actionOf m′ t′ q) → (bs bs′ : List Word) (has has′ : ℕ → ℕ → Float → Type 0)
+pub growth : (m m′ : Model) (t t′ : ModelTables) → ((q : Word) → actionOf m t q ≡ actionOf m′ t′ q) → (bs bs′ : List Word) (has has′ : ℕ → ℕ → Float → Type 0)
     → Exact m t bs has → Exact m′ t′ bs′ has′ → Grown bs bs′ → Unchanged bs has bs′ has′
 growth m m′ t t′ same bs bs′ has has′ x x′ g = record {
   kept = λ p q v hp hq b. between m′ t′ bs′ has′ x′ p q v (g p hp) (g q hq) (relinked (actionOf m t) (actionOf m′ t′) same p q v (linked m t bs has x p q v b));

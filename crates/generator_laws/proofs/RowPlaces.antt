@@ -12,8 +12,8 @@ use lib.ListN.{length, getD, take, length-map, List·getD-map}
 use Rattle.word.specs.declared.word.Word.{Word}
 use Rattle.order.specs.Merge.{AllBelow}
 use Rattle.order.proofs.Members.{all-at}
-use Rattle.model.specs.Stored.{Tables}
-use Rattle.model.specs.declared.tables.Model.{Model}
+use Rattle.model.specs.Stored.{ModelTables}
+use Rattle.model.specs.declared.stored.Model.{Model}
 use Rattle.action.specs.Acts.{actionOf}
 use Rattle.action.specs.declared.act.Acted.the-variants.{Listed}
 use Rattle.columns.specs.Entries.{Entry}
@@ -79,7 +79,7 @@ pub record StartsAt (n : ℕ) (E : List Entry) (i : ℕ) : Type 0 where
   pub below : row < n
   pub is : startOf E row ≡ i
 
-module _ (m : Model) (t : Tables) (bs : List Word) (n i : ℕ) (low : i < startOf (generatorOf m t bs) n) where
+module _ (m : Model) (t : ModelTables) (bs : List Word) (n i : ℕ) (low : i < startOf (generatorOf m t bs) n) where
   abbrev entries : List Entry
   entries = generatorOf m t bs
 

@@ -19,18 +19,18 @@ use Rattle.word.specs.declared.word.Word.{Word}
 use Rattle.number.specs.Floats.{floats}
 use Rattle.gksl.specs.Rules.{clashOver}
 use Rattle.gksl.specs.Words.{pauli}
-use Rattle.model.specs.Stored.{Tables, jumpAt}
+use Rattle.model.specs.Stored.{ModelTables, jumpAt}
 use Rattle.model.specs.Tested.{badJump, inside, width}
 use Rattle.model.specs.Given.{Term}
 use Rattle.model.specs.Product.{termsIn}
-use Rattle.model.specs.declared.tables.Model.{Model}
-use Rattle.model.specs.declared.tables.Range.{Range}
-use Rattle.model.specs.declared.tables.Jump.{Jump}
-use Rattle.model.specs.declared.tables.Jump.the-variants.{Pauli, General, Pair}
+use Rattle.model.specs.declared.stored.Model.{Model}
+use Rattle.model.specs.declared.stored.Range.{Range}
+use Rattle.model.specs.declared.stored.Jump.{Jump}
+use Rattle.model.specs.declared.stored.Jump.the-variants.{Pauli, General, Pair}
 use Rattle.model_laws.specs.Every.{Every}
 use Rattle.model_laws.specs.Stands.{Stands}
 use Rattle.model_laws.proofs.JumpTests.{both}
-use Rattle.rules.specs.Adds.{upTo, jumpsIn, jumpAdds, pairAdds, gatherJumps}
+use Rattle.rules_by_scan.specs.Adds.{upTo, jumpsIn, jumpAdds, pairAdds, gatherJumps}
 
 -- ---- a list by its places
 pub read-same : {A : Type 0} (f g : ℕ → A) (k n : ℕ) → ((i : ℕ) → k ≤ i → i < k + n → f i ≡ g i) → map f (upTo k n) ≡ map g (upTo k n)
@@ -50,7 +50,7 @@ gathered-same f g P h [] e = refl
 gathered-same f g P h (j ∷ J) e = ap₂ (λ (a b : List Term). a ++ b) (h j (e .0)) (gathered-same f g P h J (e .1))
 
 -- ---- over tables u that hold the same first n terms as t
-module _ (p : Word) (t u : Tables) (n : ℕ)
+module _ (p : Word) (t u : ModelTables) (n : ℕ)
     (terms : (s e : ℕ) → s ≤ e → e ≤ n → termsIn (u .tWords) (u .tNumbers) s e ≡ termsIn (t .tWords) (t .tNumbers) s e)
     (word : (i : ℕ) → i < n → getD (words (u .tWords)) i identity ≡ getD (words (t .tWords)) i identity) where
   range-kept : (r : Range) → inside n r ≡ true → termsIn (u .tWords) (u .tNumbers) (r .start) (r .end) ≡ termsIn (t .tWords) (t .tNumbers) (r .start) (r .end)
@@ -81,7 +81,7 @@ module _ (p : Word) (t u : Tables) (n : ℕ)
       ) refl
 
 -- ---- the jumps and pairs of a model that stands
-module _ (p : Word) (m : Model) (t u : Tables) (s : Stands m t)
+module _ (p : Word) (m : Model) (t u : ModelTables) (s : Stands m t)
     (terms : (b e : ℕ) → b ≤ e → e ≤ m .terms → termsIn (u .tWords) (u .tNumbers) b e ≡ termsIn (t .tWords) (t .tNumbers) b e)
     (word : (i : ℕ) → i < m .terms → getD (words (u .tWords)) i identity ≡ getD (words (t .tWords)) i identity) where
   abbrev Fits : Jump → Type 0

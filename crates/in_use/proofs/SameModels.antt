@@ -21,25 +21,25 @@ use Rattle.gksl.specs.Model.{RealTerm}
 use Rattle.gksl.specs.Rules.{termsOver}
 use Rattle.gksl.specs.Table.{putAllOver}
 use Rattle.gksl.specs.Words.{pauli}
-use Rattle.table.specs.Numbers.{complexes}
-use Rattle.table.specs.Sums.{rows, row}
-use Rattle.model.specs.Stored.{Tables, kindAt, jumpAt, given}
+use Rattle.sums.specs.Numbers.{complexes}
+use Rattle.sums.specs.Sums.{rows, row}
+use Rattle.model.specs.Stored.{ModelTables, kindAt, jumpAt, given}
 use Rattle.model.specs.Tested.{testModel, badJump}
 use Rattle.model.specs.Given.{Term}
 use Rattle.model.specs.Product.{termsIn}
-use Rattle.model.specs.declared.tables.Model.{Model}
-use Rattle.model.specs.declared.tables.Jump.{Jump}
+use Rattle.model.specs.declared.stored.Model.{Model}
+use Rattle.model.specs.declared.stored.Jump.{Jump}
 use Rattle.model.proofs.Parts.{take-complexes}
 use Rattle.model_laws.specs.Stands.{numberAt, GoodReal, GoodTerm, InRange, Stands}
 use Rattle.model_laws.proofs.LaidLaws.{kind-same, jump-same}
 use Rattle.model_laws.proofs.StandsLaws.{tested-stands, stands-tested}
-use Rattle.rules.specs.Adds.{realAt, realsIn, jumpsIn, jumpAdds, pairAdds, gatherJumps, rulesStored}
+use Rattle.rules_by_scan.specs.Adds.{realAt, realsIn, jumpsIn, jumpAdds, pairAdds, gatherJumps, rulesStored}
 use Rattle.action.specs.Acts.{listed, sumsOf, actionOf}
 use Rattle.in_use.specs.InUse.{SameModel}
 use Rattle.in_use.proofs.Firsts.{same-at, same-long, same-part}
 use Rattle.in_use.proofs.KeptItems.{read-same, jumps-kept, pairs-kept}
 
-pub same-back : (m : Model) (t t′ : Tables) → SameModel m t t′ → SameModel m t′ t
+pub same-back : (m : Model) (t t′ : ModelTables) → SameModel m t t′ → SameModel m t′ t
 same-back m t t′ s = record { h-words = sym (s .h-words); h-coeffs = sym (s .h-coeffs); jumps = sym (s .jumps); rates = sym (s .rates); t-words = sym (s .t-words); t-numbers = sym (s .t-numbers) }
 
 -- ---- the rows that two lists side by side make
@@ -50,7 +50,7 @@ rows-first (suc k) [] b = refl
 rows-first (suc k) (w ∷ a) [] = refl
 rows-first (suc k) (w ∷ a) (z ∷ b) = ap (λ (r : List Term). row w z ∷ r) (rows-first k a b)
 
-module _ (m : Model) (t t′ : Tables) (same : SameModel m t t′) where
+module _ (m : Model) (t t′ : ModelTables) (same : SameModel m t t′) where
   -- ---- item by item
   real-same : (i : ℕ) → i < m .hamiltonian → realAt t i ≡ realAt t′ i
   real-same i h =
@@ -76,7 +76,7 @@ module _ (m : Model) (t t′ : Tables) (same : SameModel m t t′) where
       let im = same-at (2 * m .terms) (t .tNumbers) (t′ .tNumbers) (same .t-numbers) (i * 2 + 1) nan (omega arith) in
       λ k. record { re = re k; im = im k }
 
-  abbrev rowsIn : Tables → List Term
+  abbrev rowsIn : ModelTables → List Term
   rowsIn u = rows (words (u .tWords)) (complexes (u .tNumbers))
 
   rows-same : take (m .terms) (rowsIn t) ≡ take (m .terms) (rowsIn t′)

@@ -6,11 +6,11 @@ use Prim.Native.Nat.{_*_}
 use mathlib.Core.Path.{_≡_}
 use lib.ListN.{take}
 use Rattle.word.specs.Flat.{words}
-use Rattle.model.specs.Stored.{Tables, jumpNumbers}
-use Rattle.model.specs.declared.tables.Model.{Model}
+use Rattle.model.specs.Stored.{ModelTables, jumpNumbers}
+use Rattle.model.specs.declared.stored.Model.{Model}
 
 -- the same in the places in use: Hamiltonian terms, jumps and pairs, terms, of two numbers each
-pub record SameModel (m : Model) (t t′ : Tables) : Type 0 where
+pub record SameModel (m : Model) (t t′ : ModelTables) : Type 0 where
   pub h-words : take (m .hamiltonian) (words (t .hWords)) ≡ take (m .hamiltonian) (words (t′ .hWords))
   pub h-coeffs : take (m .hamiltonian) (t .hCoeffs) ≡ take (m .hamiltonian) (t′ .hCoeffs)
   pub jumps : take (jumpNumbers * m .jumps) (t .jumps) ≡ take (jumpNumbers * m .jumps) (t′ .jumps)

@@ -13,7 +13,7 @@ ghost use lib.ListN.{length, getD};
 ghost use Rattle.index.specs.Index.{Marks, United, mark, flag};
 ghost use Rattle.index.specs.Lanes.{laneActs, laneUnites};
 ghost use Rattle.index.specs.Visit.{flagged, left, Steps};
-use table::clear::clear_lanes;
+use sums::clear::clear_lanes;
 use word::word::Word;
 
 // The set bits left to visit: those of rest, in lane `lane`, and those of the lanes after it.

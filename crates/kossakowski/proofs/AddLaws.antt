@@ -15,10 +15,10 @@ use lib.ListN.{length, getD, take, drop, replicate, length-map, length-append, l
 use lib.Seq.{length-take-le}
 use Rattle.refusal.specs.declared.Refusal.the-variants.{TableFull}
 use Rattle.number.specs.Floats.{floats, float0}
-use Rattle.table.specs.Numbers.{complexes}
-use Rattle.model.specs.declared.tables.Model.{Model}
+use Rattle.sums.specs.Numbers.{complexes}
+use Rattle.model.specs.declared.stored.Model.{Model}
 use Rattle.model.specs.declared.spec.Built.the-variants as Answers
-use Rattle.model.specs.Stored.{Tables}
+use Rattle.model.specs.Stored.{ModelTables}
 use Rattle.model.specs.Given.{got, Term, readOperator}
 use Rattle.model.specs.Compiled.{Compiled}
 use Rattle.model.specs.Built.{parts, entriesFrom, termsOf, termPlaces, Building, finished}
@@ -115,7 +115,7 @@ pub operators-stay : (counts lanes lanes′ : List ℕ) (numbers numbers′ : Li
 operators-stay counts lanes lanes′ numbers numbers′ s = ap (parts counts) (terms-stay 256 (256 + total counts) lanes lanes′ numbers numbers′ (omega arith) (s .lanes-stay) (s .numbers-stay))
 
 -- ---- the tables afterwards
-module _ (m : Model) (i : Input) (t : Tables) (workWords : List ℕ) (workNumbers : List Float) where
+module _ (m : Model) (i : Input) (t : ModelTables) (workWords : List ℕ) (workNumbers : List Float) where
   -- what is left of operators and pairs
   abbrev left : List (List Term) → List Compiled → Building
   left As cs =
@@ -143,7 +143,7 @@ module _ (m : Model) (i : Input) (t : Tables) (workWords : List ℕ) (workNumber
   added-none As add-is none l are h words′ numbers′ cw cn =
       rw (cw, cn) (sym (add-is ∙ ap₂ left (are ∙ parts-none (i .counts) l none) (no-pairs As none) ∙ left-none h))
 
-module _ (m : Model) (i : Input) (t : Tables) (workWords : List ℕ) (workNumbers : List Float) (As : List (List Term))
+module _ (m : Model) (i : Input) (t : ModelTables) (workWords : List ℕ) (workNumbers : List Float) (As : List (List Term))
     (add-is : add m i t workWords workNumbers ≡ compiledMatrix m i t workWords workNumbers As) (own : length (allTerms As) ≡ length (i .lengths)) where
   abbrev pairs : List Compiled
   pairs = pairsOf (m .terms) (i .counts) (matrix i) As

@@ -16,7 +16,7 @@ use Rattle.refusal.specs.declared.Answer.the-variants.{Accepted}
 use Rattle.word.specs.Word.{maxQubits}
 use Rattle.number.specs.Numbers.{largestOver}
 use Rattle.number.specs.Floats.{floats, float0}
-use Rattle.model.specs.Stored.{Tables}
+use Rattle.model.specs.Stored.{ModelTables}
 use Rattle.model.specs.Tested.{maxHamiltonian, maxJumps, testModel}
 use Rattle.model.specs.Given.{Term}
 use Rattle.model.specs.Built.{termsOf}
@@ -24,7 +24,7 @@ use Rattle.model.specs.Items.{total}
 use Rattle.model.specs.Product.{termsIn}
 use Rattle.model.specs.Thinned.{LaysTerms, StoreRoom}
 use Rattle.model.specs.Work.{operatorIn, operatorTaken, ReadRoom, TextsFit, JumpsRoom, StoresJumps}
-use Rattle.model.specs.declared.tables.Model.{Model}
+use Rattle.model.specs.declared.stored.Model.{Model}
 use Rattle.model.specs.declared.spec.Built.the-variants as Answers
 use Rattle.model.proofs.BuildLaws.{passed, counted-passed, lent-passed}
 use Rattle.model.proofs.NeedLaws.{need-some}
@@ -38,7 +38,7 @@ use Rattle.kossakowski.proofs.MatrixAccepted.{Accepts}
 use Rattle.kossakowski.proofs.AddLaws.{operators-are, all-are, all-length, counts-few, operators-in, operators-stay, added-none, added-full, added-model}
 
 -- a model that passes its test counts no more terms than there are places
-pub terms-inside : (m : Model) (t : Tables) → testModel m t ≡ Accepted → (m .terms ≤ length (t .tWords) / 4) × (m .terms ≤ length (t .tNumbers) / 2)
+pub terms-inside : (m : Model) (t : ModelTables) → testModel m t ≡ Accepted → (m .terms ≤ length (t .tWords) / 4) × (m .terms ≤ length (t .tNumbers) / 2)
 unfolding testModel
 terms-inside m t e =
     let e1 = passed (ltb maxQubits (m .qubits)) (TooManyQubits (m .qubits) maxQubits) _ e in
@@ -58,7 +58,7 @@ unfolding total
 total-most n [] h = omega arith
 total-most n (k ∷ ns) h = omega (arith, h 0, total-most n ns (λ j. h (suc j)), suc-mul (length ns) n)
 
-module _ (m : Model) (i : Input) (t : Tables) (workWords : List ℕ) (workNumbers : List Float) (a : Accepts m i t workWords workNumbers) where
+module _ (m : Model) (i : Input) (t : ModelTables) (workWords : List ℕ) (workNumbers : List Float) (a : Accepts m i t workWords workNumbers) where
   abbrev own : ℕ
   own = length (i .lengths)
 

@@ -12,12 +12,12 @@ use Rattle.refusal.specs.declared.Refusal.{Refusal}
 use Rattle.refusal.specs.declared.Answer.{Answer}
 use Rattle.refusal.specs.declared.Answer.the-variants.{Accepted, Refused}
 use Rattle.number.specs.Floats.{floats}
-use Rattle.model.specs.Stored.{Tables}
+use Rattle.model.specs.Stored.{ModelTables}
 use Rattle.model.specs.Tested.{maxJumps, testModel}
 use Rattle.model.specs.Given.{Read, got, refused, Term}
 use Rattle.model.specs.Items.{answerOf}
 use Rattle.model.specs.Built.{andThen, Building, refusal, tested, whenRead}
-use Rattle.model.specs.declared.tables.Model.{Model}
+use Rattle.model.specs.declared.stored.Model.{Model}
 use Rattle.model.specs.declared.spec.Built.the-variants as Answers
 use Rattle.model.proofs.BuildLaws.{refused-not, refused-same, both, counted-passed}
 use Rattle.kossakowski.specs.Matrix.{pairPlaces}
@@ -25,7 +25,7 @@ use Rattle.kossakowski.specs.Added.{Input, operators, matrix, maxOperato
 use Rattle.kossakowski.specs.Work.{matrixAnswer}
 use Rattle.kossakowski.proofs.MatrixLengths.{LengthsFit, lengths-fit}
 
-module _ {A : Type 0} (t : Tables) (workWords : List ℕ) (workNumbers : List Float) where
+module _ {A : Type 0} (t : ModelTables) (workWords : List ℕ) (workNumbers : List Float) where
   -- the first refusal is the answer
   stops : (a : Answer) (x : Read A) (b : Answer) (f : A → Building) (r : Refusal) → andThen a (andThen (answerOf x) b) ≡ Refused r
       → tested t workWords workNumbers a (whenRead t workWords workNumbers x (λ As. tested t workWords workNumbers b (f As)))
@@ -47,7 +47,7 @@ module _ {A : Type 0} (t : Tables) (workWords : List ℕ) (workNumbers : List Fl
   all-read (Refused s) x b e = absurd (refused-not s e)
 
 -- ---- what is settled where all tests are passed
-pub record Accepts (m : Model) (i : Input) (t : Tables) (workWords : List ℕ) (workNumbers : List Float) : Type 0 where
+pub record Accepts (m : Model) (i : Input) (t : ModelTables) (workWords : List ℕ) (workNumbers : List Float) : Type 0 where
   pub modelled : testModel m t ≡ Accepted
   pub few : operators i ≤ 64
   pub lengths : LengthsFit m i t workWords workNumbers
@@ -56,7 +56,7 @@ pub record Accepts (m : Model) (i : Input) (t : Tables) (workWords : List ℕ) (
   pub entries-few : m .jumps + length (pairPlaces floats (operators i) (matrix i)) ≤ 4096
   pub add-is : add m i t workWords workNumbers ≡ compiledMatrix m i t workWords workNumbers As
 
-module _ (m : Model) (i : Input) (t : Tables) (workWords : List ℕ) (workNumbers : List Float) where
+module _ (m : Model) (i : Input) (t : ModelTables) (workWords : List ℕ) (workNumbers : List Float) where
   pub matrix-refused : (r : Refusal) → matrixAnswer m i t workWords workNumbers ≡ Refused r
       → add m i t workWords workNumbers ≡ refusal t workWords workNumbers (Answers.Refused r)
   unfolding matrixAnswer add

@@ -18,8 +18,8 @@ use lib.Seq.{drop-cons}
 use Rattle.number.specs.Numbers.{Cx, subC, conjC, zeroC, square, largestFrom}
 use Rattle.number.specs.Floats.{floats}
 use Rattle.gksl.specs.Model.{entryIn}
-use Rattle.table.specs.Numbers.{complexes, noNumber}
-use Rattle.table.proofs.NumberLaws.{complexes-low, complexes-high}
+use Rattle.sums.specs.Numbers.{complexes, noNumber}
+use Rattle.sums.proofs.NumberLaws.{complexes-low, complexes-high}
 use Rattle.model.proofs.Parts.{length-complexes}
 use Rattle.kossakowski.specs.Matrix.{apart, apartAt, skipped, isPair, passing, pairPlaces}
 use Rattle.kossakowski.specs.Work.{Square}

@@ -13,18 +13,18 @@ use lib.Ieee.{Float}
 use lib.ListN.{length}
 use Rattle.refusal.specs.declared.Answer.{Answer}
 use Rattle.refusal.specs.declared.Answer.the-variants.{Accepted}
-use Rattle.model.specs.Stored.{Tables}
+use Rattle.model.specs.Stored.{ModelTables}
 use Rattle.model.specs.Tested.{maxJumps, lent, whereAny}
 use Rattle.model.specs.Given.{maxTerms}
 use Rattle.model.specs.Items.{total}
 use Rattle.model.specs.Built.{partsFit}
-use Rattle.model.specs.declared.tables.Model.{Model}
+use Rattle.model.specs.declared.stored.Model.{Model}
 use Rattle.model.proofs.Parts.{fit-total}
 use Rattle.model.proofs.BuildLaws.{both, equal-passed, lent-passed}
 use Rattle.kossakowski.specs.Added.{Input, operators, entriesNeeded, workNeeded, lengthsAnswer}
 
 -- ---- lengths that agree
-pub record LengthsFit (m : Model) (i : Input) (t : Tables) (workWords : List ℕ) (workNumbers : List Float) : Type 0 where
+pub record LengthsFit (m : Model) (i : Input) (t : ModelTables) (workWords : List ℕ) (workNumbers : List Float) : Type 0 where
   pub entries-all : length (i .k) ≡ 2 * (operators i * operators i)
   pub terms-counted : total (i .counts) ≡ length (i .lengths)
   pub numbers-two : length (i .numbers) ≡ 2 * length (i .lengths)
@@ -34,7 +34,7 @@ pub record LengthsFit (m : Model) (i : Input) (t : Tables) (workWords : List ℕ
   pub work-words-room : workNeeded (operators i) (length (i .lengths)) ≤ length workWords / 4
   pub work-numbers-room : workNeeded (operators i) (length (i .lengths)) ≤ length workNumbers / 2
 
-module _ (m : Model) (i : Input) (t : Tables) (workWords : List ℕ) (workNumbers : List Float) where
+module _ (m : Model) (i : Input) (t : ModelTables) (workWords : List ℕ) (workNumbers : List Float) where
   abbrev terms : ℕ
   terms = length (i .numbers) / 2
 

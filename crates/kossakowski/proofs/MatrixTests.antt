@@ -16,11 +16,11 @@ use Rattle.refusal.specs.declared.Answer.{Answer}
 use Rattle.refusal.specs.declared.Answer.the-variants.{Accepted, Refused}
 use Rattle.word.specs.Word.{maxQubits}
 use Rattle.number.specs.Floats.{floats}
-use Rattle.model.specs.Stored.{Tables, range}
+use Rattle.model.specs.Stored.{ModelTables, range}
 use Rattle.model.specs.Tested.{maxHamiltonian, maxJumps, firstTo, entries, testModel}
 use Rattle.model.specs.Fails.{numberFails, failsIn}
 use Rattle.model.specs.Items.{answerOf}
-use Rattle.model.specs.declared.tables.Model.{Model}
+use Rattle.model.specs.declared.stored.Model.{Model}
 use Rattle.model.proofs.Firsts.{first-cong}
 use Rattle.model.proofs.BuildLaws.{passed, counted-passed}
 use Rattle.kossakowski.specs.Matrix.{apartAt, hermitian, pairPlaces}
@@ -28,7 +28,7 @@ use Rattle.kossakowski.specs.Added.{Input, operators, matrix, lengthsAns
 use Rattle.kossakowski.specs.Work.{matrixAnswer}
 
 -- a model that passes its own test has at most so many jumps
-pub jumps-few : (m : Model) (t : Tables) → testModel m t ≡ Accepted → m .jumps ≤ 4096
+pub jumps-few : (m : Model) (t : ModelTables) → testModel m t ≡ Accepted → m .jumps ≤ 4096
 unfolding testModel
 jumps-few m t e =
     let e1 = passed (ltb maxQubits (m .qubits)) (TooManyQubits (m .qubits) maxQubits) _ e in
@@ -42,7 +42,7 @@ range-first n numbers =
     first-cong n (failsIn (range 0 n) numbers) (numberFails numbers)
     (λ k l. rw (le-leb 0 k (omega arith), lt-ltb k n l))
 
-module _ (m : Model) (i : Input) (t : Tables) (workWords : List ℕ) (workNumbers : List Float) where
+module _ (m : Model) (i : Input) (t : ModelTables) (workWords : List ℕ) (workNumbers : List Float) where
   abbrev places : ℕ
   places = operators i * operators i
 

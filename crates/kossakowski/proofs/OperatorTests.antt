@@ -12,7 +12,7 @@ use lib.Seq.{drop-cons}
 use Rattle.refusal.specs.declared.Refusal.{Refusal}
 use Rattle.refusal.specs.declared.Answer.{Answer}
 use Rattle.refusal.specs.declared.Answer.the-variants.{Accepted, Refused}
-use Rattle.table.specs.Numbers.{complexes}
+use Rattle.sums.specs.Numbers.{complexes}
 use Rattle.model.specs.Given.{each, GivenTerm, readOperator}
 use Rattle.model.specs.Built.{parts, termItems}
 use Rattle.model.specs.Items.{answerOf, total}

@@ -16,9 +16,9 @@ use Rattle.number.specs.declared.scalar.Complex.{Complex}
 use Rattle.gksl.specs.Rules.{pairsOver, formedOver}
 use Rattle.gksl.specs.Table.{withoutOver}
 use Rattle.gksl.specs.Words.{pauli}
-use Rattle.table.specs.Numbers.{complexes, layNumber}
-use Rattle.table.specs.Sums.{rows, table}
-use Rattle.table.proofs.SumLaws.{length-put-all-high}
+use Rattle.sums.specs.Numbers.{complexes, layNumber}
+use Rattle.sums.specs.Sums.{rows, sumRows}
+use Rattle.sums.proofs.SumLaws.{length-put-all-high}
 use mathlib.Core.Bool.{true, false}
 use Rattle.model.specs.Given.{Term}
 use Rattle.model.specs.Compiled.{Compiled}
@@ -28,7 +28,7 @@ use Rattle.model.specs.Stored.{range, entry}
 use Rattle.model.specs.Thinned.{thinned, LaysTerms, StoreRoom, KeepRoom, Keeps}
 use Rattle.model.specs.Work.{JumpRoom, StoresJump}
 use Rattle.model.specs.declared.product.Term as Held
-use Rattle.model.specs.declared.tables.Range.{Range}
+use Rattle.model.specs.declared.stored.Range.{Range}
 use Rattle.model.proofs.ProductLaws.{onto-eq}
 use Rattle.model.proofs.WorkLaws.{terms-none, terms-more, pairs-more}
 use Rattle.model.proofs.StoreLaws.{lays-none, lays-one, lays-append, terms-length, thinned-drops, thinned-keeps, thinned-fewer}
@@ -189,7 +189,7 @@ pub record ScaledState (k : Cx floats) (len at : ℕ) (lanes : List ℕ) (number
   pub high : i ≤ len
   pub lanes-same : length tLanes ≡ length tLanes₀
   pub numbers-same : length tNumbers ≡ length tNumbers₀
-  pub keeps : Keeps (map (scaled k) (thinned (table i lanes numbers))) at tLanes₀ tNumbers₀ place tLanes tNumbers
+  pub keeps : Keeps (map (scaled k) (thinned (sumRows i lanes numbers))) at tLanes₀ tNumbers₀ place tLanes tNumbers
 
 module _ (k : Cx floats) (len at : ℕ) (lanes : List ℕ) (numbers : List Float) (tLanes₀ : List ℕ) (tNumbers₀ : List Float) (room : KeepRoom len lanes numbers at tLanes₀ tNumbers₀) where
   pub scaled-start : ScaledState k len at lanes numbers tLanes₀ tNumbers₀ tLanes₀ tNumbers₀ at 0
@@ -198,7 +198,7 @@ module _ (k : Cx floats) (len at : ℕ) (lanes : List ℕ) (numbers : List Float
 
   module _ (tLanes : List ℕ) (tNumbers : List Float) (place i : ℕ) (s : ScaledState k len at lanes numbers tLanes₀ tNumbers₀ tLanes tNumbers place i) (h : i < len) (t : Term) (e : t ≡ termAt lanes numbers i) where
     abbrev kept : ℕ → List Term
-    kept m = thinned (table m lanes numbers)
+    kept m = thinned (sumRows m lanes numbers)
 
     pub scaled-drops : floats .small (square floats (t .num)) ≡ true → ScaledState k len at lanes numbers tLanes₀ tNumbers₀ tLanes tNumbers place (i + 1)
     scaled-drops f =
@@ -239,10 +239,10 @@ module _ (k : Cx floats) (len at : ℕ) (lanes : List ℕ) (numbers : List Float
           }
 
   pub scaled-done : (tLanes : List ℕ) (tNumbers : List Float) (place i : ℕ) → ScaledState k len at lanes numbers tLanes₀ tNumbers₀ tLanes tNumbers place i → len ≤ i
-      → Keeps (map (scaled k) (thinned (table len lanes numbers))) at tLanes₀ tNumbers₀ place tLanes tNumbers
+      → Keeps (map (scaled k) (thinned (sumRows len lanes numbers))) at tLanes₀ tNumbers₀ place tLanes tNumbers
   scaled-done tLanes tNumbers place i s h =
       let e : i ≡ len = omega (arith, s .high) in
-      subst (λ (m : ℕ). Keeps (map (scaled k) (thinned (table m lanes numbers))) at tLanes₀ tNumbers₀ place tLanes tNumbers) e (s .keeps)
+      subst (λ (m : ℕ). Keeps (map (scaled k) (thinned (sumRows m lanes numbers))) at tLanes₀ tNumbers₀ place tLanes tNumbers) e (s .keeps)
 
 -- ---- the operators of a pair in the work table
 module _ (left right : Range) (lanes : List ℕ) (numbers : List Float) (room : PairRoom left right lanes numbers) where
@@ -267,17 +267,17 @@ module _ (left right : Range) (lanes : List ℕ) (numbers : List Float) (room : 
   -- ---- their product
   module _ (r : ℕ) (lanes′ : List ℕ) (numbers′ : List Float) (forms : Forms (pairsOver floats pauli formedTerm lefts rights) 0 lanes numbers r lanes′ numbers′) where
     abbrev left-over : List Term
-    left-over = thinned (table r lanes′ numbers′)
+    left-over = thinned (sumRows r lanes′ numbers′)
 
     product-is : left-over ≡ formedOver floats pauli lefts rights
     unfolding formedOver formedTerm
     product-is = ap thinned (forms .sums)
 
     pub product-few : r ≤ 256
-    product-few = omega (arith, forms .count, length-put-all-high (pairsOver floats pauli formedTerm lefts rights) (table 0 lanes numbers), many-is formedTerm, many-few)
+    product-few = omega (arith, forms .count, length-put-all-high (pairsOver floats pauli formedTerm lefts rights) (sumRows 0 lanes numbers), many-is formedTerm, many-few)
 
     left-few : length left-over ≤ 256
-    left-few = omega (arith, product-few, without-fewer (λ c. floats .small (square floats (c .num))) (table r lanes′ numbers′), length-take r (rows (words lanes′) (complexes numbers′)))
+    left-few = omega (arith, product-few, without-fewer (λ c. floats .small (square floats (c .num))) (sumRows r lanes′ numbers′), length-take r (rows (words lanes′) (complexes numbers′)))
 
     pub terms-are : (k : Cx floats) (own-left own-right : Range) → many + length left-over ≡ length (compilePair k own-left own-right lefts rights .terms)
     unfolding compilePair
@@ -314,7 +314,7 @@ module _ (left right : Range) (lanes : List ℕ) (numbers : List Float) (room : 
     module _ (tLanes′ : List ℕ) (tNumbers′ : List Float) (lays : LaysTerms (factorsOf k lefts rights) at tLanes tNumbers tLanes′ tNumbers′)
         (r : ℕ) (workLanes : List ℕ) (workNumbers : List Float) (forms : Forms (pairsOver floats pauli formedTerm lefts rights) 0 lanes numbers r workLanes workNumbers) where
       abbrev over : List Term
-      over = thinned (table r workLanes workNumbers)
+      over = thinned (sumRows r workLanes workNumbers)
 
       pub pair-keeps : length workLanes ≡ length lanes → length workNumbers ≡ length numbers → length tLanes′ ≡ length tLanes → length tNumbers′ ≡ length tNumbers
           → KeepRoom r workLanes workNumbers (at + many) tLanes′ tNumbers′

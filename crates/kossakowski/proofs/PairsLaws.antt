@@ -14,8 +14,8 @@ use Rattle.word.specs.Flat.{words}
 use Rattle.number.specs.Numbers.{Cx}
 use Rattle.number.specs.Floats.{floats}
 use Rattle.gksl.specs.Model.{entryIn}
-use Rattle.table.specs.Numbers.{complexes, noNumber}
-use Rattle.table.specs.Sums.{rows}
+use Rattle.sums.specs.Numbers.{complexes, noNumber}
+use Rattle.sums.specs.Sums.{rows}
 use Rattle.model.specs.Given.{Term}
 use Rattle.model.specs.Built.{parts}
 use Rattle.model.specs.Built as Compiling
@@ -23,7 +23,7 @@ use Rattle.model.specs.Compiled.{Compiled}
 use Rattle.model.specs.Items.{total}
 use Rattle.model.specs.Product.{termsOf, PairRoom}
 use Rattle.model.specs.Work.{JumpRoom, StoresJump, JumpsRoom, StoresJumps}
-use Rattle.model.specs.declared.tables.Range.{Range}
+use Rattle.model.specs.declared.stored.Range.{Range}
 use Rattle.model.proofs.Parts.{total-split, total-turn, part-is}
 use Rattle.model.proofs.WorkLaws.{terms-stay}
 use Rattle.model.proofs.JumpsLaws.{terms-turn, terms-end, Storing, storing-start, storing-room, storing-next, storing-done}

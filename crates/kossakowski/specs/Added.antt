@@ -14,15 +14,15 @@ use Rattle.refusal.specs.declared.Answer.the-variants.{Accepted}
 use Rattle.word.specs.Flat.{layWord}
 use Rattle.number.specs.Numbers.{Cx}
 use Rattle.number.specs.Floats.{floats}
-use Rattle.table.specs.Numbers.{complexes, layNumber}
-use Rattle.model.specs.Stored.{Tables}
+use Rattle.sums.specs.Numbers.{complexes, layNumber}
+use Rattle.model.specs.Stored.{ModelTables}
 use Rattle.model.specs.Tested.{maxJumps, counted, lent, whereAny, entries, testModel}
 use Rattle.model.specs.Fails.{numberFails}
 use Rattle.model.specs.Given.{Read, each, GivenTerm, Term, maxTerms, readOperator}
 use Rattle.model.specs.Compiled.{Compiled}
 use Rattle.model.specs.Laid.{laid, layEntry}
 use Rattle.model.specs.Built.{parts, termItems, partsFit, andThen, equal, termPlaces, entriesFrom, termsOf, ratesOf, Building, finished, tested, whenRead}
-use Rattle.model.specs.declared.tables.Model.{Model}
+use Rattle.model.specs.declared.stored.Model.{Model}
 use Rattle.model.specs.declared.spec.Built.the-variants as Answers
 use Rattle.kossakowski.specs.Matrix.{hermitian, pairPlaces}
 use Rattle.kossakowski.specs.Pairs.{pairsOf}
@@ -58,7 +58,7 @@ entriesNeeded m ops = min maxJumps (m .jumps + ops * suc ops / 2)
 abbrev pub workNeeded : ℕ → ℕ → ℕ
 workNeeded ops terms = whereAny ops (256 + min terms (maxTerms * ops))
 
-unfoldable pub lengthsAnswer : Model → Input → Tables → List ℕ → List Float → Answer
+unfoldable pub lengthsAnswer : Model → Input → ModelTables → List ℕ → List Float → Answer
 lengthsAnswer m i t workWords workNumbers =
     let ops : ℕ = operators i in
     let terms : ℕ = length (i .numbers) / 2 in
@@ -84,7 +84,7 @@ allTerms [] = []
 allTerms (A ∷ As) = A ++ allTerms As
 
 -- ---- what adding answers, and the lent tables afterwards
-module _ (m : Model) (i : Input) (t : Tables) (workWords : List ℕ) (workNumbers : List Float) where
+module _ (m : Model) (i : Input) (t : ModelTables) (workWords : List ℕ) (workNumbers : List Float) where
   -- the tests before the operators: the model, 8, 9, 7, 10
   unfoldable pub matrixTests : Answer
   matrixTests =
@@ -99,7 +99,7 @@ module _ (m : Model) (i : Input) (t : Tables) (workWords : List ℕ) (workNumber
   pairsTest = counted maxJumps (m .jumps + length (pairPlaces floats (operators i) (matrix i))) Accepted
 
   -- the operators' terms, then those of each pair
-  unfoldable pub stored : List (List Term) → List Compiled → Tables
+  unfoldable pub stored : List (List Term) → List Compiled → ModelTables
   stored As cs = record {
     hWords = t .hWords;
     hCoeffs = t .hCoeffs;

@@ -14,7 +14,7 @@ use Rattle.model.specs.Stored.{range, entry}
 use Rattle.model.specs.Given.{Term}
 use Rattle.model.specs.Compiled.{Compiled}
 use Rattle.model.specs.Items.{total}
-use Rattle.model.specs.declared.tables.Range.{Range}
+use Rattle.model.specs.declared.stored.Range.{Range}
 use Rattle.kossakowski.specs.Matrix.{pairPlaces}
 
 -- the conjugate of a's number × b's number × K, with b's word

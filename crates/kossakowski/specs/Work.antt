@@ -10,14 +10,14 @@ use lib.ListN.{length, getD, drop}
 use Rattle.refusal.specs.declared.Answer.{Answer}
 use Rattle.number.specs.Numbers.{Cx, largestOver}
 use Rattle.number.specs.Floats.{floats}
-use Rattle.table.specs.Numbers.{complexes}
-use Rattle.model.specs.Stored.{Tables}
+use Rattle.sums.specs.Numbers.{complexes}
+use Rattle.model.specs.Stored.{ModelTables}
 use Rattle.model.specs.Given.{Term}
 use Rattle.model.specs.Built.{parts, andThen}
 use Rattle.model.specs.Items.{answerOf, total}
 use Rattle.model.specs.Product.{termsIn}
-use Rattle.model.specs.declared.tables.Model.{Model}
-use Rattle.model.specs.declared.tables.Range.{Range}
+use Rattle.model.specs.declared.stored.Model.{Model}
+use Rattle.model.specs.declared.stored.Range.{Range}
 use Rattle.kossakowski.specs.Pairs.{compilePair}
 use Rattle.kossakowski.specs.Added.{Input, matrixTests, readOperators, pairsTest}
 
@@ -28,7 +28,7 @@ pub record Square (ops : ℕ) (k : List Float) (largest : Float) : Type 0 where
   pub largest-is : largest ≡ largestOver floats (complexes k)
 
 -- all tests of a matrix but for 13
-unfoldable pub matrixAnswer : Model → Input → Tables → List ℕ → List Float → Answer
+unfoldable pub matrixAnswer : Model → Input → ModelTables → List ℕ → List Float → Answer
 matrixAnswer m i t workWords workNumbers =
     andThen (matrixTests m i t workWords workNumbers)
     (andThen (answerOf (readOperators (m .qubits) i)) (pairsTest m i t workWords workNumbers))

@@ -20,12 +20,12 @@ use model::product::SUM_PLACES;
 use model::spec::Built;
 use model::spec::TERMS_TABLE;
 use model::store::store_terms;
-use model::tables::Model;
+use model::stored::Model;
 use model::test::smaller;
 use refusal::Answer;
 use refusal::Refusal;
-use table::clear::clear_lanes;
-use table::clear::clear_numbers;
+use sums::clear::clear_lanes;
+use sums::clear::clear_numbers;
 use word::flat::WORD_LANES;
 
 // Adds a matrix that was tested. Without operators there is nothing to add and no work place to use.

@@ -8,7 +8,7 @@ ghost use Prim.Native.Nat.{_*_, _<_, _≤_};
 ghost use lib.ListN.{length};
 ghost use Rattle.number.specs.Numbers.{largestOver};
 ghost use Rattle.number.specs.Floats.{floats};
-ghost use Rattle.table.specs.Numbers.{complexes};
+ghost use Rattle.sums.specs.Numbers.{complexes};
 ghost use Rattle.model.specs.Tested.{firstTo};
 ghost use Rattle.kossakowski.specs.Matrix.{apart, apartAt, isPair, pairPlaces};
 ghost use Rattle.kossakowski.specs.Work.{Square};
@@ -18,7 +18,7 @@ use number::scalar::near;
 use number::scalar::negligible_beside;
 use number::scalar::norm_sqr;
 use number::scalar::sub;
-use table::numbers::complex_at;
+use sums::numbers::complex_at;
 
 // The largest squared magnitude of an entry.
 pub fn largest_square(k: &[f64]) -> f64

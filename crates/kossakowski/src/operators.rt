@@ -6,7 +6,7 @@
 ghost use mathlib.Core.Path.{_≡_};
 ghost use Prim.Native.Nat.{_*_, _≤_};
 ghost use lib.ListN.{length};
-ghost use Rattle.table.specs.Numbers.{complexes};
+ghost use Rattle.sums.specs.Numbers.{complexes};
 ghost use Rattle.model.specs.Given.{each, readOperator};
 ghost use Rattle.model.specs.Built.{parts, termItems};
 ghost use Rattle.model.specs.Items.{answerOf, total};

@@ -9,8 +9,8 @@ ghost use mathlib.Core.List.{map};
 ghost use Prim.Native.Nat.{ℕ, _+_, _<_, _≤_};
 ghost use lib.ListN.{length};
 ghost use Rattle.number.specs.Floats.{cx};
-ghost use Rattle.table.specs.Numbers.{complexes};
-ghost use Rattle.table.specs.Sums.{table};
+ghost use Rattle.sums.specs.Numbers.{complexes};
+ghost use Rattle.sums.specs.Sums.{sumRows};
 ghost use Rattle.model.specs.Items.{total};
 ghost use Rattle.model.specs.Product.{onto, termsOf, PairRoom};
 ghost use Rattle.model.specs.Built as Compiled;
@@ -24,15 +24,15 @@ use model::product::Term;
 use model::product::precompute_adag_b;
 use model::product::term_at;
 use model::store::count_kept;
-use model::tables::Range;
-use model::tables::lay_entry;
+use model::stored::Range;
+use model::stored::lay_entry;
 use number::scalar::Complex;
 use number::scalar::conj;
 use number::scalar::mul;
 use number::scalar::negligible;
 use number::scalar::norm_sqr;
-use table::numbers::complex_at;
-use table::numbers::set_complex;
+use sums::numbers::complex_at;
+use sums::numbers::set_complex;
 use word::flat::set_word;
 
 // The conjugate of a's number × b's number × K, with b's word.
@@ -114,7 +114,7 @@ fn store_scaled(
     at: usize,
 ) -> usize
     requires { ⌜ KeepRoom len (now words) (now numbers) at (now «t_words») (now «t_numbers») ⌝ }
-    ensures { λ r. ⌜ Keeps (map (scaled (cx k)) (thinned (table len (now (words .entry)) (now (numbers .entry))))) at (now («t_words» .entry)) (now («t_numbers» .entry)) r (now («t_words» .exit)) (now («t_numbers» .exit)) ⌝ }
+    ensures { λ r. ⌜ Keeps (map (scaled (cx k)) (thinned (sumRows len (now (words .entry)) (now (numbers .entry))))) at (now («t_words» .entry)) (now («t_numbers» .entry)) r (now («t_words» .exit)) (now («t_numbers» .exit)) ⌝ }
 {
     let mut place = at;
     let mut i = 0;

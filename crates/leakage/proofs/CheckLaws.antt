@@ -12,11 +12,11 @@ use Rattle.refusal.specs.declared.Refusal.{Refusal}
 use Rattle.refusal.specs.declared.Refusal.the-variants.{CountAboveLimit, LengthMismatch, NumberOutOfRange}
 use Rattle.refusal.specs.declared.Answer.{Answer}
 use Rattle.refusal.specs.declared.Answer.the-variants.{Accepted, Refused}
-use Rattle.model.specs.Stored.{Tables}
+use Rattle.model.specs.Stored.{ModelTables}
 use Rattle.model.specs.Tested.{lent, whereAny, testModel}
-use Rattle.model.specs.declared.tables.Model.{Model}
+use Rattle.model.specs.declared.stored.Model.{Model}
 use Rattle.action.specs.Counts.{maxWords, rowLanes, insideTo}
-use Rattle.basis.specs.Tests.{finiteTo}
+use Rattle.truncate.specs.Tests.{finiteTo}
 use Rattle.number.specs.Floats.{float0, isFinite}
 use Rattle.leakage.specs.Leakages.{Basis, Work, limitOf, tauOf, limitTests, tauTests, workTests, entryTests, leakTests}
 use Rattle.leakage.specs.declared.limits.Limits.{Limits}
@@ -68,7 +68,7 @@ unfolding workTests
 work-is n len count rows-are row-is slots-are h j k o he ne fh fn w eh ej ek eo ehe ene efh efn = rw (rows-are, row-is, slots-are, eh, ej, ek, eo, ehe, ene, efh, efn)
 
 -- ---- the whole
-module _ (m : Model) (t : Tables) (b : Basis) (l : Limits) (w : Work) where
+module _ (m : Model) (t : ModelTables) (b : Basis) (l : Limits) (w : Work) where
   abbrev tests : Answer
   tests = leakTests m t b l w
 

@@ -13,9 +13,9 @@ use lib.Ieee.{Float}
 use lib.ListN.{length}
 use Rattle.refusal.specs.declared.Refusal.the-variants.{WordOutsideRegister}
 use Rattle.refusal.specs.declared.Answer.the-variants.{Accepted}
-use Rattle.model.specs.Stored.{Tables}
+use Rattle.model.specs.Stored.{ModelTables}
 use Rattle.model.specs.Tested.{whereAny, firstTo, testModel}
-use Rattle.model.specs.declared.tables.Model.{Model}
+use Rattle.model.specs.declared.stored.Model.{Model}
 use Rattle.model.proofs.NeedLaws.{need-some}
 use Rattle.model.proofs.Firsts.{first-before}
 use Rattle.model.proofs.BuildLaws.{passed, both, equal-passed, lent-passed, counted-passed}
@@ -24,7 +24,7 @@ use Rattle.passes.specs.Leaks.{ActionRoom, Holding}
 use Rattle.leakage.specs.Leakages.{Basis, Work, limitTests, workTests, entryTests, leakTests, actionPlaces, rowPlaces, BasisLent, FixedLent}
 use Rattle.leakage.specs.declared.limits.Limits.{Limits}
 
-pub record Passed (m : Model) (t : Tables) (b : Basis) (w : Work) : Type 0 where
+pub record Passed (m : Model) (t : ModelTables) (b : Basis) (w : Work) : Type 0 where
   pub model : testModel m t ≡ Accepted
   pub words-long : b .len ≤ length (b .lanes) / 4
   pub coeffs-long : b .len ≤ length (b .coeffs)
@@ -39,7 +39,7 @@ pub record Passed (m : Model) (t : Tables) (b : Basis) (w : Work) : Type 0 where
   pub fixed-nexts-long : whereAny (b .len) (length (b .protected) / 4) ≤ length (w .fixedNexts)
   pub inside : (k : ℕ) → k < b .len → outsideAt (b .lanes) (m .qubits) k ≡ false
 
-pub leak-passed : (m : Model) (t : Tables) (b : Basis) (l : Limits) (w : Work) → leakTests m t b l w ≡ Accepted → Passed m t b w
+pub leak-passed : (m : Model) (t : ModelTables) (b : Basis) (l : Limits) (w : Work) → leakTests m t b l w ≡ Accepted → Passed m t b w
 unfolding leakTests workTests entryTests insideTo
 leak-passed m t b l w e =
     let count : ℕ = length (b .protected) / 4 in
@@ -81,7 +81,7 @@ leak-passed m t b l w e =
     }
 
 -- ---- what is asked before the passes
-module _ (m : Model) (t : Tables) (b : Basis) (w : Work) (p : Passed m t b w) where
+module _ (m : Model) (t : ModelTables) (b : Basis) (w : Work) (p : Passed m t b w) where
   pub basis-lent : BasisLent (b .len) (b .lanes) (b .coeffs) (w .order) (w .heads) (w .nexts)
   basis-lent = record { lanes-long = p .words-long; coeffs-long = p .coeffs-long; order-long = p .order-long; nexts-long = p .nexts-long; slots-enough = p .heads-long }
 

@@ -19,13 +19,13 @@ use Rattle.order.specs.Magnitudes.{byMagnitude, fallsBefore}
 use Rattle.order.proofs.Members.{all-sort, positions-below}
 use Rattle.candidates.specs.Log.{Rows}
 use Rattle.candidates.proofs.LogLaws.{words-take}
-use Rattle.model.specs.Stored.{Tables}
+use Rattle.model.specs.Stored.{ModelTables}
 use Rattle.model.specs.Given.{Read}
 use Rattle.model.specs.Tested.{whereAny}
-use Rattle.model.specs.declared.tables.Model.{Model}
+use Rattle.model.specs.declared.stored.Model.{Model}
 use Rattle.model.proofs.NeedLaws.{need-is}
 use Rattle.action.specs.Counts.{outsideAt, AllInside}
-use Rattle.kernel.specs.Near.{ModelIndexed}
+use Rattle.rules_by_index.specs.Near.{ModelIndexed}
 use Rattle.passes.specs.Leaks.{passes, passCount, touchedAt, leaksAt, candidatesOf, ModelReady, BasisReady, Took}
 use Rattle.passes.specs.declared.taken.Taken.{Taken}
 use Rattle.leakage.specs.Leakages.{Basis, Work, limitOf, leakCourse, sumPlaces, candidatePlaces, BasisLaid}
@@ -50,7 +50,7 @@ pub some-word : (n : ℕ) (order : List ℕ) → 0 < length (take n order) → 0
 some-word n order h = omega (arith, length-take n order)
 
 -- ---- what the passes ask for
-module _ (m : Model) (t : Tables) (b : Basis) (w : Work) (p : Passed m t b w) where
+module _ (m : Model) (t : ModelTables) (b : Basis) (w : Work) (p : Passed m t b w) where
   abbrev lanes : List ℕ
   lanes = take (b .len * 4) (b .lanes)
 

@@ -15,8 +15,8 @@ use Rattle.word.specs.Flat.{layWord}
 use Rattle.number.specs.Floats.{float0}
 use Rattle.candidates.specs.Log.{Rows}
 use Rattle.refusal.specs.declared.Answer.the-variants as Tests
-use Rattle.model.specs.Stored.{Tables}
-use Rattle.model.specs.declared.tables.Model.{Model}
+use Rattle.model.specs.Stored.{ModelTables}
+use Rattle.model.specs.declared.stored.Model.{Model}
 use Rattle.model.specs.Given.{Read, got, refused}
 use Rattle.model.specs.Laid.{laid}
 use Rattle.action.specs.Acts.{listPlaces}
@@ -61,7 +61,7 @@ pub took-inside : (room : ℕ) (course : Read Rows) (lanes : List ℕ) (sums : L
 took-inside room course lanes sums r k a b = record { inside = λ n e. record { lanes-long = omega (arith, k .held n e .1); sums-long = omega (arith, k .held n e .1); inside = omega arith } }
 
 -- ---- the call
-module _ (outWords : List ℕ) (outValues : List Float) (w : Work) (m : Model) (t : Tables) (b : Basis) (l : Limits) where
+module _ (outWords : List ℕ) (outValues : List Float) (w : Work) (m : Model) (t : ModelTables) (b : Basis) (l : Limits) where
   pub leak-refused : (r : Refusal) → leakTests m t b l w ≡ Tests.Refused r → record { out = record { answer = Refused r; outWords = outWords; outValues = outValues }; work = w } ≡ leak outWords outValues w m t b l
   unfolding leak
   leak-refused r e = rw e

@@ -17,18 +17,18 @@ use Rattle.word.specs.Flat.{words, layWord}
 use Rattle.number.specs.Floats.{float0}
 use Rattle.order.specs.Magnitudes.{byMagnitude}
 use Rattle.slots.specs.Slots.{Slotted}
-use Rattle.candidates.specs.Log.{Rows, table}
-use Rattle.model.specs.Stored.{Tables}
+use Rattle.candidates.specs.Log.{Rows, candidateRows}
+use Rattle.model.specs.Stored.{ModelTables}
 use Rattle.model.specs.Given.{Read, got, refused}
 use Rattle.model.specs.Tested.{counted, lent, whereAny, testModel}
 use Rattle.model.specs.Built.{andThen, equal}
 use Rattle.model.specs.Laid.{laid}
-use Rattle.model.specs.declared.tables.Model.{Model}
+use Rattle.model.specs.declared.stored.Model.{Model}
 use Rattle.action.specs.Acts.{listPlaces}
 use Rattle.action.specs.Counts.{maxWords, rowLanes, insideTo}
 use Rattle.action.specs.declared.act.Acted.{Acted}
 use Rattle.action.specs.declared.act.Acted.the-variants.{Listed, Refused}
-use Rattle.basis.specs.Tests.{finiteTo, finiteThreshold}
+use Rattle.truncate.specs.Tests.{finiteTo, finiteThreshold}
 use Rattle.passes.specs.Leaks.{candidatesOf, above, wordsOf, sumsOf, Holding}
 use Rattle.leakage.specs.declared.limits.Limits.{Limits}
 use Rattle.passes.specs.declared.taken.Taken.{Taken}
@@ -163,7 +163,7 @@ unfoldable pub entryTests : ℕ → Basis → Answer
 entryTests n b = insideTo (b .len) (b .lanes) n (insideTo (length (b .protected) / 4) (b .protected) n (finiteTo 0 (b .len) (b .coeffs) Tests.Accepted))
 
 -- the model, 8, 9, 11, 7
-unfoldable pub leakTests : Model → Tables → Basis → Limits → Work → Answer
+unfoldable pub leakTests : Model → ModelTables → Basis → Limits → Work → Answer
 leakTests m t b l w =
     andThen (testModel m t)
     (counted maxWords (b .len)
@@ -191,7 +191,7 @@ listing tau outWords outValues (got T) =
     (record { answer = Listed (length (above tau T)); outWords = laid layWord 0 (wordsOf (above tau T)) outWords; outValues = laid set 0 (sumsOf (above tau T)) outValues })
 
 -- the candidates after the last pass, of so many basis words
-unfoldable pub leakCourse : Model → Tables → Basis → Limits → Work → Read Rows
+unfoldable pub leakCourse : Model → ModelTables → Basis → Limits → Work → Read Rows
 leakCourse m t b l w =
     candidatesOf m t (take (b .len) (words (b .lanes))) (take (b .len) (b .coeffs)) (words (b .protected)) (sumPlaces w) (candidatePlaces w) (limitOf l - b .len)
 
@@ -205,7 +205,7 @@ module _ (outWords : List ℕ) (outValues : List Float) (w : Work) where
   tested Tests.Accepted out = record { out = out; work = zeroed w }
   tested (Tests.Refused r) out = record { out = record { answer = Refused r; outWords = outWords; outValues = outValues }; work = w }
 
-  unfoldable pub leak : Model → Tables → Basis → Limits → Leaking
+  unfoldable pub leak : Model → ModelTables → Basis → Limits → Leaking
   leak m t b l = tested (leakTests m t b l w) (listing (tauOf l) outWords outValues (leakCourse m t b l w))
 
 -- ---- for the functions that work on lent tables
@@ -273,7 +273,7 @@ zeroedPass w =
 
 -- the candidates that a step left in lent tables
 abbrev pub stepRows : Taken → List ℕ → List Float → Read Rows
-stepRows (Steps.Held n) lanes sums = got (table n lanes sums)
+stepRows (Steps.Held n) lanes sums = got (candidateRows n lanes sums)
 stepRows (Steps.Refused r) lanes sums = refused r
 
 -- as many rows as a step says that it holds

@@ -10,10 +10,10 @@ ghost use Rattle.leakage.specs.Leakages.{limitTests, tauTests, workTests
 use crate::limits::Limits;
 use action::words::MAX_WORDS;
 use action::words::ROW_LANES;
-use basis::checks::check_entries;
+use truncate::checks::check_entries;
 use model::lengths::mismatch;
 use model::lengths::where_any;
-use model::tables::Model;
+use model::stored::Model;
 use model::test::test_model;
 use number::scalar::is_finite;
 use refusal::Answer;

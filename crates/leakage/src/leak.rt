@@ -14,11 +14,11 @@ use crate::limits::word_room;
 use crate::listing::list_candidates;
 use crate::run::run_and_clear;
 use action::act::Acted;
-use kernel::indexed::index_model;
+use rules_by_index::indexed::index_model;
 use model::lengths::where_any;
-use model::tables::Model;
+use model::stored::Model;
 use refusal::Answer;
-use table::clear::clear_lanes;
+use sums::clear::clear_lanes;
 use word::flat::WORD_LANES;
 
 pub fn leakage_with_prune(

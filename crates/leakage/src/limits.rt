@@ -6,7 +6,7 @@ ghost use mathlib.Core.Path.{_≡_};
 ghost use Prim.Native.Nat.{_-_};
 ghost use Rattle.leakage.specs.Leakages.{limitOf, tauOf};
 use action::count::larger_count;
-use basis::checks::room_left;
+use truncate::checks::room_left;
 
 // max_basis, and beside it an admit_basis and a tau_add; each of the two counts where the number before
 // it is not 0.

@@ -3,7 +3,7 @@
 
 // The list after the last pass.
 ghost use mathlib.Core.Path.{_≡_};
-ghost use Rattle.candidates.specs.Log.{table};
+ghost use Rattle.candidates.specs.Log.{candidateRows};
 ghost use Rattle.model.specs.Given.{got};
 ghost use Rattle.passes.specs.Leaks.{Holding};
 ghost use Rattle.leakage.specs.Leakages.{HeldInside, listing, stepRows, tauOf};
@@ -28,7 +28,7 @@ fn list_held(
     out_values: &mut [f64],
 ) -> Acted
     requires { ⌜ Holding n n (now words) (now sums) ⌝ }
-    ensures { λ r. ⌜ record { answer = r; outWords = now («out_words» .exit); outValues = now («out_values» .exit) } ≡ listing «tau_add» (now («out_words» .entry)) (now («out_values» .entry)) (got (table n (now (words .entry)) (now (sums .entry)))) ⌝ }
+    ensures { λ r. ⌜ record { answer = r; outWords = now («out_words» .exit); outValues = now («out_values» .exit) } ≡ listing «tau_add» (now («out_words» .entry)) (now («out_values» .entry)) (got (candidateRows n (now (words .entry)) (now (sums .entry)))) ⌝ }
 {
     let count = count_above(words, sums, n, tau_add);
     let places = smaller(out_words.len() / WORD_LANES, out_values.len());

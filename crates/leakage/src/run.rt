@@ -15,10 +15,10 @@ use crate::clear::clear_rows;
 use crate::clear::clear_three;
 use crate::places::action_places;
 use crate::places::row_places;
-use model::tables::Model;
+use model::stored::Model;
 use passes::passes::run_passes;
 use passes::taken::Taken;
-use table::clear::clear_lanes;
+use sums::clear::clear_lanes;
 
 pub fn run_and_clear(
     m: Model,

@@ -10,9 +10,9 @@ use lib.ListN.{getD, take, drop}
 use Rattle.refusal.specs.declared.Answer.the-variants.{Accepted}
 use Rattle.word.specs.Word.{identity}
 use Rattle.order.specs.Magnitudes.{byMagnitude}
-use Rattle.model.specs.Stored.{Tables}
+use Rattle.model.specs.Stored.{ModelTables}
 use Rattle.model.specs.Tested.{testModel}
-use Rattle.model.specs.declared.tables.Model.{Model}
+use Rattle.model.specs.declared.stored.Model.{Model}
 use Rattle.in_use.specs.InUse.{SameModel}
 use Rattle.in_use.proofs.SameModels.{same-action}
 use Rattle.passes.specs.Leaks.{outside, leaked, largest, passSize, passCount, above}
@@ -20,7 +20,7 @@ use Rattle.leakage.specs.Leakages.{Basis, limitOf, tauOf}
 use Rattle.leakage.specs.declared.limits.Limits.{Limits}
 use Rattle.leakage_laws.specs.Calls.{gathered, leaksOf, stayAfter, listOf, SameBasis}
 
-module _ (m : Model) (t t′ : Tables) (same : SameModel m t t′) (passes : testModel m t ≡ Accepted) (b b′ : Basis) (alike : SameBasis b b′) where
+module _ (m : Model) (t t′ : ModelTables) (same : SameModel m t t′) (passes : testModel m t ≡ Accepted) (b b′ : Basis) (alike : SameBasis b b′) where
   leaks-alike : leaksOf m t b ≡ leaksOf m t′ b′
   leaks-alike = λ i p.
       leaked

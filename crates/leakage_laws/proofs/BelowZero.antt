@@ -18,8 +18,8 @@ use lib.ListN.{length, getD}
 use Rattle.number.specs.Floats.{float0, magnitude, isFinite}
 use Rattle.number.specs.Key.{key, nonneg}
 use Rattle.number.proofs.KeyLaws.{lt-key, magnitude-nonneg, magnitude-fits, magnitude-key}
-use Rattle.truncate.proofs.PruneLaws.{Number}
-use Rattle.basis.proofs.ThresholdLaws.{finite-number}
+use Rattle.keep.proofs.PruneLaws.{Number}
+use Rattle.truncate.proofs.ThresholdLaws.{finite-number}
 use Rattle.candidates.specs.Log.{Rows}
 use Rattle.passes.specs.Leaks.{sumsOf, above, isAbove}
 

@@ -24,22 +24,22 @@ use Rattle.word.proofs.FlatLaws.{words-high}
 use Rattle.word.specs.declared.word.Word.{Word}
 use Rattle.number.specs.Floats.{float0, isFinite}
 use Rattle.number.specs.Key.{key}
-use Rattle.truncate.proofs.PruneLaws.{Number}
+use Rattle.keep.proofs.PruneLaws.{Number}
 use Rattle.candidates.specs.Sums.{Row}
-use Rattle.candidates.specs.Log.{Rows, table}
-use Rattle.model.specs.Stored.{Tables}
+use Rattle.candidates.specs.Log.{Rows, candidateRows}
+use Rattle.model.specs.Stored.{ModelTables}
 use Rattle.model.specs.Given.{Read, got, refused}
 use Rattle.model.specs.Laid.{laid}
 use Rattle.model.specs.Tested.{testModel}
-use Rattle.model.specs.declared.tables.Model.{Model}
+use Rattle.model.specs.declared.stored.Model.{Model}
 use Rattle.model.proofs.BuildLaws.{both, equal-passed, lent-passed, counted-passed}
 use Rattle.in_use.specs.InUse.{SameModel}
 use Rattle.action.specs.Acts.{listPlaces}
 use Rattle.action.specs.Counts.{maxWords}
 use Rattle.action.specs.declared.act.Acted.the-variants.{Listed, Refused}
 use Rattle.model_laws.specs.Every.{Every}
-use Rattle.basis.specs.Tests.{finiteThreshold}
-use Rattle.basis.proofs.ThresholdLaws.{finite-number}
+use Rattle.truncate.specs.Tests.{finiteThreshold}
+use Rattle.truncate.proofs.ThresholdLaws.{finite-number}
 use Rattle.passes.specs.Leaks.{wordsOf, sumsOf, passSize, passCount, above, isAbove}
 use Rattle.leakage.specs.Leakages.{Basis, Work, Out, Leaking, tauOf, limitTests, tauTests, workTests, entryTests, leakTests, listing, leakCourse, sumPlaces, candidatePlaces, leak, tested}
 use Rattle.leakage.specs.declared.limits.Limits.{Limits}
@@ -57,7 +57,7 @@ use Rattle.leakage_laws.proofs.AlikeLaws.{list-alike}
 refused-lists : (q : Refusal) (n : ℕ) → Refused q ≡ Listed n → ⊥
 refused-lists q n e = let z : _≡_ {A = ℕ} 0 1 = cc in omega arith
 
-module _ (outWords : List ℕ) (outValues : List Float) (w : Work) (m : Model) (t : Tables) (b : Basis) (l : Limits) (n : ℕ) where
+module _ (outWords : List ℕ) (outValues : List Float) (w : Work) (m : Model) (t : ModelTables) (b : Basis) (l : Limits) (n : ℕ) where
   -- the candidates left, and their list in the lent tables
   record Accepts : Type 0 where
     tests : leakTests m t b l w ≡ Tests.Accepted
@@ -128,7 +128,7 @@ module _ (outWords : List ℕ) (outValues : List Float) (w : Work) (m : Model) (
         let same : R ≡ listOf m t b l = ap (above (tauOf l)) (course-is .0) in
         let sound = subst (λ (q : Rows). Every Sound (wordsOf q)) (sym same) (list-sound m t b l (tauOf l) (passCount (b .len))) in
         ap (listedBy call) (a .count)
-        ∙ ap₂ (λ (ws : List ℕ) (xs : List Float). table (length R) ws xs) (a .words-laid) (a .values-laid)
+        ∙ ap₂ (λ (ws : List ℕ) (xs : List Float). candidateRows (length R) ws xs) (a .words-laid) (a .values-laid)
         ∙ read-back R outWords outValues sound (a .places)
         ∙ same
 
@@ -166,7 +166,7 @@ module _ (outWords : List ℕ) (outValues : List Float) (w : Work) (m : Model) (
         }
 
 -- ---- the threshold of an accepted call is a number
-tau-tested : (m : Model) (t : Tables) (b : Basis) (l : Limits) (w : Work) → leakTests m t b l w ≡ Tests.Accepted → tauTests (b .len) l ≡ Tests.Accepted
+tau-tested : (m : Model) (t : ModelTables) (b : Basis) (l : Limits) (w : Work) → leakTests m t b l w ≡ Tests.Accepted → tauTests (b .len) l ≡ Tests.Accepted
 unfolding leakTests
 tau-tested m t b l w e =
     let count : ℕ = length (b .protected) / 4 in
@@ -196,7 +196,7 @@ tau-number count l f e = go (eqb (l .«tau_given») 0) e
     go false x = given (isFinite (l .«tau_add»)) refl x
 
 -- ---- tau_add is a threshold: what is listed is larger than what stayed in the last pass and is not
-module _ (m : Model) (t : Tables) (b : Basis) (l : Limits) (fit : TauFits l) (outWords : List ℕ) (outValues : List Float) (w : Work) (n : ℕ) (answers : leak outWords outValues w m t b l .out .answer ≡ Listed n) where
+module _ (m : Model) (t : ModelTables) (b : Basis) (l : Limits) (fit : TauFits l) (outWords : List ℕ) (outValues : List Float) (w : Work) (n : ℕ) (answers : leak outWords outValues w m t b l .out .answer ≡ Listed n) where
   pub leakage-larger : LargerListed (stayAfter m t b l (passCount (b .len))) (listedBy (leak outWords outValues w m t b l) n)
   leakage-larger r s x y not-listed = go (lt tau float0) refl
     where
@@ -237,7 +237,7 @@ module _ (m : Model) (t : Tables) (b : Basis) (l : Limits) (fit : TauFits l) (ou
 
 -- ---- of two accepted calls over at most 4,096 words, alike but for looser limits and whatever places each was lent, the second
 -- lists every word that the first lists, with the same value
-module _ (m : Model) (t : Tables) (b : Basis) (l l′ : Limits) (looser : Looser l l′) where
+module _ (m : Model) (t : ModelTables) (b : Basis) (l l′ : Limits) (looser : Looser l l′) where
   listed-stays : (k : ℕ) → k ≤ 1 → (k ≡ 1 → Ends m t b l 0) → Number (tauOf l) → Number (tauOf l′) → LosesNobody (above (tauOf l) (stayAfter m t b l k)) (above (tauOf l′) (stayAfter m t b l′ k))
   unfolding stayAfter above Member
   listed-stays zero h e n n′ r x = absurd x
@@ -250,7 +250,7 @@ module _ (m : Model) (t : Tables) (b : Basis) (l l′ : Limits) (looser : Looser
       (largest-more r (roomOf b l) (roomOf b l′) R (omega (arith, looser .raised)) (kept .0))
       (above-lower (tauOf l) (tauOf l′) (r .sum) n n′ (looser .lowered) (member-fits r R (held-fits m t b l 0) given) (member-finite r R (ended-finite (roomOf b l) R (stayAfter m t b l 1) (e refl) .1) given) (kept .1))
 
-module _ (m : Model) (t t′ : Tables) (same : SameModel m t t′) (b b′ : Basis) (alike : SameBasis b b′) (few : b .len ≤ passSize) (l l′ : Limits) (looser : Looser l l′) (fit : TauFits l) (fit′ : TauFits l′) where
+module _ (m : Model) (t t′ : ModelTables) (same : SameModel m t t′) (b b′ : Basis) (alike : SameBasis b b′) (few : b .len ≤ passSize) (l l′ : Limits) (looser : Looser l l′) (fit : TauFits l) (fit′ : TauFits l′) where
   pub leakage-loses-nobody : (outWords : List ℕ) (outValues : List Float) (w : Work) (n : ℕ) → leak outWords outValues w m t b l .out .answer ≡ Listed n
       → (outWords′ : List ℕ) (outValues′ : List Float) (w′ : Work) (n′ : ℕ) → leak outWords′ outValues′ w′ m t′ b′ l′ .out .answer ≡ Listed n′
       → LosesNobody (listedBy (leak outWords outValues w m t b l) n) (listedBy (leak outWords′ outValues′ w′ m t′ b′ l′) n′)

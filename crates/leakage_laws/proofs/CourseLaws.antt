@@ -14,9 +14,9 @@ use Rattle.word.specs.Flat.{words}
 use Rattle.order.specs.Magnitudes.{byMagnitude}
 use Rattle.candidates.specs.Sums.{Rising}
 use Rattle.candidates.specs.Log.{Rows}
-use Rattle.model.specs.Stored.{Tables}
+use Rattle.model.specs.Stored.{ModelTables}
 use Rattle.model.specs.Given.{Read, got, refused, onward}
-use Rattle.model.specs.declared.tables.Model.{Model}
+use Rattle.model.specs.declared.stored.Model.{Model}
 use Rattle.passes.specs.Leaks.{takenBy, largest, ended, passSize, passCount, passes, touchedAt, candidatesOf}
 use Rattle.passes.proofs.RoomLaws.{largest-count}
 use Rattle.leakage.specs.Leakages.{Basis}
@@ -24,7 +24,7 @@ use Rattle.leakage.specs.declared.limits.Limits.{Limits}
 use Rattle.leakage_laws.specs.Calls.{basisWords, basisCoeffs, leaksOf, roomOf, passOf, stayAfter, heldIn, LargestStay}
 use Rattle.leakage_laws.proofs.KeepLaws.{roomFlags, flags-each, largest-flagged, largest-first, largest-fits, largest-rising, SumsFit, gathered-fits, gathered-rising, taken-same, no-rows, ended-finite, ended-compared}
 
-module _ (m : Model) (t : Tables) (b : Basis) (l : Limits) where
+module _ (m : Model) (t : ModelTables) (b : Basis) (l : Limits) where
   abbrev room : ℕ
   room = roomOf b l
 

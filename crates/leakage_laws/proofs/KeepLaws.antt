@@ -22,21 +22,21 @@ use Rattle.number.specs.Floats.{floats, magnitude, isFinite}
 use Rattle.number.specs.Key.{nonneg}
 use Rattle.number.proofs.KeyLaws.{magnitude-nonneg, magnitude-fits}
 use Rattle.order.specs.Magnitudes.{byMagnitude, AllFinite, keyAt}
-use Rattle.truncate.specs.Retained.{pick}
-use Rattle.truncate.specs.Chosen.{flagOf, chosen}
-use Rattle.truncate.proofs.FlagLaws.{Kept}
-use Rattle.truncate.proofs.ChosenLaws.{walked-length, chosen-more}
-use Rattle.truncate.proofs.PruneLaws.{Number}
+use Rattle.keep.specs.Retained.{pick}
+use Rattle.keep.specs.Chosen.{flagOf, chosen}
+use Rattle.keep.proofs.FlagLaws.{Kept}
+use Rattle.keep.proofs.ChosenLaws.{walked-length, chosen-more}
+use Rattle.keep.proofs.PruneLaws.{Number}
 use Rattle.candidates.specs.Sums.{Row, row, putOver, putAll, AllAfter, Rising}
 use Rattle.candidates.specs.Log.{Rows, putRow, putRows}
 use Rattle.candidates.proofs.RisingLaws.{rising-rows}
 use Rattle.model.specs.Given.{got, refused, refuseIf}
 use Rattle.model.specs.Tested.{firstTo}
 use Rattle.model.proofs.Firsts.{first-before}
-use Rattle.basis.specs.Tests.{notFinite}
-use Rattle.basis.specs.Admissions.{admitFlags}
-use Rattle.basis.proofs.AdmissionLaws.{larger-first}
-use Rattle.basis.proofs.ThresholdLaws.{finite-number, lower-lt}
+use Rattle.truncate.specs.Tests.{notFinite}
+use Rattle.truncate.specs.Admissions.{admitFlags}
+use Rattle.truncate.proofs.AdmissionLaws.{larger-first}
+use Rattle.truncate.proofs.ThresholdLaws.{finite-number, lower-lt}
 use Rattle.passes.specs.Leaks.{takenBy, sumsOf, largest, ended, isAbove, above}
 use Rattle.leakage_laws.specs.Members.{Member}
 use Rattle.leakage_laws.specs.Calls.{gathered}

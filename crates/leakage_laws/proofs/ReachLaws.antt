@@ -25,14 +25,14 @@ use Rattle.order.specs.Merge.{All, positions}
 use Rattle.order.specs.Magnitudes.{fallsBefore, byMagnitude}
 use Rattle.order.proofs.Fuel.{sort-length}
 use Rattle.order.proofs.Members.{all-sort, all-take, all-drop, all-more, positions-length, positions-below}
-use Rattle.truncate.specs.Retained.{pick}
-use Rattle.truncate.specs.Chosen.{occurrences}
-use Rattle.basis.proofs.OrderOnce.{magnitude-once}
+use Rattle.keep.specs.Retained.{pick}
+use Rattle.keep.specs.Chosen.{occurrences}
+use Rattle.truncate.proofs.OrderOnce.{magnitude-once}
 use Rattle.candidates.specs.Sums.{row, putOver, putAll, AllAfter, Rising}
 use Rattle.candidates.specs.Log.{Rows, putRow, putRows}
-use Rattle.model.specs.Stored.{Tables}
+use Rattle.model.specs.Stored.{ModelTables}
 use Rattle.model.specs.Given.{Term}
-use Rattle.model.specs.declared.tables.Model.{Model}
+use Rattle.model.specs.declared.stored.Model.{Model}
 use Rattle.model_laws.specs.Every.{Every}
 use Rattle.action.specs.Acts.{actionOf}
 use Rattle.passes.specs.Leaks.{outside, leaked, wordsOf, largest, passSize, passCount, above, isAbove}
@@ -45,7 +45,7 @@ use Rattle.leakage_laws.proofs.KeepLaws.{roomFlags}
 use Rattle.leakage_laws.proofs.CourseLaws.{stay-largest, held-rising}
 
 -- no pass drops a candidate
-abbrev pub NoneDropped : Model → Tables → Basis → Limits → Type 0
+abbrev pub NoneDropped : Model → ModelTables → Basis → Limits → Type 0
 NoneDropped m t b l = (k : ℕ) → k < passCount (b .len) → length (heldIn m t b l k) ≤ roomOf b l
 
 module _ (u : Word) where
@@ -197,7 +197,7 @@ module _ (u : Word) where
       go rest false k = inr (rest k)
 
   -- ---- the passes of a call
-  module _ (m : Model) (t : Tables) (b : Basis) (l : Limits) where
+  module _ (m : Model) (t : ModelTables) (b : Basis) (l : Limits) where
     leaks-reached : (p : ℕ) → p < b .len → HasRow (leaksOf m t b p) → Reached m t b u
     leaks-reached p h k =
         let q = leaked-of (outside (basisWords b) (words (b .protected))) (getD (basisCoeffs b) p nan) (actionOf m t (getD (basisWords b) p identity)) k in
@@ -291,7 +291,7 @@ unfolding Has
 every-has P [] h = tt
 every-has P (w ∷ ws) h = (h w (inl refl), every-has P ws (λ v k. h v (inr k)))
 
-module _ (m : Model) (t : Tables) (b : Basis) (l : Limits) (coeffs-long : length (basisCoeffs b) ≡ b .len) where
+module _ (m : Model) (t : ModelTables) (b : Basis) (l : Limits) (coeffs-long : length (basisCoeffs b) ≡ b .len) where
   pub none-dropped : RoomForAll m t b l → NoneDropped m t b l
   none-dropped enough k h =
       let R : Rows = heldIn m t b l k in

@@ -22,14 +22,14 @@ use Rattle.word.proofs.OrderLaws.{same-self}
 use Rattle.word.proofs.WordLaws.{sound-identity}
 use Rattle.number.specs.Floats.{floats}
 use Rattle.order.specs.Places.{isAmong}
-use Rattle.truncate.specs.Retained.{pick}
+use Rattle.keep.specs.Retained.{pick}
 use Rattle.candidates.specs.Sums.{Row, row, putOver, putAll}
-use Rattle.candidates.specs.Log.{Rows, table, putRow, putRows}
+use Rattle.candidates.specs.Log.{Rows, candidateRows, putRow, putRows}
 use Rattle.candidates.proofs.RowLaws.{noRow, table-at, table-long}
-use Rattle.model.specs.Stored.{Tables}
+use Rattle.model.specs.Stored.{ModelTables}
 use Rattle.model.specs.Given.{Term}
 use Rattle.model.specs.Laid.{laid}
-use Rattle.model.specs.declared.tables.Model.{Model}
+use Rattle.model.specs.declared.stored.Model.{Model}
 use Rattle.model_laws.specs.Every.{Every}
 use Rattle.model_laws.proofs.LaidLaws.{laid-length, word-length, set-here, words-here}
 use Rattle.action.specs.Acts.{actionOf, listPlaces}
@@ -47,7 +47,7 @@ row-at (r ∷ R) zero h = refl
 row-at (r ∷ R) (suc i) h = row-at R i (omega arith)
 
 pub read-back : (R : Rows) (outWords : List ℕ) (outValues : List Float) → Every Sound (wordsOf R) → length R ≤ listPlaces outWords outValues
-    → table (length R) (laid layWord 0 (wordsOf R) outWords) (laid set 0 (sumsOf R) outValues) ≡ R
+    → candidateRows (length R) (laid layWord 0 (wordsOf R) outWords) (laid set 0 (sumsOf R) outValues) ≡ R
 read-back R outWords outValues sound room =
     let nw : length (wordsOf R) ≡ length R = length-map R (λ r. r .word) in
     let ns : length (sumsOf R) ≡ length R = length-map R (λ r. r .sum) in
@@ -56,7 +56,7 @@ read-back R outWords outValues sound room =
     let a : 4 * length R ≤ length (laid layWord 0 (wordsOf R) outWords) = omega (arith, lw, room) in
     let c : length R ≤ length (laid set 0 (sumsOf R) outValues) = omega (arith, ls, room) in
     let long = table-long (length R) (laid layWord 0 (wordsOf R) outWords) (laid set 0 (sumsOf R) outValues) a c in
-    ext-getD noRow (table (length R) (laid layWord 0 (wordsOf R) outWords) (laid set 0 (sumsOf R) outValues)) R long
+    ext-getD noRow (candidateRows (length R) (laid layWord 0 (wordsOf R) outWords) (laid set 0 (sumsOf R) outValues)) R long
     (λ i h.
     let l : i < length R = omega (arith, h, long) in
     table-at (length R) (laid layWord 0 (wordsOf R) outWords) (laid set 0 (sumsOf R) outValues) i a c l
@@ -140,7 +140,7 @@ not-outside : (basis protected : List Word) (i : ℕ) → i < length basis → o
 unfolding outside
 not-outside basis protected i h = ap (λ (b : Bool). not b && not (isAmong (getD basis i identity) protected)) (among-at basis i h)
 
-leaks-sound : (m : Model) (t : Tables) (b : Basis) (p : ℕ) → Sounds (leaksOf m t b p)
+leaks-sound : (m : Model) (t : ModelTables) (b : Basis) (p : ℕ) → Sounds (leaksOf m t b p)
 leaks-sound m t b p =
     leaked-sound (outside (basisWords b) (words (b .protected))) (getD (basisWords b) p identity) (own (ltb p (length (basisWords b))) refl) (getD (basisCoeffs b) p nan) (actionOf m t (getD (basisWords b) p identity)) (listed-formed (getD (basisWords b) p identity) m t)
   where
@@ -148,12 +148,12 @@ leaks-sound m t b p =
     own true h e = absurd (holds false (sym (not-outside (basisWords b) (words (b .protected)) p (ltb-true p (length (basisWords b)) h)) ∙ e))
     own false h e = subst Sound (sym (List·getD-eq-default (basisWords b) identity (ltb-false p (length (basisWords b)) h))) sound-identity
 
-stay-sound : (m : Model) (t : Tables) (b : Basis) (l : Limits) (k : ℕ) → Sounds (stayAfter m t b l k)
+stay-sound : (m : Model) (t : ModelTables) (b : Basis) (l : Limits) (k : ℕ) → Sounds (stayAfter m t b l k)
 unfolding stayAfter largest
 stay-sound m t b l zero = tt
 stay-sound m t b l (suc k) =
     let R : Rows = gathered (leaksOf m t b) (passOf b k) (stayAfter m t b l k) in
     pick-sound (roomFlags (roomOf b l) R) R (gathered-sound (leaksOf m t b) (leaks-sound m t b) (passOf b k) (stayAfter m t b l k) (stay-sound m t b l k))
 
-pub list-sound : (m : Model) (t : Tables) (b : Basis) (l : Limits) (tau : Float) (k : ℕ) → Every Sound (wordsOf (above tau (stayAfter m t b l k)))
+pub list-sound : (m : Model) (t : ModelTables) (b : Basis) (l : Limits) (tau : Float) (k : ℕ) → Every Sound (wordsOf (above tau (stayAfter m t b l k)))
 list-sound m t b l tau k = sounds-words (above tau (stayAfter m t b l k)) (above-sound tau (stayAfter m t b l k) (stay-sound m t b l k))

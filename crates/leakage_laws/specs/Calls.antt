@@ -17,12 +17,12 @@ use Rattle.word.specs.declared.word.Word.{Word}
 use Rattle.number.specs.Floats.{float0}
 use Rattle.number.specs.Key.{key}
 use Rattle.order.specs.Magnitudes.{byMagnitude, keyAt}
-use Rattle.truncate.specs.Retained.{pick}
+use Rattle.keep.specs.Retained.{pick}
 use Rattle.candidates.specs.Sums.{Row, Rising}
-use Rattle.candidates.specs.Log.{Rows, table, putRows}
-use Rattle.model.specs.Stored.{Tables}
+use Rattle.candidates.specs.Log.{Rows, candidateRows, putRows}
+use Rattle.model.specs.Stored.{ModelTables}
 use Rattle.model.specs.Given.{Term}
-use Rattle.model.specs.declared.tables.Model.{Model}
+use Rattle.model.specs.declared.stored.Model.{Model}
 use Rattle.model_laws.specs.Every.{Every}
 use Rattle.action.specs.Acts.{actionOf}
 use Rattle.passes.specs.Leaks.{outside, sumsOf, wordsOf, largest, passSize, passCount, above, leaksAt}
@@ -42,7 +42,7 @@ basisWords b = take (b .len) (words (b .lanes))
 abbrev pub basisCoeffs : Basis → List Float
 basisCoeffs b = take (b .len) (b .coeffs)
 
-abbrev pub leaksOf : Model → Tables → Basis → ℕ → Rows
+abbrev pub leaksOf : Model → ModelTables → Basis → ℕ → Rows
 leaksOf m t b = leaksAt m t (basisWords b) (basisCoeffs b) (words (b .protected))
 
 abbrev pub roomOf : Basis → Limits → ℕ
@@ -53,10 +53,10 @@ abbrev pub passOf : Basis → ℕ → List ℕ
 passOf b k = take passSize (drop (k * passSize) (byMagnitude (basisCoeffs b)))
 
 -- pass k on top of what stayed before it
-abbrev pub takePass : Model → Tables → Basis → ℕ → Rows → Rows
+abbrev pub takePass : Model → ModelTables → Basis → ℕ → Rows → Rows
 takePass m t b k R = gathered (leaksOf m t b) (passOf b k) R
 
-module _ (m : Model) (t : Tables) (b : Basis) (l : Limits) where
+module _ (m : Model) (t : ModelTables) (b : Basis) (l : Limits) where
   -- the candidates that stay after so many passes: after each the largest, as many as there is room for
   unfoldable pub stayAfter : ℕ → Rows
   stayAfter zero = []
@@ -72,7 +72,7 @@ module _ (m : Model) (t : Tables) (b : Basis) (l : Limits) where
 
 -- the first n words and values of the list, read from the lent tables afterwards
 abbrev pub listedBy : Leaking → ℕ → Rows
-listedBy k n = table n (k .out .outWords) (k .out .outValues)
+listedBy k n = candidateRows n (k .out .outWords) (k .out .outValues)
 
 -- the room rule of one pass, by a flag for each candidate: as many stay as there is room for, or all; one that stays is at least as
 -- large as one that does not, and the earlier of equals, where candidates stand in word order
@@ -117,17 +117,17 @@ LosesNobody R R′ = (r : Row Word Float) → Member r R → Member r R′
 
 -- ---- reached words
 -- neither in the basis nor protected, and listed by the action on some basis word
-pub record Reached (m : Model) (t : Tables) (b : Basis) (w : Word) : Type 0 where
+pub record Reached (m : Model) (t : ModelTables) (b : Basis) (w : Word) : Type 0 where
   pub is-outside : outside (basisWords b) (words (b .protected)) w ≡ true
   pub position : ℕ
   pub in-basis : position < b .len
   pub by-action : Has w (map (λ (c : Term). c .word) (actionOf m t (getD (basisWords b) position identity)))
 
 -- room for every word that leakage adds to: different words that are reached are never more than there is room for
-abbrev pub RoomForAll : Model → Tables → Basis → Limits → Type 0
+abbrev pub RoomForAll : Model → ModelTables → Basis → Limits → Type 0
 RoomForAll m t b l = (ws : List Word) → Differ ws → Every (Reached m t b) ws → length ws ≤ roomOf b l
 
 -- the words of a list are the reached ones
-pub record ListsReached (m : Model) (t : Tables) (b : Basis) (R : Rows) : Type 0 where
+pub record ListsReached (m : Model) (t : ModelTables) (b : Basis) (R : Rows) : Type 0 where
   pub every : (w : Word) → Has w (wordsOf R) → Reached m t b w
   pub all : (w : Word) → Reached m t b w → Has w (wordsOf R)

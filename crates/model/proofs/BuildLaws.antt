@@ -22,8 +22,8 @@ use Rattle.word.specs.Word.{maxQubits}
 use Rattle.number.specs.Floats.{floats}
 use Rattle.gksl.specs.Model.{RealTerm, JumpOver}
 use Rattle.gksl.specs.Words.{pauli}
-use Rattle.table.specs.Numbers.{complexes}
-use Rattle.model.specs.Stored.{Tables}
+use Rattle.sums.specs.Numbers.{complexes}
+use Rattle.model.specs.Stored.{ModelTables}
 use Rattle.model.specs.Tested.{maxHamiltonian, maxJumps, counted, lent, whereAny}
 use Rattle.model.specs.Given.{Read, got, refused, GivenTerm, GivenJump}
 use Rattle.model.specs.Items.{answerOf, total}
@@ -73,7 +73,7 @@ counted-passed limit count after e =
     (ltb-false limit count (k .0), k .1)
 
 -- ---- lengths that agree, and a lent place for each item
-pub record LengthsFit (i : Input) (t : Tables) (workWords : List ℕ) (workNumbers : List Float) : Type 0 where
+pub record LengthsFit (i : Input) (t : ModelTables) (workWords : List ℕ) (workNumbers : List Float) : Type 0 where
   pub texts-each : length (i .lengths) ≡ length (i .hNumbers) + length (i .numbers) / 2
   pub counts-each : length (i .counts) ≡ length (i .rates)
   pub numbers-even : length (i .numbers) ≡ 2 * (length (i .numbers) / 2)
@@ -86,7 +86,7 @@ pub record LengthsFit (i : Input) (t : Tables) (workWords : List ℕ) (workNumbe
   pub work-words-room : whereAny (length (i .rates)) workPlaces ≤ length workWords / 4
   pub work-numbers-room : whereAny (length (i .rates)) workPlaces ≤ length workNumbers / 2
 
-module _ (i : Input) (t : Tables) (workWords : List ℕ) (workNumbers : List Float) where
+module _ (i : Input) (t : ModelTables) (workWords : List ℕ) (workNumbers : List Float) where
   pub lengths-fit : lengthsAnswer i t workWords workNumbers ≡ Accepted → LengthsFit i t workWords workNumbers
   unfolding lengthsAnswer
   lengths-fit e =
@@ -139,7 +139,7 @@ module _ (i : Input) (t : Tables) (workWords : List ℕ) (workNumbers : List Flo
         omega (arith, f .texts-whole, total-split (length (i .hNumbers)) (i .lengths), length-drop (total (realLengths i)) (i .texts))
 
 -- ---- building
-module _ (n : ℕ) (i : Input) (t : Tables) (workWords : List ℕ) (workNumbers : List Float) where
+module _ (n : ℕ) (i : Input) (t : ModelTables) (workWords : List ℕ) (workNumbers : List Float) where
   -- the tests before the items
   abbrev firstTests : Answer
   firstTests =
@@ -198,7 +198,7 @@ jumps-own i =
     (drop-parts (length (i .hNumbers)) (i .lengths) (i .texts))
 
 -- ---- what is settled where all tests are passed
-pub record Accepts (n : ℕ) (i : Input) (t : Tables) (workWords : List ℕ) (workNumbers : List Float) : Type 0 where
+pub record Accepts (n : ℕ) (i : Input) (t : ModelTables) (workWords : List ℕ) (workNumbers : List Float) : Type 0 where
   pub within : n ≤ 128
   pub few-reals : length (i .hNumbers) ≤ 4096
   pub few-jumps : length (i .rates) ≤ 4096
@@ -212,7 +212,7 @@ pub record Accepts (n : ℕ) (i : Input) (t : Tables) (workWords : List ℕ) (wo
   pub entries-room : 8 * length (i .rates) ≤ length (t .jumps)
   pub rates-room : length (i .rates) ≤ length (t .rates)
 
-module _ (n : ℕ) (i : Input) (t : Tables) (workWords : List ℕ) (workNumbers : List Float) where
+module _ (n : ℕ) (i : Input) (t : ModelTables) (workWords : List ℕ) (workNumbers : List Float) where
   -- counts of at most 16
   module _ (f : LengthsFit i t workWords workNumbers) (js : List (JumpOver floats pauli)) (read : readJumps n i ≡ got js) where
     abbrev terms : List GivenTerm

@@ -15,8 +15,8 @@ use Rattle.refusal.specs.declared.Refusal.the-variants.{TooManyQubits, CountAbo
 use Rattle.refusal.specs.declared.Answer.{Answer}
 use Rattle.refusal.specs.declared.Answer.the-variants.{Accepted, Refused}
 use Rattle.word.specs.Word.{maxQubits}
-use Rattle.table.specs.Numbers.{complexes}
-use Rattle.model.specs.Stored.{Tables}
+use Rattle.sums.specs.Numbers.{complexes}
+use Rattle.model.specs.Stored.{ModelTables}
 use Rattle.model.specs.Given.{each, GivenJump, readReal, readJump}
 use Rattle.model.specs.Items.{answerOf, total}
 use Rattle.model.specs.Built.{Input, parts, realItems, termItems, jumpItems, jumpsGiven, lengthsAnswer, readHamiltonian, readJumps}
@@ -63,7 +63,7 @@ module _ (i : Input) where
         → a ≡ answerOf (readJumps n i)
     jumps-answer sum e is = is ∙ ap (λ (js : List GivenJump). answerOf (each (readJump n) 0 js)) (rest-jumps sum e)
 
-module _ (i : Input) (t : Tables) (workWords : List ℕ) (workNumbers : List Float) (f : LengthsFit i t workWords workNumbers) where
+module _ (i : Input) (t : ModelTables) (workWords : List ℕ) (workNumbers : List Float) (f : LengthsFit i t workWords workNumbers) where
   pub own-each : length (ownLengths i) ≡ length (i .hNumbers)
   own-each = ap length (own-is i) ∙ reals-count i t workWords workNumbers f
 
@@ -78,7 +78,7 @@ module _ (i : Input) (t : Tables) (workWords : List ℕ) (workNumbers : List Flo
       (f .counts-each, terms-counted i t workWords workNumbers f, terms-two i t workWords workNumbers f, terms-texts i t workWords workNumbers f)
 
 -- ---- the tests
-module _ (n : ℕ) (i : Input) (t : Tables) (workWords : List ℕ) (workNumbers : List Float) where
+module _ (n : ℕ) (i : Input) (t : ModelTables) (workWords : List ℕ) (workNumbers : List Float) where
   pub qubits-above : 128 < n → Refused (TooManyQubits n maxQubits) ≡ givenAnswer n i t workWords workNumbers
   unfolding givenAnswer
   qubits-above h = rw (lt-ltb 128 n h)

@@ -5,7 +5,7 @@
 use mathlib.Core.Path.{_≡_, refl}
 use Prim.Native.Nat.{ℕ, zero, suc}
 use Rattle.model.specs.Stored.{byKind}
-use Rattle.model.specs.declared.tables.Jump.{Jump}
+use Rattle.model.specs.declared.stored.Jump.{Jump}
 
 -- neither 0 nor 1
 pub kind-other : (k : ℕ) (a b c : Jump) → (k ≡ 0 → ⊥) → (k ≡ 1 → ⊥) → c ≡ byKind k a b c

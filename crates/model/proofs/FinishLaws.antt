@@ -15,9 +15,9 @@ use Rattle.refusal.specs.declared.Refusal.the-variants.{TableFull}
 use Rattle.number.specs.Floats.{floats, float0}
 use Rattle.gksl.specs.Model.{RealTerm}
 use Rattle.gksl.specs.Words.{pauli}
-use Rattle.model.specs.declared.tables.Model.{Model}
+use Rattle.model.specs.declared.stored.Model.{Model}
 use Rattle.model.specs.declared.spec.Built.the-variants as Answers
-use Rattle.model.specs.Stored.{Tables}
+use Rattle.model.specs.Stored.{ModelTables}
 use Rattle.model.specs.Compiled.{Compiled}
 use Rattle.model.specs.Built.{Input, parts, realItems, jumpItems, termsOf, termPlaces, finished, stored, build}
 use Rattle.model.specs.Items.{total}
@@ -35,7 +35,7 @@ length-reals [] (x ∷ xs) e = absurd (omega (arith, e))
 length-reals (t ∷ ts) [] e = absurd (omega (arith, e))
 length-reals (t ∷ ts) (x ∷ xs) e = ap suc (length-reals ts xs (omega (arith, e)))
 
-module _ (n : ℕ) (i : Input) (t : Tables) (workWords : List ℕ) (workNumbers : List Float) (a : Accepts n i t workWords workNumbers) where
+module _ (n : ℕ) (i : Input) (t : ModelTables) (workWords : List ℕ) (workNumbers : List Float) (a : Accepts n i t workWords workNumbers) where
   abbrev reals : List (RealTerm floats pauli)
   reals = map (realTaken n) (realItems (parts (realLengths i) (i .texts)) (i .hNumbers))
 

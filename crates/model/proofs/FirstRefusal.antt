@@ -13,7 +13,7 @@ use Rattle.refusal.specs.declared.Answer.{Answer}
 use Rattle.refusal.specs.declared.Answer.the-variants.{Accepted, Refused}
 use Rattle.model.specs.Given.{Read, got, refused, onward, each, GivenTerm, readReal, readTerm, readJump}
 use Rattle.model.specs.Built.{parts, realItems, termItems, jumpItems, andThen}
-use Rattle.table.specs.Numbers.{complexes}
+use Rattle.sums.specs.Numbers.{complexes}
 use Rattle.model.specs.Items.{answerOf, total, readTerms}
 use Rattle.model.proofs.Parts.{part-is, rest-is, real-turn, real-end, term-turn, term-end, jump-turn, jump-end}
 

@@ -16,8 +16,8 @@ use Rattle.word.specs.Count.{anyTo}
 use Rattle.model.specs.Stored.{jumpAt, given, holds}
 use Rattle.model.specs.Tested.{firstTo}
 use Rattle.model.specs.Fails.{termFails, numberFails, failsIn, failsOf, givenFails, anyFails}
-use Rattle.model.specs.declared.tables.Range.{Range}
-use Rattle.model.specs.declared.tables.Jump.the-variants.{Pauli, General, Pair}
+use Rattle.model.specs.declared.stored.Range.{Range}
+use Rattle.model.specs.declared.stored.Jump.the-variants.{Pauli, General, Pair}
 use Rattle.model.proofs.Firsts.{first-none, first-here, first-cong, first-either}
 
 -- ---- one place more passes

@@ -20,7 +20,7 @@ use Rattle.word.specs.declared.word.ParsedWord.the-variants as Texts
 use Rattle.number.specs.Floats.{float0, inRange}
 use Rattle.model.specs.Given.{Read, got, refused, onward, GivenReal, GivenTerm, GivenJump, readParsed, readReal, readTerm, readOperator, readJump}
 use Rattle.model.specs.Built.{parts, termItems}
-use Rattle.table.specs.Numbers.{complexes}
+use Rattle.sums.specs.Numbers.{complexes}
 use Rattle.model.specs.Items.{answerOf, readTerms}
 use Rattle.model.proofs.Parts.{length-parts, length-complexes, length-terms}
 

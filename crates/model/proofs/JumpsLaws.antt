@@ -13,7 +13,7 @@ use lib.ListN.{length, getD, set, take, drop, length-append, length-drop, length
 use lib.Seq.{length-take-le}
 use Rattle.word.specs.Flat.{layWord}
 use Rattle.number.specs.Floats.{floats}
-use Rattle.table.specs.Numbers.{complexes, layNumber}
+use Rattle.sums.specs.Numbers.{complexes, layNumber}
 use Rattle.model.specs.Given.{Term, GivenTerm, GivenJump}
 use Rattle.model.specs.Built.{parts, termItems, jumpItems, entriesFrom, termsOf, ratesOf}
 use Rattle.model.specs.Items.{total}

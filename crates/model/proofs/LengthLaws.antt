@@ -10,11 +10,11 @@ use lib.Ieee.{Float}
 use lib.ListN.{length}
 use Rattle.refusal.specs.declared.Answer.{Answer}
 use Rattle.refusal.specs.declared.Answer.the-variants.{Accepted}
-use Rattle.model.specs.Stored.{Tables}
+use Rattle.model.specs.Stored.{ModelTables}
 use Rattle.model.specs.Tested.{lent, whereAny}
 use Rattle.model.specs.Built.{Input, partsFit, workPlaces, lengthsAnswer}
 
-module _ (i : Input) (t : Tables) (workWords : List ℕ) (workNumbers : List Float) where
+module _ (i : Input) (t : ModelTables) (workWords : List ℕ) (workNumbers : List Float) where
   abbrev terms : ℕ
   terms = length (i .numbers) / 2
 

@@ -13,9 +13,9 @@ use Rattle.word.specs.Word.{identity}
 use Rattle.word.specs.Register.{reaches}
 use Rattle.word.specs.Flat.{words}
 use Rattle.word.specs.declared.word.Word.{Word}
-use Rattle.model.specs.declared.tables.Jump.{Jump}
+use Rattle.model.specs.declared.stored.Jump.{Jump}
 use Rattle.number.specs.Floats.{bounded}
-use Rattle.model.specs.Stored.{Tables, kindAt, jumpAt}
+use Rattle.model.specs.Stored.{ModelTables, kindAt, jumpAt}
 use Rattle.model.specs.Tested.{firstTo, badReal, badJump, badEntry, isGiven, badTerm}
 use Rattle.model.specs.Fails.{failsReal, realFails, entryFails, failsTerm, termFails, failsGiven, numberFails, givenFails, anyFails}
 use Rattle.model.proofs.Firsts.{first-cong}
@@ -46,7 +46,7 @@ module _ (places : ℕ) (jumps : List ℕ) (rates : List Float) (j : ℕ) where
   entry-jump h e f = rw (le-ltb 2 (kindAt jumps j) h) (f ∙ ap (badJump places) e)
 
 -- ---- the same test of the tables and of the slices
-module _ (n : ℕ) (t : Tables) where
+module _ (n : ℕ) (t : ModelTables) where
   pub real-first : (count : ℕ) → firstTo count (realFails n (t .hWords) (t .hCoeffs)) ≡ firstTo count (badReal n t)
   unfolding realFails badReal
   real-first count = first-cong count (realFails n (t .hWords) (t .hCoeffs)) (badReal n t) (λ k l. refl)

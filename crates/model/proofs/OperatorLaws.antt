@@ -16,9 +16,9 @@ use Rattle.number.specs.Floats.{floats}
 use Rattle.gksl.specs.Rules.{formedOver, pairsOver}
 use Rattle.gksl.specs.Table.{withoutOver}
 use Rattle.gksl.specs.Words.{pauli}
-use Rattle.table.specs.Numbers.{complexes}
-use Rattle.table.specs.Sums.{rows, table}
-use Rattle.table.proofs.SumLaws.{length-put-all-high}
+use Rattle.sums.specs.Numbers.{complexes}
+use Rattle.sums.specs.Sums.{rows, sumRows}
+use Rattle.sums.proofs.SumLaws.{length-put-all-high}
 use Rattle.model.specs.Given.{Term}
 use Rattle.model.specs.Compiled.{Compiled, compileJump, pauliJump, generalJump, termCount}
 use Rattle.model.specs.Product.{termAt, formedTerm, Forms}
@@ -99,19 +99,19 @@ module _ (k : ℕ) (lanes : List ℕ) (numbers : List Float) (room : WorkRoom k 
   -- ---- its product
   module _ (r : ℕ) (lanes′ : List ℕ) (numbers′ : List Float)
       (forms : Forms (pairsOver floats pauli formedTerm (operatorIn k lanes numbers) (operatorIn k lanes numbers)) 0 lanes numbers r lanes′ numbers′) where
-    pub product-is : thinned (table r lanes′ numbers′) ≡ formedOver floats pauli (operatorIn k lanes numbers) (operatorIn k lanes numbers)
+    pub product-is : thinned (sumRows r lanes′ numbers′) ≡ formedOver floats pauli (operatorIn k lanes numbers) (operatorIn k lanes numbers)
     unfolding formedOver formedTerm
     product-is = ap thinned (forms .sums)
 
     pub sums-few : r ≤ 256
     sums-few =
         let op : List Term = operatorIn k lanes numbers in
-        omega (arith, forms .count, length-put-all-high (pairsOver floats pauli formedTerm op op) (table 0 lanes numbers), pairs-few formedTerm op op 16 (omega (arith, operator-length, room .few)), operator-length, room .few)
+        omega (arith, forms .count, length-put-all-high (pairsOver floats pauli formedTerm op op) (sumRows 0 lanes numbers), pairs-few formedTerm op op 16 (omega (arith, operator-length, room .few)), operator-length, room .few)
 
-    pub stored-few : k + length (thinned (table r lanes′ numbers′)) ≤ 272
-    stored-few = omega (arith, room .few, sums-few, without-fewer (λ c. floats .small (square floats (c .num))) (table r lanes′ numbers′), length-take r (rows (words lanes′) (complexes numbers′)))
+    pub stored-few : k + length (thinned (sumRows r lanes′ numbers′)) ≤ 272
+    stored-few = omega (arith, room .few, sums-few, without-fewer (λ c. floats .small (square floats (c .num))) (sumRows r lanes′ numbers′), length-take r (rows (words lanes′) (complexes numbers′)))
 
-    pub count-general : isPauli (operatorIn k lanes numbers) ≡ false → k + length (thinned (table r lanes′ numbers′)) ≡ termCount (operatorIn k lanes numbers)
+    pub count-general : isPauli (operatorIn k lanes numbers) ≡ false → k + length (thinned (sumRows r lanes′ numbers′)) ≡ termCount (operatorIn k lanes numbers)
     count-general h =
         ap₂ _+_ (sym operator-length) (ap length product-is)
         ∙ sym (length-append (operatorIn k lanes numbers) (formedOver floats pauli (operatorIn k lanes numbers) (operatorIn k lanes numbers)))
@@ -172,14 +172,14 @@ module _ (g : Float) (k : ℕ) (lanes : List ℕ) (numbers : List Float) (room :
       -- a general jump's entry refers to its terms and its product
       module _ (h : isPauli op ≡ false) (r : ℕ) (workLanes : List ℕ) (workNumbers : List Float)
           (forms : Forms (pairsOver floats pauli formedTerm op op) 0 lanes numbers r workLanes workNumbers) where
-        kept-is : thinned (table r workLanes workNumbers) ≡ product
+        kept-is : thinned (sumRows r workLanes workNumbers) ≡ product
         kept-is = product-is k lanes numbers room r workLanes workNumbers forms
 
         pub kept-room : length workLanes ≡ length lanes → length workNumbers ≡ length numbers → length tLanes′ ≡ length tLanes → length tNumbers′ ≡ length tNumbers
             → KeepRoom r workLanes workNumbers (at + k) tLanes′ tNumbers′
         kept-room wl wn el en =
             let few : r ≤ 256 = sums-few k lanes numbers room r workLanes workNumbers forms in
-            let all : length (jump .terms) ≡ k + length (thinned (table r workLanes workNumbers)) =
+            let all : length (jump .terms) ≡ k + length (thinned (sumRows r workLanes workNumbers)) =
             ap length (terms-general h) ∙ length-append op product ∙ ap₂ _+_ (operator-length k lanes numbers room) (ap length (sym kept-is)) in
             record {
               lanes-long = omega (arith, wl, few, room .lanes-long);
@@ -189,7 +189,7 @@ module _ (g : Float) (k : ℕ) (lanes : List ℕ) (numbers : List Float) (room :
             }
 
         pub general-stored : (jumps′ : List ℕ) (rates′ : List Float) (last : ℕ) (tLanes″ : List ℕ) (tNumbers″ : List Float)
-            → Keeps (thinned (table r workLanes workNumbers)) (at + k) tLanes′ tNumbers′ last tLanes″ tNumbers″
+            → Keeps (thinned (sumRows r workLanes workNumbers)) (at + k) tLanes′ tNumbers′ last tLanes″ tNumbers″
             → jumps′ ≡ layEntry jumps j (entry 1 (range at (at + k)) (range 0 0) 0 (range (at + k) last)) → rates′ ≡ set rates j g
             → StoresJump jump j at jumps rates tLanes tNumbers last jumps′ rates′ tLanes″ tNumbers″
         general-stored jumps′ rates′ last tLanes″ tNumbers″ keeps entry-is rate-is =

@@ -20,7 +20,7 @@ use Rattle.number.specs.Numbers.{Cx}
 use Rattle.number.specs.Floats.{floats}
 use Rattle.model.specs.Given.{GivenTerm}
 use Rattle.model.specs.Built.{parts, realItems, termItems, jumpItems, partsFit}
-use Rattle.table.specs.Numbers.{complexes}
+use Rattle.sums.specs.Numbers.{complexes}
 use Rattle.model.specs.Items.{total}
 
 -- ---- the total of lengths

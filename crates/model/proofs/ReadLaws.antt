@@ -16,9 +16,9 @@ use Rattle.number.specs.Numbers.{Cx}
 use Rattle.number.specs.Floats.{floats}
 use Rattle.gksl.specs.Operator.{Onto}
 use Rattle.gksl.specs.Words.{pauli}
-use Rattle.table.specs.Numbers.{complexes, noNumber, LaysNumber}
-use Rattle.table.specs.Sums.{rows, row}
-use Rattle.table.proofs.NumberLaws.{complexes-high, complexes-at}
+use Rattle.sums.specs.Numbers.{complexes, noNumber, LaysNumber}
+use Rattle.sums.specs.Sums.{rows, row}
+use Rattle.sums.proofs.NumberLaws.{complexes-high, complexes-at}
 use Rattle.model.specs.Given.{Term, GivenTerm}
 use Rattle.model.specs.Built.{parts, termItems}
 use Rattle.model.specs.Items.{total}

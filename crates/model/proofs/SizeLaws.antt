@@ -18,7 +18,7 @@ use Rattle.number.specs.Floats.{floats}
 use Rattle.gksl.specs.Rules.{formedOver}
 use Rattle.gksl.specs.Table.{putAllOver}
 use Rattle.gksl.specs.Words.{pauli}
-use Rattle.table.proofs.SumLaws.{length-put-all-high}
+use Rattle.sums.proofs.SumLaws.{length-put-all-high}
 use Rattle.model.specs.Given.{Term, GivenTerm}
 use Rattle.model.specs.Compiled.{compileJump, generalJump, pauliJump}
 use Rattle.model.specs.Built.{parts, jumpItems, termsOf}

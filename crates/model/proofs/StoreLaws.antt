@@ -18,9 +18,9 @@ use Rattle.number.specs.Floats.{floats}
 use Rattle.gksl.specs.Operator.{Onto}
 use Rattle.gksl.specs.Table.{withoutOver}
 use Rattle.gksl.specs.Words.{pauli}
-use Rattle.table.specs.Numbers.{complexes, layNumber}
-use Rattle.table.specs.Sums.{rows, table}
-use Rattle.table.proofs.NumberLaws.{complexes-high}
+use Rattle.sums.specs.Numbers.{complexes, layNumber}
+use Rattle.sums.specs.Sums.{rows, sumRows}
+use Rattle.sums.proofs.NumberLaws.{complexes-high}
 use Rattle.model.specs.Laid.{laid}
 use Rattle.model.specs.Product.{termAt, termsIn}
 use Rattle.model.specs.Thinned.{thinned, LaysTerms, StoreRoom, KeepRoom, Keeps}
@@ -123,7 +123,7 @@ thinned-last (u ∷ T) t = go (floats .small (square floats (u .num))) (thinned-
     go false e = ap (λ (l : List (Onto floats pauli)). u ∷ l) e
 
 module _ (lanes : List ℕ) (numbers : List Float) (i : ℕ) (hl : 4 * (i + 1) ≤ length lanes) (hn : 2 * (i + 1) ≤ length numbers) where
-  table-more : table (i + 1) lanes numbers ≡ table i lanes numbers ++ (termAt lanes numbers i ∷ [])
+  table-more : sumRows (i + 1) lanes numbers ≡ sumRows i lanes numbers ++ (termAt lanes numbers i ∷ [])
   table-more =
       let R : List (Onto floats pauli) = rows (words lanes) (complexes numbers) in
       let d : Onto floats pauli = termAt lanes numbers i in
@@ -132,22 +132,22 @@ module _ (lanes : List ℕ) (numbers : List Float) (i : ℕ) (hl : 4 * (i + 1) �
       rw (add-one i) (take-suc R i d (rows-length (words lanes) (complexes numbers) (suc i) lw ln) ∙ ap (λ (t : Onto floats pauli). take i R ++ (t ∷ [])) (rows-at (words lanes) (complexes numbers) i d lw ln))
 
   module _ (t : Onto floats pauli) (e : t ≡ termAt lanes numbers i) where
-    pub thinned-drops : floats .small (square floats (t .num)) ≡ true → thinned (table (i + 1) lanes numbers) ≡ thinned (table i lanes numbers)
+    pub thinned-drops : floats .small (square floats (t .num)) ≡ true → thinned (sumRows (i + 1) lanes numbers) ≡ thinned (sumRows i lanes numbers)
     thinned-drops h =
-        ap thinned (table-more ∙ ap (λ (u : Onto floats pauli). table i lanes numbers ++ (u ∷ [])) (sym e))
-        ∙ thinned-last (table i lanes numbers) t ∙ ap (λ (b : Bool). thinned (table i lanes numbers) ++ cond b [] (t ∷ [])) h ∙ append-nil (thinned (table i lanes numbers))
+        ap thinned (table-more ∙ ap (λ (u : Onto floats pauli). sumRows i lanes numbers ++ (u ∷ [])) (sym e))
+        ∙ thinned-last (sumRows i lanes numbers) t ∙ ap (λ (b : Bool). thinned (sumRows i lanes numbers) ++ cond b [] (t ∷ [])) h ∙ append-nil (thinned (sumRows i lanes numbers))
 
-    pub thinned-keeps : floats .small (square floats (t .num)) ≡ false → thinned (table (i + 1) lanes numbers) ≡ thinned (table i lanes numbers) ++ (t ∷ [])
+    pub thinned-keeps : floats .small (square floats (t .num)) ≡ false → thinned (sumRows (i + 1) lanes numbers) ≡ thinned (sumRows i lanes numbers) ++ (t ∷ [])
     thinned-keeps h =
-        ap thinned (table-more ∙ ap (λ (u : Onto floats pauli). table i lanes numbers ++ (u ∷ [])) (sym e))
-        ∙ thinned-last (table i lanes numbers) t ∙ ap (λ (b : Bool). thinned (table i lanes numbers) ++ cond b [] (t ∷ [])) h
+        ap thinned (table-more ∙ ap (λ (u : Onto floats pauli). sumRows i lanes numbers ++ (u ∷ [])) (sym e))
+        ∙ thinned-last (sumRows i lanes numbers) t ∙ ap (λ (b : Bool). thinned (sumRows i lanes numbers) ++ cond b [] (t ∷ [])) h
 
 -- ---- the sums that thinning leaves, laid one after another
 pub record KeepState (len at : ℕ) (lanes : List ℕ) (numbers : List Float) (tLanes₀ : List ℕ) (tNumbers₀ : List Float) (tLanes : List ℕ) (tNumbers : List Float) (place i : ℕ) : Type 0 where
   pub high : i ≤ len
   pub lanes-same : length tLanes ≡ length tLanes₀
   pub numbers-same : length tNumbers ≡ length tNumbers₀
-  pub keeps : Keeps (thinned (table i lanes numbers)) at tLanes₀ tNumbers₀ place tLanes tNumbers
+  pub keeps : Keeps (thinned (sumRows i lanes numbers)) at tLanes₀ tNumbers₀ place tLanes tNumbers
 
 thinned-prefix : (T U : List (Onto floats pauli)) → length (thinned T) ≤ length (thinned (T ++ U))
 unfolding withoutOver
@@ -159,10 +159,10 @@ thinned-prefix (t ∷ T) U = go (floats .small (square floats (t .num))) (thinne
     go false h = omega arith
 
 -- fewer rows leave no more
-pub thinned-fewer : (i len : ℕ) (lanes : List ℕ) (numbers : List Float) → i ≤ len → length (thinned (table i lanes numbers)) ≤ length (thinned (table len lanes numbers))
+pub thinned-fewer : (i len : ℕ) (lanes : List ℕ) (numbers : List Float) → i ≤ len → length (thinned (sumRows i lanes numbers)) ≤ length (thinned (sumRows len lanes numbers))
 thinned-fewer i len lanes numbers h =
     let R : List (Onto floats pauli) = rows (words lanes) (complexes numbers) in
-    let e : table len lanes numbers ≡ take i R ++ drop i (take len R) = sym (ap (λ (l : List (Onto floats pauli)). l ++ drop i (take len R)) (sym (take-take i len R h)) ∙ take-append-drop i (take len R)) in
+    let e : sumRows len lanes numbers ≡ take i R ++ drop i (take len R) = sym (ap (λ (l : List (Onto floats pauli)). l ++ drop i (take len R)) (sym (take-take i len R h)) ∙ take-append-drop i (take len R)) in
     subst⁻¹ (λ (T : List (Onto floats pauli)). length (thinned (take i R)) ≤ length (thinned T)) e (thinned-prefix (take i R) (drop i (take len R)))
 
 module _ (len at : ℕ) (lanes : List ℕ) (numbers : List Float) (tLanes₀ : List ℕ) (tNumbers₀ : List Float) (room : KeepRoom len lanes numbers at tLanes₀ tNumbers₀) where
@@ -182,20 +182,20 @@ module _ (len at : ℕ) (lanes : List ℕ) (numbers : List Float) (tLanes₀ : L
         }
 
     module _ (f : floats .small (square floats (t .num)) ≡ false) where
-      one-more : thinned (table (i + 1) lanes numbers) ≡ thinned (table i lanes numbers) ++ (t ∷ [])
+      one-more : thinned (sumRows (i + 1) lanes numbers) ≡ thinned (sumRows i lanes numbers) ++ (t ∷ [])
       one-more = thinned-keeps lanes numbers i (omega (arith, room .lanes-long)) (omega (arith, room .numbers-long)) t e f
 
       -- there is a place for it
       pub keep-room : (4 * place + 4 ≤ length tLanes) × (2 * place + 2 ≤ length tNumbers)
       keep-room =
           let g = thinned-fewer (i + 1) len lanes numbers (omega arith) in
-          let n = ap length one-more ∙ length-append (thinned (table i lanes numbers)) (t ∷ []) in
+          let n = ap length one-more ∙ length-append (thinned (sumRows i lanes numbers)) (t ∷ []) in
           (omega (arith, s .lanes-same, room .lanes-room, s .keeps .end), omega (arith, s .numbers-same, room .numbers-room, s .keeps .end))
 
       pub keep-keeps : (tLanes′ : List ℕ) (tNumbers′ : List Float) → LaysTerms (t ∷ []) place tLanes tNumbers tLanes′ tNumbers′
           → length tLanes′ ≡ length tLanes → length tNumbers′ ≡ length tNumbers → KeepState len at lanes numbers tLanes₀ tNumbers₀ tLanes′ tNumbers′ (place + 1) (i + 1)
       keep-keeps tLanes′ tNumbers′ g hl hn =
-          let n = length-append (thinned (table i lanes numbers)) (t ∷ []) in
+          let n = length-append (thinned (sumRows i lanes numbers)) (t ∷ []) in
           record {
             high = omega arith;
             lanes-same = hl ∙ s .lanes-same;
@@ -203,24 +203,24 @@ module _ (len at : ℕ) (lanes : List ℕ) (numbers : List Float) (tLanes₀ : L
             keeps = subst⁻¹ (λ (T : List (Onto floats pauli)). Keeps T at tLanes₀ tNumbers₀ (place + 1) tLanes′ tNumbers′) one-more
                 (record {
                   end = omega (arith, s .keeps .end, n);
-                  lays = lays-append (thinned (table i lanes numbers)) (t ∷ []) at place tLanes₀ tLanes tLanes′ tNumbers₀ tNumbers tNumbers′ (s .keeps .end) (s .keeps .lays) g;
+                  lays = lays-append (thinned (sumRows i lanes numbers)) (t ∷ []) at place tLanes₀ tLanes tLanes′ tNumbers₀ tNumbers tNumbers′ (s .keeps .end) (s .keeps .lays) g;
                 });
           }
 
   pub keep-done : (tLanes : List ℕ) (tNumbers : List Float) (place i : ℕ) → KeepState len at lanes numbers tLanes₀ tNumbers₀ tLanes tNumbers place i → len ≤ i
-      → Keeps (thinned (table len lanes numbers)) at tLanes₀ tNumbers₀ place tLanes tNumbers
+      → Keeps (thinned (sumRows len lanes numbers)) at tLanes₀ tNumbers₀ place tLanes tNumbers
   keep-done tLanes tNumbers place i s h =
       let e : i ≡ len = omega (arith, s .high) in
-      subst (λ (k : ℕ). Keeps (thinned (table k lanes numbers)) at tLanes₀ tNumbers₀ place tLanes tNumbers) e (s .keeps)
+      subst (λ (k : ℕ). Keeps (thinned (sumRows k lanes numbers)) at tLanes₀ tNumbers₀ place tLanes tNumbers) e (s .keeps)
 
 -- ---- counting them
 pub count-drops : (lanes : List ℕ) (numbers : List Float) (i kept : ℕ) (t : Onto floats pauli) → 4 * (i + 1) ≤ length lanes → 2 * (i + 1) ≤ length numbers → t ≡ termAt lanes numbers i
-    → floats .small (square floats (t .num)) ≡ true → kept ≡ length (thinned (table i lanes numbers)) → kept ≡ length (thinned (table (i + 1) lanes numbers))
+    → floats .small (square floats (t .num)) ≡ true → kept ≡ length (thinned (sumRows i lanes numbers)) → kept ≡ length (thinned (sumRows (i + 1) lanes numbers))
 count-drops lanes numbers i kept t hl hn e f h = h ∙ ap length (sym (thinned-drops lanes numbers i hl hn t e f))
 
 pub count-keeps : (lanes : List ℕ) (numbers : List Float) (i kept : ℕ) (t : Onto floats pauli) → 4 * (i + 1) ≤ length lanes → 2 * (i + 1) ≤ length numbers → t ≡ termAt lanes numbers i
-    → floats .small (square floats (t .num)) ≡ false → kept ≡ length (thinned (table i lanes numbers)) → kept + 1 ≡ length (thinned (table (i + 1) lanes numbers))
+    → floats .small (square floats (t .num)) ≡ false → kept ≡ length (thinned (sumRows i lanes numbers)) → kept + 1 ≡ length (thinned (sumRows (i + 1) lanes numbers))
 count-keeps lanes numbers i kept t hl hn e f h =
-    let n = length-append (thinned (table i lanes numbers)) (t ∷ []) in
+    let n = length-append (thinned (sumRows i lanes numbers)) (t ∷ []) in
     let g = ap length (thinned-keeps lanes numbers i hl hn t e f) in
     omega arith

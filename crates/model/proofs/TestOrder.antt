@@ -11,9 +11,9 @@ use Rattle.refusal.specs.declared.Refusal.the-variants.{TooManyQubits, NumberOu
 use Rattle.refusal.specs.declared.Answer.{Answer}
 use Rattle.refusal.specs.declared.Answer.the-variants.{Accepted, Refused}
 use Rattle.word.specs.Word.{maxQubits}
-use Rattle.model.specs.Stored.{Tables}
+use Rattle.model.specs.Stored.{ModelTables}
 use Rattle.model.specs.Tested.{maxHamiltonian, maxJumps, counted, lent, firstTo, entries, badReal, badEntry, badTerm, testModel}
-use Rattle.model.specs.declared.tables.Model.{Model}
+use Rattle.model.specs.declared.stored.Model.{Model}
 
 -- ---- one test
 module _ (limit count : ℕ) (after : Answer) where
@@ -41,7 +41,7 @@ module _ (n : ℕ) (f : ℕ → Bool) (after : Answer) {r : ℕ} (e : r ≡ firs
   entries-passed l = rw (sym e, le-ltb r n l)
 
 -- ---- the tests from each on
-module _ (m : Model) (t : Tables) where
+module _ (m : Model) (t : ModelTables) where
   abbrev pub terms-on : Answer
   terms-on = entries (m .terms) (badTerm (m .qubits) (m .jumps) t) Accepted
 

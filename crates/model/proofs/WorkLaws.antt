@@ -16,18 +16,18 @@ use Rattle.number.specs.Numbers.{Cx}
 use Rattle.number.specs.Floats.{floats}
 use Rattle.gksl.specs.Operator.{Onto}
 use Rattle.gksl.specs.Words.{pauli}
-use Rattle.table.specs.Numbers.{complexes, noNumber}
+use Rattle.sums.specs.Numbers.{complexes, noNumber}
 use Rattle.gksl.specs.Rules.{pairsOver}
 use Rattle.gksl.specs.Table.{putOver, putAllOver}
-use Rattle.table.specs.Sums.{rows, table, Rising, Puts}
-use Rattle.table.specs.declared.sums.Added.{Added}
-use Rattle.table.specs.declared.sums.Added.the-variants.{Held, Full}
-use Rattle.table.proofs.SumLaws.{Holds, holds-next, holds-full, table-long, length-put-high, rising-put-all, rising-empty, put-all-last, put-all-append, length-put-all-high}
+use Rattle.sums.specs.Sums.{rows, sumRows, Rising, Puts}
+use Rattle.sums.specs.declared.sums.Added.{Added}
+use Rattle.sums.specs.declared.sums.Added.the-variants.{Held, Full}
+use Rattle.sums.proofs.SumLaws.{Holds, holds-next, holds-full, table-long, length-put-high, rising-put-all, rising-empty, put-all-last, put-all-append, length-put-all-high}
 use Rattle.word.proofs.FlatLaws.{words-high}
-use Rattle.table.proofs.NumberLaws.{complexes-high}
+use Rattle.sums.proofs.NumberLaws.{complexes-high}
 use Rattle.model.proofs.Parts.{take-complexes, drop-complexes}
 use Rattle.model.specs.Product.{termAt, termsIn, termsOf, formedTerm, SumRoom, RowRoom, PairRoom, Forms}
-use Rattle.model.specs.declared.tables.Range.{Range}
+use Rattle.model.specs.declared.stored.Range.{Range}
 
 -- ---- the first k words, and those past them
 words-take : (k : ℕ) (l : List ℕ) → words (take (4 * k) l) ≡ take k (words l)
@@ -58,16 +58,16 @@ rows-take (suc k) (w ∷ a) [] = refl
 rows-take (suc k) (w ∷ a) (z ∷ b) = ap (λ (t : List (Onto floats pauli)). record { num = z; word = w } ∷ t) (rows-take k a b)
 
 -- ---- the sums do not see what stands past their places
-pub table-front : (m : ℕ) (lanes : List ℕ) (numbers : List Float) → m ≤ 256 → table m (take 1024 lanes) (take 512 numbers) ≡ table m lanes numbers
+pub table-front : (m : ℕ) (lanes : List ℕ) (numbers : List Float) → m ≤ 256 → sumRows m (take 1024 lanes) (take 512 numbers) ≡ sumRows m lanes numbers
 table-front m lanes numbers h =
     ap₂ (λ (a : List Word) (b : List (Cx floats)). take m (rows a b)) (words-take 256 lanes) (sym (take-complexes 256 numbers))
     ∙ ap (take m) (rows-take 256 (words lanes) (complexes numbers))
     ∙ take-take m 256 (rows (words lanes) (complexes numbers)) h
 
-pub table-joined : (m : ℕ) (p d : List ℕ) (q e : List Float) → length p ≡ 1024 → length q ≡ 512 → m ≤ 256 → table m (p ++ d) (q ++ e) ≡ table m p q
+pub table-joined : (m : ℕ) (p d : List ℕ) (q e : List Float) → length p ≡ 1024 → length q ≡ 512 → m ≤ 256 → sumRows m (p ++ d) (q ++ e) ≡ sumRows m p q
 table-joined m p d q e hp hq h =
     sym (table-front m (p ++ d) (q ++ e) h)
-    ∙ ap₂ (λ (a : List ℕ) (b : List Float). table m a b) (take-at p d 1024 hp) (take-at q e 512 hq)
+    ∙ ap₂ (λ (a : List ℕ) (b : List Float). sumRows m a b) (take-at p d 1024 hp) (take-at q e 512 hq)
 
 -- ---- terms past them stay
 pub term-stays : (j : ℕ) (lanes lanes′ : List ℕ) (numbers numbers′ : List Float) → 256 ≤ j
@@ -124,10 +124,10 @@ terms-more lanes numbers s j h hl hn =
 
 -- ---- one term put to the sums
 module _ (t : Onto floats pauli) (count : ℕ) (lanes : List ℕ) (numbers : List Float) (h : SumRoom count lanes numbers) where
-  pub front-rises : Rising (table count (take 1024 lanes) (take 512 numbers))
+  pub front-rises : Rising (sumRows count (take 1024 lanes) (take 512 numbers))
   front-rises = rw (table-front count lanes numbers (omega (arith, h .room))) (h .rises)
 
-  front-holds : Holds 256 count (take 1024 lanes) (take 512 numbers) (table count lanes numbers)
+  front-holds : Holds 256 count (take 1024 lanes) (take 512 numbers) (sumRows count lanes numbers)
   front-holds = record {
     holds = table-front count lanes numbers (omega (arith, h .room));
     count = table-long count lanes numbers (omega (arith, h .room, h .lanes-long)) (omega (arith, h .room, h .numbers-long));
@@ -139,15 +139,15 @@ module _ (t : Onto floats pauli) (count : ℕ) (lanes : List ℕ) (numbers : Lis
     -- there is room for it
     pub sum-full : r ≡ Full → ⊥
     sum-full e =
-        let f = holds-full 256 count (take 1024 lanes) (take 512 numbers) (table count lanes numbers) front-holds t p q r put e in
-        let g = length-put-high t (table count lanes numbers) in
+        let f = holds-full 256 count (take 1024 lanes) (take 512 numbers) (sumRows count lanes numbers) front-holds t p q r put e in
+        let g = length-put-high t (sumRows count lanes numbers) in
         let l = front-holds .count in
         omega (arith, h .room)
 
     pub sum-held : (m : ℕ) → r ≡ Held m → length p ≡ 1024 → length q ≡ 512 → Forms (t ∷ []) count lanes numbers m (p ++ drop 1024 lanes) (q ++ drop 512 numbers)
     unfolding putAllOver
     sum-held m e lp lq =
-        let n = holds-next 256 count (take 1024 lanes) (take 512 numbers) (table count lanes numbers) front-holds t p q r put m e in
+        let n = holds-next 256 count (take 1024 lanes) (take 512 numbers) (sumRows count lanes numbers) front-holds t p q r put m e in
         record {
           sums = table-joined m p (drop 1024 lanes) q (drop 512 numbers) lp lq (n .fits) ∙ n .holds;
           count = n .count;
@@ -189,7 +189,7 @@ module _ (f : Onto floats pauli → Onto floats pauli) (len start end : ℕ) (la
       lanes-long = omega (arith, s .lanes-same, room .lanes-long, room .past, s .low);
       numbers-long = omega (arith, s .numbers-same, room .numbers-long, room .past, s .low);
       room = omega (arith, s .few, room .room, s .low);
-      rises = rw (s .forms .sums) (rising-put-all (map f (termsIn lanes₀ numbers₀ start j)) (table len lanes₀ numbers₀) (room .rises));
+      rises = rw (s .forms .sums) (rising-put-all (map f (termsIn lanes₀ numbers₀ start j)) (sumRows len lanes₀ numbers₀) (room .rises));
     }
 
     pub run-next : j < end → (t : Onto floats pauli) (m : ℕ) (lanes′ : List ℕ) (numbers′ : List Float) → t ≡ f (termAt lanes numbers j)
@@ -198,19 +198,19 @@ module _ (f : Onto floats pauli → Onto floats pauli) (len start end : ℕ) (la
     unfolding putAllOver
     run-next h t m lanes′ numbers′ e g hl hn =
         let A : List (Onto floats pauli) = map f (termsIn lanes₀ numbers₀ start j) in
-        let T : List (Onto floats pauli) = table len lanes₀ numbers₀ in
+        let T : List (Onto floats pauli) = sumRows len lanes₀ numbers₀ in
         let u : t ≡ f (termAt lanes₀ numbers₀ j) = e ∙ ap f (term-stays j lanes₀ lanes numbers₀ numbers (omega (arith, room .past, s .low)) (s .forms .lanes-stay) (s .forms .numbers-stay)) in
         let more : map f (termsIn lanes₀ numbers₀ start (j + 1)) ≡ A ++ (t ∷ []) =
         ap (map f) (terms-more lanes₀ numbers₀ start j (s .low) (omega (arith, room .lanes-long)) (omega (arith, room .numbers-long)))
         ∙ map-append f (termsIn lanes₀ numbers₀ start j) (termAt lanes₀ numbers₀ j ∷ [])
         ∙ ap (λ (v : Onto floats pauli). A ++ (v ∷ [])) (sym u) in
-        let put : putAllOver floats pauli (A ++ (t ∷ [])) T ≡ putOver floats pauli t (table count lanes numbers) = put-all-last A t T ∙ ap (putOver floats pauli t) (sym (s .forms .sums)) in
+        let put : putAllOver floats pauli (A ++ (t ∷ [])) T ≡ putOver floats pauli t (sumRows count lanes numbers) = put-all-last A t T ∙ ap (putOver floats pauli t) (sym (s .forms .sums)) in
         record {
           low = omega (arith, s .low);
           high = omega arith;
           lanes-same = hl ∙ s .lanes-same;
           numbers-same = hn ∙ s .numbers-same;
-          few = omega (arith, s .few, s .low, g .count, length-put-high t (table count lanes numbers), table-long count lanes numbers (omega (arith, run-room h .room, run-room h .lanes-long)) (omega (arith, run-room h .room, run-room h .numbers-long)));
+          few = omega (arith, s .few, s .low, g .count, length-put-high t (sumRows count lanes numbers), table-long count lanes numbers (omega (arith, run-room h .room, run-room h .lanes-long)) (omega (arith, run-room h .room, run-room h .numbers-long)));
           forms = subst⁻¹ (λ (B : List (Onto floats pauli)). Forms B len lanes₀ numbers₀ m lanes′ numbers′) more
               (record {
                 sums = g .sums ∙ sym put;
@@ -288,8 +288,8 @@ module _ (left right : Range) (lanes₀ : List ℕ) (numbers₀ : List Float) (r
     abbrev P : List (Onto floats pauli)
     P = pairsOver floats pauli formedTerm (A i) B
 
-    pub pair-rises : Rising (table count lanes numbers)
-    pair-rises = rw (s .forms .sums) (rising-put-all P (table 0 lanes₀ numbers₀) (rising-empty lanes₀ numbers₀))
+    pub pair-rises : Rising (sumRows count lanes numbers)
+    pair-rises = rw (s .forms .sums) (rising-put-all P (sumRows 0 lanes₀ numbers₀) (rising-empty lanes₀ numbers₀))
 
     pub pair-room : RowRoom count (right .start) (right .end) lanes numbers
     pair-room = record {
@@ -306,7 +306,7 @@ module _ (left right : Range) (lanes₀ : List ℕ) (numbers₀ : List Float) (r
         → length lanes′ ≡ length lanes → length numbers′ ≡ length numbers
         → PairState left right lanes₀ numbers₀ lanes′ numbers′ m (i + 1)
     pair-next a m lanes′ numbers′ e g hl hn =
-        let T : List (Onto floats pauli) = table 0 lanes₀ numbers₀ in
+        let T : List (Onto floats pauli) = sumRows 0 lanes₀ numbers₀ in
         let u : a ≡ termAt lanes₀ numbers₀ i = e ∙ term-stays i lanes₀ lanes numbers₀ numbers (omega (arith, room .left-past, s .low)) (s .forms .lanes-stay) (s .forms .numbers-stay) in
         let same : termsIn lanes numbers (right .start) (right .end) ≡ B = terms-stay (right .start) (right .end) lanes₀ lanes numbers₀ numbers (room .right-past) (s .forms .lanes-stay) (s .forms .numbers-stay) in
         let row : List (Onto floats pauli) = map (formedTerm a) B in
@@ -314,10 +314,10 @@ module _ (left right : Range) (lanes₀ : List ℕ) (numbers₀ : List Float) (r
         ap (λ (l : List (Onto floats pauli)). pairsOver floats pauli formedTerm l B) (terms-more lanes₀ numbers₀ (left .start) i (s .low) (omega (arith, room .lanes-long .0)) (omega (arith, room .numbers-long .0)))
         ∙ pairs-more formedTerm (A i) (termAt lanes₀ numbers₀ i) B
         ∙ ap (λ (t : Onto floats pauli). P ++ map (formedTerm t) B) (sym u) in
-        let put : putAllOver floats pauli (P ++ row) T ≡ putAllOver floats pauli (map (formedTerm a) (termsIn lanes numbers (right .start) (right .end))) (table count lanes numbers) =
+        let put : putAllOver floats pauli (P ++ row) T ≡ putAllOver floats pauli (map (formedTerm a) (termsIn lanes numbers (right .start) (right .end))) (sumRows count lanes numbers) =
         put-all-append P row T ∙ ap₂ (putAllOver floats pauli) (ap (map (formedTerm a)) (sym same)) (sym (s .forms .sums)) in
         let long : length row ≤ 16 = omega (arith, length-map B (formedTerm a), length-take (right .end - right .start) (drop (right .start) (rows (words lanes₀) (complexes numbers₀))), room .few .1) in
-        let held : length (table count lanes numbers) ≡ count = ap length (s .forms .sums) ∙ s .forms .count in
+        let held : length (sumRows count lanes numbers) ≡ count = ap length (s .forms .sums) ∙ s .forms .count in
         let total : length (putAllOver floats pauli (P ++ row) T) ≡ m = ap length put ∙ g .count in
         record {
           low = omega (arith, s .low);

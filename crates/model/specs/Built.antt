@@ -16,14 +16,14 @@ use Rattle.number.specs.Numbers.{Cx}
 use Rattle.number.specs.Floats.{floats, float0}
 use Rattle.gksl.specs.Model.{RealTerm, JumpOver}
 use Rattle.gksl.specs.Words.{pauli}
-use Rattle.model.specs.Stored.{Tables}
+use Rattle.model.specs.Stored.{ModelTables}
 use Rattle.model.specs.Tested.{maxHamiltonian, maxJumps, counted, lent, whereAny}
 use Rattle.model.specs.Given.{Read, got, refused, each, GivenReal, GivenTerm, GivenJump, Term, readReal, readJump}
 use Rattle.model.specs.Compiled.{Compiled, compileJump}
 use Rattle.word.specs.Flat.{layWord}
-use Rattle.table.specs.Numbers.{complexes, layNumber}
+use Rattle.sums.specs.Numbers.{complexes, layNumber}
 use Rattle.model.specs.Laid.{laid, layEntry}
-use Rattle.model.specs.declared.tables.Model.{Model}
+use Rattle.model.specs.declared.stored.Model.{Model}
 use Rattle.model.specs.declared.spec.Built.{Built}
 use Rattle.model.specs.declared.spec.Built.the-variants as Answers
 
@@ -80,14 +80,14 @@ abbrev pub equal : ℕ → ℕ → Answer → Answer
 equal needed have after = cond (eqb have needed) after (Refused (LengthMismatch needed have))
 
 -- the places of the terms table, and the work places of the largest operator and its product
-abbrev pub termPlaces : Tables → ℕ
+abbrev pub termPlaces : ModelTables → ℕ
 termPlaces t = min (length (t .tWords) / 4) (length (t .tNumbers) / 2)
 
 abbrev pub workPlaces : ℕ
 workPlaces = 272
 
 -- the input's own, then the lent tables in their order; the terms table gives 13. Work places are asked where there is a jump
-unfoldable pub lengthsAnswer : Input → Tables → List ℕ → List Float → Answer
+unfoldable pub lengthsAnswer : Input → ModelTables → List ℕ → List Float → Answer
 lengthsAnswer i t workWords workNumbers =
     let h : ℕ = length (i .hNumbers) in
     let terms : ℕ = length (i .numbers) / 2 in
@@ -125,7 +125,7 @@ termsOf (c ∷ cs) = c .terms ++ termsOf cs
 abbrev pub ratesOf : List Compiled → List Float
 ratesOf cs = map (λ c. c .rate) cs
 
-unfoldable pub stored : List (RealTerm floats pauli) → List Compiled → Tables → Tables
+unfoldable pub stored : List (RealTerm floats pauli) → List Compiled → ModelTables → ModelTables
 stored hs cs t = record {
   hWords = laid layWord 0 (map (λ h. h .word) hs) (t .hWords);
   hCoeffs = laid set 0 (map (λ h. h .num) hs) (t .hCoeffs);
@@ -138,17 +138,17 @@ stored hs cs t = record {
 -- ---- what building answers, and the lent tables afterwards
 pub record Building : Type 0 where
   pub answer : Built
-  pub tables : Tables
+  pub tables : ModelTables
   pub workWords : List ℕ
   pub workNumbers : List Float
 
-module _ (t : Tables) (workWords : List ℕ) (workNumbers : List Float) where
+module _ (t : ModelTables) (workWords : List ℕ) (workNumbers : List Float) where
   -- a refusal changes nothing
   abbrev pub refusal : Built → Building
   refusal r = record { answer = r; tables = t; workWords = workWords; workNumbers = workNumbers }
 
   -- work tables are zero after acceptance and 13
-  abbrev pub finished : Built → Tables → Building
+  abbrev pub finished : Built → ModelTables → Building
   finished r after = record { answer = r; tables = after; workWords = replicate (length workWords) 0; workNumbers = replicate (length workNumbers) float0 }
 
   abbrev pub tested : Answer → Building → Building
@@ -160,7 +160,7 @@ module _ (t : Tables) (workWords : List ℕ) (workNumbers : List Float) where
     whenRead (got a) f = f a
     whenRead (refused r) f = refusal (Answers.Refused r)
 
-module _ (n : ℕ) (i : Input) (t : Tables) (workWords : List ℕ) (workNumbers : List Float) where
+module _ (n : ℕ) (i : Input) (t : ModelTables) (workWords : List ℕ) (workNumbers : List Float) where
   abbrev pub compiledModel : List (RealTerm floats pauli) → List Compiled → Building
   compiledModel hs cs =
       cond (ltb (termPlaces t) (length (termsOf cs)))

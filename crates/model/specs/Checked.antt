@@ -12,13 +12,13 @@ use Rattle.refusal.specs.declared.Refusal.the-variants.{TooManyQubits}
 use Rattle.refusal.specs.declared.Answer.{Answer}
 use Rattle.refusal.specs.declared.Answer.the-variants.{Refused}
 use Rattle.word.specs.Word.{maxQubits}
-use Rattle.model.specs.Stored.{Tables}
+use Rattle.model.specs.Stored.{ModelTables}
 use Rattle.model.specs.Tested.{maxHamiltonian, maxJumps, counted}
 use Rattle.model.specs.Built.{Input, andThen, lengthsAnswer, readHamiltonian, readJumps}
 use Rattle.model.specs.Items.{answerOf, total}
 
 -- 1, 8, 9, then the items in their order
-unfoldable pub givenAnswer : ℕ → Input → Tables → List ℕ → List Float → Answer
+unfoldable pub givenAnswer : ℕ → Input → ModelTables → List ℕ → List Float → Answer
 givenAnswer n i t workWords workNumbers =
     andThen (cond (ltb maxQubits n) (Refused (TooManyQubits n maxQubits)) (counted maxHamiltonian (length (i .hNumbers)) (counted maxJumps (length (i .rates)) (lengthsAnswer i t workWords workNumbers))))
     (andThen (answerOf (readHamiltonian n i)) (answerOf (readJumps n i)))

@@ -16,8 +16,8 @@ use Rattle.word.specs.declared.word.Word.{Word}
 use Rattle.number.specs.Floats.{inRange, bounded}
 use Rattle.model.specs.Stored.{kindAt, jumpAt, holds, given}
 use Rattle.model.specs.Tested.{badJump}
-use Rattle.model.specs.declared.tables.Range.{Range}
-use Rattle.model.specs.declared.tables.Jump.{Jump}
+use Rattle.model.specs.declared.stored.Range.{Range}
+use Rattle.model.specs.declared.stored.Jump.{Jump}
 
 -- a Hamiltonian term
 abbrev pub failsReal : Word → Float → ℕ → Bool

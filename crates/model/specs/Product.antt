@@ -17,10 +17,10 @@ use Rattle.gksl.specs.Operator.{Onto}
 use Rattle.gksl.specs.Rules.{bare, onWord}
 use Rattle.gksl.specs.Table.{putAllOver}
 use Rattle.gksl.specs.Words.{pauli}
-use Rattle.table.specs.Numbers.{complexes, noNumber}
-use Rattle.table.specs.Sums.{rows, table, Rising}
+use Rattle.sums.specs.Numbers.{complexes, noNumber}
+use Rattle.sums.specs.Sums.{rows, sumRows, Rising}
 use Rattle.model.specs.declared.product.Term.{Term}
-use Rattle.model.specs.declared.tables.Range.{Range}
+use Rattle.model.specs.declared.stored.Range.{Range}
 
 abbrev pub onto : Term → Onto floats pauli
 onto t = record { num = cx (t .number); word = t .word }
@@ -44,7 +44,7 @@ pub record SumRoom (count : ℕ) (lanes : List ℕ) (numbers : List Float) : Typ
   pub lanes-long : 1024 ≤ length lanes
   pub numbers-long : 512 ≤ length numbers
   pub room : count < 256
-  pub rises : Rising (table count lanes numbers)
+  pub rises : Rising (sumRows count lanes numbers)
 
 -- one with terms past the places of the sums, and a place for the product with each of them
 pub record RowRoom (len start end : ℕ) (lanes : List ℕ) (numbers : List Float) : Type 0 where
@@ -53,7 +53,7 @@ pub record RowRoom (len start end : ℕ) (lanes : List ℕ) (numbers : List Floa
   pub lanes-long : 4 * end ≤ length lanes
   pub numbers-long : 2 * end ≤ length numbers
   pub room : len + (end - start) ≤ 256
-  pub rises : Rising (table len lanes numbers)
+  pub rises : Rising (sumRows len lanes numbers)
 
 -- one with the terms of two operators past the places of the sums, and a place for each product
 pub record PairRoom (left right : Range) (lanes : List ℕ) (numbers : List Float) : Type 0 where
@@ -67,7 +67,7 @@ pub record PairRoom (left right : Range) (lanes : List ℕ) (numbers : List Floa
 
 -- terms put to the sums one by one; what stands past the places of the sums stays
 pub record Forms (terms : List (Onto floats pauli)) (len : ℕ) (lanes : List ℕ) (numbers : List Float) (r : ℕ) (lanes′ : List ℕ) (numbers′ : List Float) : Type 0 where
-  pub sums : table r lanes′ numbers′ ≡ putAllOver floats pauli terms (table len lanes numbers)
-  pub count : length (putAllOver floats pauli terms (table len lanes numbers)) ≡ r
+  pub sums : sumRows r lanes′ numbers′ ≡ putAllOver floats pauli terms (sumRows len lanes numbers)
+  pub count : length (putAllOver floats pauli terms (sumRows len lanes numbers)) ≡ r
   pub lanes-stay : drop 1024 lanes′ ≡ drop 1024 lanes
   pub numbers-stay : drop 512 numbers′ ≡ drop 512 numbers

@@ -8,12 +8,12 @@ use mathlib.Core.List.{List, [], _∷_}
 use lib.Dec.{eqb, ltb, leb}
 use lib.Ieee.{Float, nan}
 use lib.ListN.{getD}
-use Rattle.model.specs.declared.tables.Range.{Range}
-use Rattle.model.specs.declared.tables.Jump.{Jump}
-use Rattle.model.specs.declared.tables.Jump.the-variants.{Pauli, General, Pair}
+use Rattle.model.specs.declared.stored.Range.{Range}
+use Rattle.model.specs.declared.stored.Jump.{Jump}
+use Rattle.model.specs.declared.stored.Jump.the-variants.{Pauli, General, Pair}
 
 -- the six lent slices: Hamiltonian terms, jumps and pairs, terms
-pub record Tables : Type 0 where
+pub record ModelTables : Type 0 where
   pub hWords : List ℕ
   pub hCoeffs : List Float
   pub jumps : List ℕ
@@ -21,7 +21,7 @@ pub record Tables : Type 0 where
   pub tWords : List ℕ
   pub tNumbers : List Float
 
-abbrev pub tables : List ℕ → List Float → List ℕ → List Float → List ℕ → List Float → Tables
+abbrev pub tables : List ℕ → List Float → List ℕ → List Float → List ℕ → List Float → ModelTables
 tables hWords hCoeffs jumps rates tWords tNumbers =
     record { hWords = hWords; hCoeffs = hCoeffs; jumps = jumps; rates = rates; tWords = tWords; tNumbers = tNumbers }
 

@@ -15,11 +15,11 @@ use Rattle.word.specs.Word.{maxQubits, identity}
 use Rattle.word.specs.Register.{reaches}
 use Rattle.word.specs.Flat.{words}
 use Rattle.number.specs.Floats.{inRange, bounded}
-use Rattle.model.specs.Stored.{Tables, kindAt, jumpAt, given}
-use Rattle.model.specs.declared.tables.Model.{Model}
-use Rattle.model.specs.declared.tables.Range.{Range}
-use Rattle.model.specs.declared.tables.Jump.{Jump}
-use Rattle.model.specs.declared.tables.Jump.the-variants.{Pauli, General, Pair}
+use Rattle.model.specs.Stored.{ModelTables, kindAt, jumpAt, given}
+use Rattle.model.specs.declared.stored.Model.{Model}
+use Rattle.model.specs.declared.stored.Range.{Range}
+use Rattle.model.specs.declared.stored.Jump.{Jump}
+use Rattle.model.specs.declared.stored.Jump.the-variants.{Pauli, General, Pair}
 
 -- Limits: 4,096 Hamiltonian terms; 4,096 jumps and pairs together
 abbrev pub maxHamiltonian : ℕ
@@ -51,7 +51,7 @@ unfoldable pub entries : ℕ → (ℕ → Bool) → Answer → Answer
 entries n fails after = cond (ltb (firstTo n fails) n) (Refused (NumberOutOfRange (firstTo n fails))) after
 
 -- a Hamiltonian term: its word below n, its number in range
-unfoldable pub badReal : ℕ → Tables → ℕ → Bool
+unfoldable pub badReal : ℕ → ModelTables → ℕ → Bool
 badReal n t i = reaches (getD (words (t .hWords)) i identity) n || not (inRange (getD (t .hCoeffs) i nan))
 
 -- a range inside a table of so many places
@@ -68,21 +68,21 @@ badJump places (General rate terms product) = not (inside places terms && (insid
 badJump places (Pair left right factors product) =
     not (inside places left && (inside places right && (inside places product && leb (factors + width left * width right) places)))
 
-unfoldable pub badEntry : ℕ → Tables → ℕ → Bool
+unfoldable pub badEntry : ℕ → ModelTables → ℕ → Bool
 badEntry places t j = ltb 2 (kindAt (t .jumps) j) || badJump places (jumpAt (t .jumps) (t .rates) j)
 
 -- is a place of the terms table that of a given term of one of the jumps
-unfoldable pub isGiven : ℕ → Tables → ℕ → Bool
+unfoldable pub isGiven : ℕ → ModelTables → ℕ → Bool
 isGiven jumps t place = anyTo jumps (λ j. given (jumpAt (t .jumps) (t .rates) j) place)
 
 -- a term: its word below n, its two numbers at most 2^620 in magnitude, and in range where it is given
-unfoldable pub badTerm : ℕ → ℕ → Tables → ℕ → Bool
+unfoldable pub badTerm : ℕ → ℕ → ModelTables → ℕ → Bool
 badTerm n jumps t i =
     reaches (getD (words (t .tWords)) i identity) n
     || (not (bounded (getD (t .tNumbers) (i * 2) nan)) || (not (bounded (getD (t .tNumbers) (i * 2 + 1) nan))
     || (isGiven jumps t i && (not (inRange (getD (t .tNumbers) (i * 2) nan)) || not (inRange (getD (t .tNumbers) (i * 2 + 1) nan))))))
 
-unfoldable pub testModel : Model → Tables → Answer
+unfoldable pub testModel : Model → ModelTables → Answer
 testModel m t =
     cond (ltb maxQubits (m .qubits)) (Refused (TooManyQubits (m .qubits) maxQubits))
     (counted maxHamiltonian (m .hamiltonian)

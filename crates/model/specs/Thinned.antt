@@ -13,8 +13,8 @@ use Rattle.number.specs.Floats.{floats}
 use Rattle.gksl.specs.Operator.{Onto}
 use Rattle.gksl.specs.Table.{withoutOver}
 use Rattle.gksl.specs.Words.{pauli}
-use Rattle.table.specs.Numbers.{layNumber}
-use Rattle.table.specs.Sums.{table}
+use Rattle.sums.specs.Numbers.{layNumber}
+use Rattle.sums.specs.Sums.{sumRows}
 use Rattle.model.specs.Laid.{laid}
 
 -- words whose number has a squared magnitude of at most (1e-14 × 1e-14) are dropped
@@ -37,8 +37,8 @@ pub record StoreRoom (from to : ℕ) (lanes : List ℕ) (numbers : List Float) (
 pub record KeepRoom (len : ℕ) (lanes : List ℕ) (numbers : List Float) (at : ℕ) (tLanes : List ℕ) (tNumbers : List Float) : Type 0 where
   pub lanes-long : 4 * len ≤ length lanes
   pub numbers-long : 2 * len ≤ length numbers
-  pub lanes-room : 4 * (at + length (thinned (table len lanes numbers))) ≤ length tLanes
-  pub numbers-room : 2 * (at + length (thinned (table len lanes numbers))) ≤ length tNumbers
+  pub lanes-room : 4 * (at + length (thinned (sumRows len lanes numbers))) ≤ length tLanes
+  pub numbers-room : 2 * (at + length (thinned (sumRows len lanes numbers))) ≤ length tNumbers
 
 pub record Keeps (terms : List (Onto floats pauli)) (at : ℕ) (lanes : List ℕ) (numbers : List Float) (r : ℕ) (lanes′ : List ℕ) (numbers′ : List Float) : Type 0 where
   pub end : r ≡ at + length terms

@@ -10,7 +10,7 @@ use lib.Dec.{leb}
 use lib.Ieee.{Float}
 use lib.ListN.{length, getD, set}
 use Rattle.number.specs.Floats.{floats}
-use Rattle.table.specs.Numbers.{complexes}
+use Rattle.sums.specs.Numbers.{complexes}
 use Rattle.model.specs.Given.{Term, GivenTerm}
 use Rattle.model.specs.Built.{parts, termItems, jumpItems, entriesFrom, termsOf, ratesOf}
 use Rattle.model.specs.Items.{total}

@@ -9,7 +9,7 @@ ghost use Prim.Native.Nat.{_*_, _<_, _≤_};
 ghost use lib.ListN.{length};
 ghost use Rattle.model.specs.Given.{each, readParsed, readReal, readTerm, readOperator, readJump};
 ghost use Rattle.model.specs.Built.{parts, realItems, termItems, jumpItems, partsFit};
-ghost use Rattle.table.specs.Numbers.{complexes};
+ghost use Rattle.sums.specs.Numbers.{complexes};
 ghost use Rattle.model.specs.Items.{answerOf, total, readTerms};
 use number::scalar::in_range;
 use refusal::Answer;

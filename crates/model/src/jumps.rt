@@ -14,11 +14,11 @@ use crate::product::term_at;
 use crate::store::count_kept;
 use crate::store::store_kept;
 use crate::store::store_terms;
-use crate::tables::Range;
-use crate::tables::lay_entry;
+use crate::stored::Range;
+use crate::stored::lay_entry;
 use crate::take::take_word;
-use table::numbers::complex_at;
-use table::numbers::set_complex;
+use sums::numbers::complex_at;
+use sums::numbers::set_complex;
 use word::flat::set_word;
 
 // Reads the terms of an operator into the work table: a text and two numbers for each.

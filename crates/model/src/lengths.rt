@@ -12,7 +12,7 @@ ghost use Rattle.refusal.specs.declared.Answer.the-variants.{Refused};
 ghost use Rattle.model.specs.Tested.{whereAny};
 ghost use Rattle.model.specs.Built.{lengthsAnswer};
 use crate::items::parts_fit;
-use crate::tables::JUMP_NUMBERS;
+use crate::stored::JUMP_NUMBERS;
 use refusal::Answer;
 use refusal::Refusal;
 use word::flat::WORD_LANES;

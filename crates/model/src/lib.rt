@@ -10,6 +10,6 @@ pub mod lengths;
 pub mod product;
 pub mod spec;
 pub mod store;
-pub mod tables;
+pub mod stored;
 pub mod take;
 pub mod test;

@@ -14,13 +14,13 @@ use crate::check::check_given;
 use crate::compile::jumps_fit;
 use crate::compile::store_jumps;
 use crate::items::sum_of;
-use crate::tables::Model;
+use crate::stored::Model;
 use crate::take::store_hamiltonian;
 use crate::test::smaller;
 use refusal::Answer;
 use refusal::Refusal;
-use table::clear::clear_lanes;
-use table::clear::clear_numbers;
+use sums::clear::clear_lanes;
+use sums::clear::clear_numbers;
 use word::flat::WORD_LANES;
 
 // The answer of a builder.

@@ -7,14 +7,14 @@ ghost use mathlib.Core.Path.{_≡_};
 ghost use mathlib.Core.List.{_∷_, []};
 ghost use Prim.Native.Nat.{_+_, _-_, _*_, _≤_};
 ghost use lib.ListN.{length};
-ghost use Rattle.table.specs.Sums.{table};
+ghost use Rattle.sums.specs.Sums.{sumRows};
 ghost use Rattle.model.specs.Product.{onto, termsIn};
 ghost use Rattle.model.specs.Thinned.{thinned, LaysTerms, StoreRoom, KeepRoom, Keeps};
 use crate::product::Term;
 use crate::product::term_at;
 use number::scalar::negligible;
 use number::scalar::norm_sqr;
-use table::numbers::set_complex;
+use sums::numbers::set_complex;
 use word::flat::set_word;
 
 fn lay_term(t_words: &mut [u64], t_numbers: &mut [f64], at: usize, t: Term)
@@ -53,7 +53,7 @@ pub fn store_terms(
 // How many of the first `len` sums thinning leaves.
 pub fn count_kept(words: &[u64], numbers: &[f64], len: usize) -> usize
     requires { ⌜ (4 * len ≤ length (now words)) × (2 * len ≤ length (now numbers)) ⌝ }
-    ensures { λ r. ⌜ r ≡ length (thinned (table len (now (words .entry)) (now (numbers .entry)))) ⌝ }
+    ensures { λ r. ⌜ r ≡ length (thinned (sumRows len (now (words .entry)) (now (numbers .entry)))) ⌝ }
 {
     let mut kept = 0;
     let mut i = 0;
@@ -80,7 +80,7 @@ pub fn store_kept(
     at: usize,
 ) -> usize
     requires { ⌜ KeepRoom len (now words) (now numbers) at (now «t_words») (now «t_numbers») ⌝ }
-    ensures { λ r. ⌜ Keeps (thinned (table len (now (words .entry)) (now (numbers .entry)))) at (now («t_words» .entry)) (now («t_numbers» .entry)) r (now («t_words» .exit)) (now («t_numbers» .exit)) ⌝ }
+    ensures { λ r. ⌜ Keeps (thinned (sumRows len (now (words .entry)) (now (numbers .entry)))) at (now («t_words» .entry)) (now («t_numbers» .entry)) r (now («t_words» .exit)) (now («t_numbers» .exit)) ⌝ }
 {
     let mut place = at;
     let mut i = 0;

@@ -16,8 +16,8 @@ use Rattle.number.specs.Numbers.{Cx}
 use Rattle.number.specs.Floats.{floats, inRange}
 use Rattle.number.specs.Bounds.{AtMostC}
 use Rattle.gksl.specs.Model.{entryIn}
-use Rattle.table.proofs.NumberLaws.{complexes-at}
-use Rattle.model.specs.Stored.{Tables}
+use Rattle.sums.proofs.NumberLaws.{complexes-at}
+use Rattle.model.specs.Stored.{ModelTables}
 use Rattle.model.specs.Tested.{maxJumps, testModel}
 use Rattle.model.specs.Fails.{numberFails}
 use Rattle.model.specs.Given.{got, Term, readOperator}
@@ -26,7 +26,7 @@ use Rattle.model.specs.Laid.{laid}
 use Rattle.model.specs.Built.{entriesFrom, termsOf, ratesOf, termPlaces}
 use Rattle.model.specs.Items.{total}
 use Rattle.model.specs.Work.{operatorTaken}
-use Rattle.model.specs.declared.tables.Model.{Model}
+use Rattle.model.specs.declared.stored.Model.{Model}
 use Rattle.model.specs.declared.spec.Built.the-variants as Answers
 use Rattle.model.proofs.BuildLaws.{both, counted-passed}
 use Rattle.model.proofs.Firsts.{NoneBefore}
@@ -56,7 +56,7 @@ unfolding allTerms
 all-every P [] h = tt
 all-every P (A ∷ As) h = every-append P A (allTerms As) (h .0) (all-every P As (h .1))
 
-module _ (m : Model) (i : Input) (t : Tables) (workWords : List ℕ) (workNumbers : List Float) where
+module _ (m : Model) (i : Input) (t : ModelTables) (workWords : List ℕ) (workNumbers : List Float) where
   module _ (modelled : testModel m t ≡ Tests.Accepted) (fit : LengthsFit m i t workWords workNumbers) (numbers : NoneBefore (numberFails (i .k)) (operators i * operators i))
       (As : List (List Term)) (read : readOperators (m .qubits) i ≡ got As) (few-pairs : m .jumps + length (pairPlaces floats (operators i) (matrix i)) ≤ maxJumps) where
     abbrev n : ℕ

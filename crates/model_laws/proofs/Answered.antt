@@ -15,11 +15,11 @@ use Rattle.refusal.specs.declared.Refusal.{Refusal}
 use Rattle.refusal.specs.declared.Refusal.the-variants.{TableFull}
 use Rattle.refusal.specs.declared.Answer.{Answer}
 use Rattle.refusal.specs.declared.Answer.the-variants as Tests
-use Rattle.model.specs.Stored.{Tables}
+use Rattle.model.specs.Stored.{ModelTables}
 use Rattle.model.specs.Tested.{testModel}
 use Rattle.model.specs.Given.{Read, got, refused}
 use Rattle.model.specs.Built.{Building, refusal, finished, tested, whenRead}
-use Rattle.model.specs.declared.tables.Model.{Model}
+use Rattle.model.specs.declared.stored.Model.{Model}
 use Rattle.model.specs.declared.spec.Built.the-variants as Answers
 
 abbrev pub Passes : Building → Type 0
@@ -28,7 +28,7 @@ Passes b = (m : Model) → b .answer ≡ Answers.Model m → testModel m (b .tab
 refusal-passes : (r : Refusal) (b : Building) → b .answer ≡ Answers.Refused r → Passes b
 refusal-passes r b e m h = let z : _≡_ {A = ℕ} 0 1 = cc in absurd (omega arith)
 
-module _ (t : Tables) (workWords : List ℕ) (workNumbers : List Float) where
+module _ (t : ModelTables) (workWords : List ℕ) (workNumbers : List Float) where
   pub by-test : (a : Answer) (after : Building) → (a ≡ Tests.Accepted → Passes after) → Passes (tested t workWords workNumbers a after)
   by-test Tests.Accepted after h = h refl
   by-test (Tests.Refused r) after h = refusal-passes r (refusal t workWords workNumbers (Answers.Refused r)) refl
@@ -37,7 +37,7 @@ module _ (t : Tables) (workWords : List ℕ) (workNumbers : List Float) where
   by-read (got a) f h = h a refl
   by-read (refused r) f h = refusal-passes r (refusal t workWords workNumbers (Answers.Refused r)) refl
 
-  pub by-room : (places terms : ℕ) (made : Model) (after : Tables) → (terms ≤ places → testModel made after ≡ Tests.Accepted)
+  pub by-room : (places terms : ℕ) (made : Model) (after : ModelTables) → (terms ≤ places → testModel made after ≡ Tests.Accepted)
       → Passes (cond (ltb places terms) (finished t workWords workNumbers (Answers.Refused (TableFull 4 places)) t) (finished t workWords workNumbers (Answers.Model made) after))
   by-room places terms made after h = go (ltb places terms) refl
     where

@@ -16,14 +16,14 @@ use Rattle.word.specs.Word.{maxQubits}
 use Rattle.number.specs.Floats.{floats}
 use Rattle.gksl.specs.Model.{RealTerm, JumpOver}
 use Rattle.gksl.specs.Words.{pauli}
-use Rattle.table.specs.Numbers.{complexes}
-use Rattle.model.specs.Stored.{Tables}
+use Rattle.sums.specs.Numbers.{complexes}
+use Rattle.model.specs.Stored.{ModelTables}
 use Rattle.model.specs.Tested.{maxHamiltonian, maxJumps, testModel}
 use Rattle.model.specs.Given.{got, GivenTerm, readReal, readJump}
 use Rattle.model.specs.Compiled.{Compiled, compileJump}
 use Rattle.model.specs.Taken.{realTaken, jumpTaken}
 use Rattle.model.specs.Built.{Input, hamiltonian, jumpsGiven, realItems, termItems, jumpItems, parts, readHamiltonian, readJumps, entriesFrom, termsOf, ratesOf, stored, termPlaces, build}
-use Rattle.model.specs.declared.tables.Model.{Model}
+use Rattle.model.specs.declared.stored.Model.{Model}
 use Rattle.model.specs.declared.spec.Built.the-variants as Answers
 use Rattle.model.proofs.BuildLaws.{passed, counted-passed, LengthsFit, lengths-fit}
 use Rattle.model.proofs.TakenLaws.{reals-taken, jumps-taken}
@@ -41,7 +41,7 @@ use Rattle.model_laws.proofs.CompiledLaws.{CompiledGood, compiled-good,
 abbrev pub empty : ℕ → Model
 empty n = record { qubits = n; hamiltonian = 0; jumps = 0; terms = 0 }
 
-pub empty-stands : (n : ℕ) (t : Tables) → n ≤ maxQubits → Stands (empty n) t
+pub empty-stands : (n : ℕ) (t : ModelTables) → n ≤ maxQubits → Stands (empty n) t
 empty-stands n t h = record {
   qubits = h;
   few-reals = omega arith;
@@ -72,7 +72,7 @@ jumps-few [] ts = omega arith
 jumps-few (g ∷ gs) [] = omega arith
 jumps-few (g ∷ gs) (t ∷ ts) = omega (arith, jumps-few gs ts)
 
-module _ (n : ℕ) (i : Input) (t : Tables) (workWords : List ℕ) (workNumbers : List Float) where
+module _ (n : ℕ) (i : Input) (t : ModelTables) (workWords : List ℕ) (workNumbers : List Float) where
   module _ (within : n ≤ maxQubits) (few-reals : length (i .hNumbers) ≤ maxHamiltonian) (few-jumps : length (i .rates) ≤ maxJumps) (fit : LengthsFit i t workWords workNumbers)
       (hs : List (RealTerm floats pauli)) (reals : readHamiltonian n i ≡ got hs) (js : List (JumpOver floats pauli)) (jumps : readJumps n i ≡ got js) where
     abbrev cs : List Compiled

@@ -19,13 +19,13 @@ use Rattle.number.specs.Numbers.{Cx}
 use Rattle.number.specs.Floats.{floats, inRange}
 use Rattle.gksl.specs.Model.{RealTerm}
 use Rattle.gksl.specs.Words.{pauli}
-use Rattle.table.specs.Numbers.{layNumber, noNumber}
-use Rattle.model.specs.Stored.{Tables, kindAt, jumpAt, given}
+use Rattle.sums.specs.Numbers.{layNumber, noNumber}
+use Rattle.model.specs.Stored.{ModelTables, kindAt, jumpAt, given}
 use Rattle.model.specs.Tested.{badJump, testModel}
 use Rattle.model.specs.Given.{Term}
 use Rattle.model.specs.Laid.{layEntry}
-use Rattle.model.specs.declared.tables.Jump.{Jump}
-use Rattle.model.specs.declared.tables.Model.{Model}
+use Rattle.model.specs.declared.stored.Jump.{Jump}
+use Rattle.model.specs.declared.stored.Model.{Model}
 use Rattle.model_laws.specs.Every.{Every}
 use Rattle.model_laws.specs.Stands.{InRange, GoodReal, GoodTerm, Bounded, numberAt, Stands}
 use Rattle.model_laws.specs.Extended.{Additions, larger, extended, noTerm, Extends}
@@ -41,8 +41,8 @@ real-as {n} p q g = record { below = ap (λ (v : Word). reaches v n) p ∙ g .be
 term-as : {n : ℕ} {w w′ : Word} {z z′ : Cx floats} → w′ ≡ w → z′ ≡ z → GoodTerm n w z → GoodTerm n w′ z′
 term-as {n} p q g = record { below = ap (λ (v : Word). reaches v n) p ∙ g .below; bound = subst⁻¹ Bounded q (g .bound) }
 
-module _ (m : Model) (t : Tables) (a : Additions) (s : Stands m t) (x : Extends m t a) where
-  abbrev after : Tables
+module _ (m : Model) (t : ModelTables) (a : Additions) (s : Stands m t) (x : Extends m t a) where
+  abbrev after : ModelTables
   after = extended m t a
 
   -- ---- Hamiltonian terms
@@ -219,5 +219,5 @@ module _ (m : Model) (t : Tables) (a : Additions) (s : Stands m t) (x : Extends 
   }
 
 -- a tested model, with more laid after it that passes, passes the test
-pub extended-passes : (m : Model) (t : Tables) (a : Additions) → testModel m t ≡ Accepted → Extends m t a → testModel (larger m a) (extended m t a) ≡ Accepted
+pub extended-passes : (m : Model) (t : ModelTables) (a : Additions) → testModel m t ≡ Accepted → Extends m t a → testModel (larger m a) (extended m t a) ≡ Accepted
 extended-passes m t a e x = stands-tested (larger m a) (extended m t a) (extended-stands m t a (tested-stands m t e) x)

@@ -10,9 +10,9 @@ use borrow.Author.Tests.{ltb-true, leb-true, eqb-true, lt-ltb, le-leb, not-false
 use lib.Dec.{ltb, leb}
 use Rattle.model.specs.Stored.{given, holds}
 use Rattle.model.specs.Tested.{inside, width, badJump}
-use Rattle.model.specs.declared.tables.Range.{Range}
-use Rattle.model.specs.declared.tables.Jump.{Jump}
-use Rattle.model.specs.declared.tables.Jump.the-variants.{Pauli, General, Pair}
+use Rattle.model.specs.declared.stored.Range.{Range}
+use Rattle.model.specs.declared.stored.Jump.{Jump}
+use Rattle.model.specs.declared.stored.Jump.the-variants.{Pauli, General, Pair}
 
 pub both : (a : Bool) {b : Bool} → (a && b) ≡ true → (a ≡ true) × (b ≡ true)
 both true h = (refl, h)

@@ -15,9 +15,9 @@ use Rattle.word.specs.declared.word.Word.{Word}
 use Rattle.word.proofs.FlatLaws.{words-high, words-set}
 use Rattle.number.specs.Numbers.{Cx}
 use Rattle.number.specs.Floats.{floats}
-use Rattle.table.specs.Numbers.{layNumber}
+use Rattle.sums.specs.Numbers.{layNumber}
 use Rattle.model.specs.Stored.{jumpAt, byKind, range}
-use Rattle.model.specs.declared.tables.Jump.the-variants.{Pauli, General, Pair}
+use Rattle.model.specs.declared.stored.Jump.the-variants.{Pauli, General, Pair}
 use Rattle.model.specs.Laid.{laid, layEntry}
 use Rattle.model_laws.specs.Every.{Every}
 use Rattle.model_laws.specs.Stands.{numberAt}

@@ -22,7 +22,7 @@ use Rattle.model.specs.Tested.{badJump}
 use Rattle.model.specs.Given.{Term}
 use Rattle.model.specs.Compiled.{Compiled}
 use Rattle.model.specs.Built.{entriesFrom, termsOf, ratesOf}
-use Rattle.model.specs.declared.tables.Range.{Range}
+use Rattle.model.specs.declared.stored.Range.{Range}
 use Rattle.kossakowski.specs.Matrix.{passing}
 use Rattle.kossakowski.specs.Pairs.{factorOf, factorsOf, scaled, productAfter, compilePair}
 use Rattle.model_laws.specs.Every.{Every}

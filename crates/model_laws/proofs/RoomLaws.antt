@@ -21,8 +21,8 @@ use Rattle.word.specs.Word.{maxQubits}
 use Rattle.number.specs.Floats.{floats}
 use Rattle.gksl.specs.Model.{RealTerm, JumpOver}
 use Rattle.gksl.specs.Words.{pauli}
-use Rattle.table.specs.Numbers.{complexes}
-use Rattle.model.specs.Stored.{Tables}
+use Rattle.sums.specs.Numbers.{complexes}
+use Rattle.model.specs.Stored.{ModelTables}
 use Rattle.model.specs.Tested.{maxHamiltonian, maxJumps, counted, lent, whereAny, entries, testModel}
 use Rattle.model.specs.Fails.{numberFails}
 use Rattle.model.specs.Given.{Read, got, refused, GivenTerm, Term, maxTerms, readOperator, readJump}
@@ -31,7 +31,7 @@ use Rattle.model.specs.Taken.{termTaken, jumpTaken}
 use Rattle.model.specs.Built.{parts, termItems, jumpItems, partsFit, andThen, equal, termPlaces, workPlaces, termsOf, Building, finished, tested, whenRead}
 use Rattle.model.specs.Built as Compiling
 use Rattle.model.specs.Work.{operatorTaken}
-use Rattle.model.specs.declared.tables.Model.{Model}
+use Rattle.model.specs.declared.stored.Model.{Model}
 use Rattle.model.specs.declared.spec.Built.{Built}
 use Rattle.model.specs.declared.spec.Built.the-variants as Answers
 use Rattle.model.proofs.BuildLaws.{passed, both, counted-passed}
@@ -75,7 +75,7 @@ counted-same limit count a b h = go (ltb limit count) refl
     go true e = refl
     go false e = h (ltb-false limit count e)
 
-module _ (t : Tables) (workWords : List ℕ) (workNumbers : List Float) where
+module _ (t : ModelTables) (workWords : List ℕ) (workNumbers : List Float) where
   tested-answer : (x : Answer) (after : Building) (b : Built) → (x ≡ Accepted → after .answer ≡ b) → tested t workWords workNumbers x after .answer ≡ answered x b
   tested-answer Accepted after b h = h refl
   tested-answer (Refused r) after b h = refl
@@ -84,7 +84,7 @@ module _ (t : Tables) (workWords : List ℕ) (workNumbers : List Float) where
   read-answer (got a) f g h = h a refl
   read-answer (refused r) f g h = refl
 
-  room-answer : (places terms : ℕ) (made : Model) (after : Tables) → terms ≤ places
+  room-answer : (places terms : ℕ) (made : Model) (after : ModelTables) → terms ≤ places
       → cond (ltb places terms) (finished t workWords workNumbers (Answers.Refused (TableFull 4 places)) t) (finished t workWords workNumbers (Answers.Model made) after) .answer ≡ Answers.Model made
   room-answer places terms made after h = rw (le-ltb places terms h)
 
@@ -95,7 +95,7 @@ items-every P [] ts h = tt
 items-every P (g ∷ gs) [] h = tt
 items-every P (g ∷ gs) (t ∷ ts) h = (h .0, items-every P gs ts (h .1))
 
-module _ (n h j c : ℕ) (i : Compiling.Input) (few : ModelCounts h j c i) (t : Tables) (workWords : List ℕ) (workNumbers : List Float) (room : ModelRoom h j c t workWords workNumbers) where
+module _ (n h j c : ℕ) (i : Compiling.Input) (few : ModelCounts h j c i) (t : ModelTables) (workWords : List ℕ) (workNumbers : List Float) (room : ModelRoom h j c t workWords workNumbers) where
   lengths-built : length (i .hNumbers) ≤ maxHamiltonian → length (i .rates) ≤ maxJumps → Compiling.lengthsAnswer i t workWords workNumbers ≡ BuiltFrom.ownLengths i
   unfolding Compiling.lengthsAnswer BuiltFrom.ownLengths
   lengths-built p q =
@@ -164,7 +164,7 @@ module _ (n h j c : ℕ) (i : Compiling.Input) (few : ModelCounts h j c i) (t : 
       ∙ ap (λ (a : Answer). answered a after) limits-same
 
 -- ---- adding
-module _ (k c : ℕ) (m : Model) (i : Adding.Input) (few : MatrixCounts k c i) (t : Tables) (workWords : List ℕ) (workNumbers : List Float) (room : MatrixRoom k c m t workWords workNumbers) where
+module _ (k c : ℕ) (m : Model) (i : Adding.Input) (few : MatrixCounts k c i) (t : ModelTables) (workWords : List ℕ) (workNumbers : List Float) (room : MatrixRoom k c m t workWords workNumbers) where
   module _ (p : operators i ≤ maxOperators) where
     ops-few : operators i ≤ k
     ops-few = omega (arith, p, few .operators)

@@ -16,7 +16,7 @@ use Rattle.gksl.specs.Words.{pauli}
 use Rattle.model.specs.Given.{Term}
 use Rattle.model.specs.Compiled.{Compiled, compileJump}
 use Rattle.model.specs.Built.{parts, termsOf}
-use Rattle.model.specs.declared.tables.Range.{Range}
+use Rattle.model.specs.declared.stored.Range.{Range}
 use Rattle.model.proofs.SizeLaws.{formed-few, compiled-few}
 use Rattle.kossakowski.specs.Matrix.{pairPlaces}
 use Rattle.kossakowski.specs.Pairs.{factorOf, factorsOf, scaled, productAfter, compilePair, pairAt, pairsOf}

@@ -19,9 +19,9 @@ use Rattle.word.specs.Register.{reaches}
 use Rattle.word.specs.Flat.{words}
 use Rattle.word.proofs.Sums.{or-left, or-right, any-false}
 use Rattle.number.specs.Floats.{inRange, bounded}
-use Rattle.model.specs.Stored.{Tables, kindAt, jumpAt, given}
+use Rattle.model.specs.Stored.{ModelTables, kindAt, jumpAt, given}
 use Rattle.model.specs.Tested.{maxHamiltonian, maxJumps, firstTo, entries, badReal, badJump, badEntry, isGiven, badTerm, testModel}
-use Rattle.model.specs.declared.tables.Model.{Model}
+use Rattle.model.specs.declared.stored.Model.{Model}
 use Rattle.model.proofs.Firsts.{NoneBefore, first-none, first-before}
 use Rattle.model.proofs.TestOrder.{counted-within, lent-enough, entries-passed, qubits-within, terms-on, jumps-on, hamiltonian-on, term-numbers-on, term-words-on, rates-on, jump-numbers-on, coefficients-on, words-on, jump-count-on}
 use Rattle.model.proofs.BuildLaws.{passed, lent-passed, counted-passed}
@@ -57,7 +57,7 @@ none-bad n f after e =
     ((λ k h. first-before n f k (omega arith)), p .1)
 
 -- ---- an item that passes, and what it is
-module _ (m : Model) (t : Tables) where
+module _ (m : Model) (t : ModelTables) where
   real-good : (i : ℕ) → badReal (m .qubits) t i ≡ false → GoodReal (m .qubits) (getD (words (t .hWords)) i identity) (getD (t .hCoeffs) i nan)
   unfolding badReal
   real-good i e = record { below = or-left _ _ e; range = not-false _ (or-right (reaches (getD (words (t .hWords)) i identity) (m .qubits)) _ e) }

@@ -13,11 +13,11 @@ use Rattle.number.specs.Numbers.{Cx}
 use Rattle.number.specs.Floats.{floats}
 use Rattle.number.specs.Bounds.{AtMost, AtMostC}
 use Rattle.number.proofs.RangeLaws.{bounded-atMost, inRange-atMost}
-use Rattle.model.specs.Stored.{Tables, jumpAt, given}
+use Rattle.model.specs.Stored.{ModelTables, jumpAt, given}
 use Rattle.model.specs.Tested.{inside, badJump}
-use Rattle.model.specs.declared.tables.Model.{Model}
-use Rattle.model.specs.declared.tables.Range.{Range}
-use Rattle.model.specs.declared.tables.Jump.the-variants.{Pauli, General}
+use Rattle.model.specs.declared.stored.Model.{Model}
+use Rattle.model.specs.declared.stored.Range.{Range}
+use Rattle.model.specs.declared.stored.Jump.the-variants.{Pauli, General}
 use Rattle.model_laws.specs.Stands.{Bounded, numberAt, Stands}
 use Rattle.model_laws.proofs.FormedBounds.{inRange-atMostC}
 use Rattle.model_laws.proofs.JumpTests.{both}
@@ -25,7 +25,7 @@ use Rattle.model_laws.proofs.JumpTests.{both}
 pub bounded-atMostC : {z : Cx floats} → Bounded z → AtMostC 620 z
 bounded-atMostC {z} h = record { re = bounded-atMost (z .re) (h .re); im = bounded-atMost (z .im) (h .im) }
 
-module _ (m : Model) (t : Tables) (s : Stands m t) where
+module _ (m : Model) (t : ModelTables) (s : Stands m t) where
   pub real-size : (i : ℕ) → i < m .hamiltonian → AtMost 200 (getD (t .hCoeffs) i nan)
   real-size i l = inRange-atMost (getD (t .hCoeffs) i nan) (s .reals i l .range)
 

@@ -23,7 +23,7 @@ use Rattle.gksl.specs.Rules.{pairsOver, formedOver, bare, onWord}
 use Rattle.gksl.specs.Words.{pauli}
 use Rattle.model.specs.Given.{Term}
 use Rattle.model.specs.Compiled.{compileJump, pauliJump, generalJump}
-use Rattle.model.specs.declared.tables.Range.{Range}
+use Rattle.model.specs.declared.stored.Range.{Range}
 use Rattle.kossakowski.specs.Matrix.{isPair, passing, pairPlaces}
 use Rattle.kossakowski.specs.Pairs.{factorOf, scaled, compilePair}
 use Rattle.kossakowski.specs.Whole.{WholeEntries}

@@ -10,13 +10,13 @@ use lib.ListN.{length, getD}
 use Rattle.refusal.specs.declared.Answer.{Answer}
 use Rattle.refusal.specs.declared.Answer.the-variants.{Accepted}
 use Rattle.number.specs.Floats.{floats}
-use Rattle.model.specs.Stored.{Tables}
+use Rattle.model.specs.Stored.{ModelTables}
 use Rattle.model.specs.Tested.{maxJumps, counted, entries, testModel}
 use Rattle.model.specs.Fails.{numberFails}
 use Rattle.model.specs.Given.{maxTerms}
 use Rattle.model.specs.Compiled.{Compiled}
 use Rattle.model.specs.Built.{partsFit, andThen, equal, termsOf}
-use Rattle.model.specs.declared.tables.Model.{Model}
+use Rattle.model.specs.declared.stored.Model.{Model}
 use Rattle.model.specs.declared.spec.Built.{Built}
 use Rattle.model.specs.declared.spec.Built.the-variants as Answers
 use Rattle.kossakowski.specs.Matrix.{hermitian, pairPlaces}
@@ -38,7 +38,7 @@ ownLengths i =
     Accepted)))))
 
 -- as `add` without the tests of the tables lent for more; those of the model are tested
-unfoldable pub addedFrom : Model → Input → Tables → Built
+unfoldable pub addedFrom : Model → Input → ModelTables → Built
 addedFrom m i t =
     answered
     (andThen (testModel m t)
@@ -65,7 +65,7 @@ pub record MatrixCounts (k c : ℕ) (i : Input) : Type 0 where
   pub terms : (j : ℕ) → min (getD (i .counts) j 0) maxTerms ≤ c
 
 -- room for them beside what the model holds
-pub record MatrixRoom (k c : ℕ) (m : Model) (t : Tables) (workWords : List ℕ) (workNumbers : List Float) : Type 0 where
+pub record MatrixRoom (k c : ℕ) (m : Model) (t : ModelTables) (workWords : List ℕ) (workNumbers : List Float) : Type 0 where
   pub jumps : 8 * (m .jumps + pairsUpTo k) ≤ length (t .jumps)
   pub rates : m .jumps + pairsUpTo k ≤ length (t .rates)
   pub t-words : 4 * (m .terms + matrixPlaces k c) ≤ length (t .tWords)

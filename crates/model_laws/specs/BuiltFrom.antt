@@ -13,7 +13,7 @@ use Rattle.refusal.specs.declared.Refusal.the-variants.{TooManyQubits}
 use Rattle.refusal.specs.declared.Answer.{Answer}
 use Rattle.refusal.specs.declared.Answer.the-variants.{Accepted, Refused}
 use Rattle.word.specs.Word.{maxQubits}
-use Rattle.model.specs.Stored.{Tables}
+use Rattle.model.specs.Stored.{ModelTables}
 use Rattle.model.specs.Tested.{maxHamiltonian, maxJumps, counted, whereAny}
 use Rattle.model.specs.Given.{Read, got, refused, maxTerms}
 use Rattle.model.specs.Compiled.{Compiled, compileJump}
@@ -57,7 +57,7 @@ pub record ModelCounts (h j c : ℕ) (i : Input) : Type 0 where
   pub terms : (k : ℕ) → min (getD (i .counts) k 0) maxTerms ≤ c
 
 -- room for them: a jump stores its terms and its product
-pub record ModelRoom (h j c : ℕ) (t : Tables) (workWords : List ℕ) (workNumbers : List Float) : Type 0 where
+pub record ModelRoom (h j c : ℕ) (t : ModelTables) (workWords : List ℕ) (workNumbers : List Float) : Type 0 where
   pub h-words : 4 * h ≤ length (t .hWords)
   pub h-coeffs : h ≤ length (t .hCoeffs)
   pub jumps : 8 * j ≤ length (t .jumps)

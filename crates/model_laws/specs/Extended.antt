@@ -13,12 +13,12 @@ use Rattle.word.specs.Flat.{layWord}
 use Rattle.number.specs.Floats.{floats}
 use Rattle.gksl.specs.Model.{RealTerm}
 use Rattle.gksl.specs.Words.{pauli}
-use Rattle.table.specs.Numbers.{layNumber, noNumber}
-use Rattle.model.specs.Stored.{Tables, kindAt, jumpAt, given}
+use Rattle.sums.specs.Numbers.{layNumber, noNumber}
+use Rattle.model.specs.Stored.{ModelTables, kindAt, jumpAt, given}
 use Rattle.model.specs.Tested.{maxHamiltonian, maxJumps, badJump}
 use Rattle.model.specs.Given.{Term}
 use Rattle.model.specs.Laid.{laid, layEntry}
-use Rattle.model.specs.declared.tables.Model.{Model}
+use Rattle.model.specs.declared.stored.Model.{Model}
 use Rattle.model_laws.specs.Every.{Every}
 use Rattle.model_laws.specs.Stands.{InRange, GoodReal, GoodTerm}
 
@@ -37,7 +37,7 @@ larger m a = record {
   terms = m .terms + length (a .terms);
 }
 
-unfoldable pub extended : Model → Tables → Additions → Tables
+unfoldable pub extended : Model → ModelTables → Additions → ModelTables
 extended m t a = record {
   hWords = laid layWord (m .hamiltonian) (map (λ h. h .word) (a .reals)) (t .hWords);
   hCoeffs = laid set (m .hamiltonian) (map (λ h. h .num) (a .reals)) (t .hCoeffs);
@@ -60,7 +60,7 @@ pub record GoodEntry (from : ℕ) (terms : List Term) (e : List ℕ) (rate : Flo
   pub givens : (i : ℕ) → given (jumpAt e (rate ∷ []) 0) i ≡ true → (from ≤ i) × InRange (getD terms (i - from) noTerm .num)
 
 -- the new items pass, and there is room for them
-pub record Extends (m : Model) (t : Tables) (a : Additions) : Type 0 where
+pub record Extends (m : Model) (t : ModelTables) (a : Additions) : Type 0 where
   pub rates-each : length (a .rates) ≡ length (a .entries)
   pub reals : Every (λ h. Sound (h .word) × GoodReal (m .qubits) (h .word) (h .num)) (a .reals)
   pub entries : (j : ℕ) → j < length (a .entries) → GoodEntry (m .terms) (a .terms) (getD (a .entries) j []) (getD (a .rates) j nan)

@@ -14,9 +14,9 @@ use Rattle.word.specs.Flat.{words}
 use Rattle.word.specs.declared.word.Word.{Word}
 use Rattle.number.specs.Numbers.{Cx}
 use Rattle.number.specs.Floats.{floats, inRange, bounded}
-use Rattle.model.specs.Stored.{Tables, kindAt, jumpAt, given}
+use Rattle.model.specs.Stored.{ModelTables, kindAt, jumpAt, given}
 use Rattle.model.specs.Tested.{maxHamiltonian, maxJumps, badJump}
-use Rattle.model.specs.declared.tables.Model.{Model}
+use Rattle.model.specs.declared.stored.Model.{Model}
 
 -- both parts are
 pub record InRange (z : Cx floats) : Type 0 where
@@ -40,7 +40,7 @@ pub record GoodTerm (n : ℕ) (w : Word) (z : Cx floats) : Type 0 where
 abbrev pub numberAt : List Float → ℕ → Cx floats
 numberAt l i = record { re = getD l (i * 2) nan; im = getD l (i * 2 + 1) nan }
 
-pub record Stands (m : Model) (t : Tables) : Type 0 where
+pub record Stands (m : Model) (t : ModelTables) : Type 0 where
   pub qubits : m .qubits ≤ maxQubits
   pub few-reals : m .hamiltonian ≤ maxHamiltonian
   pub few-jumps : m .jumps ≤ maxJumps

@@ -16,8 +16,8 @@ use Rattle.word.specs.declared.word.Word.{Word}
 use Rattle.number.specs.Floats.{floats, float0, magnitude}
 use Rattle.expm.specs.Selects.{degreeBy, tableFor}
 use Rattle.expm.specs.declared.Degree.{Degree}
-use Rattle.model.specs.Stored.{Tables}
-use Rattle.model.specs.declared.tables.Model.{Model}
+use Rattle.model.specs.Stored.{ModelTables}
+use Rattle.model.specs.declared.stored.Model.{Model}
 use Rattle.action.specs.Counts.{most, touchedBy}
 use Rattle.norm.specs.Columns.{meanOf, largest, columnNorm, columnNorms, rawBy, diagBy, muOf, normOf, Fills}
 use Rattle.norm.specs.Norms.{Work, workOf, zeroed, normTested, degreeTested, normAnswer, normFrom, partition, degreeAnswer, normCourse, norming, selecting}
@@ -39,7 +39,7 @@ unfolding columnNorms
 columns-are mu f g [] = refl
 columns-are mu f g (p ∷ ps) = ap (λ (l : List Float). columnNorm mu (f p) (g p) ∷ l) (columns-are mu f g ps)
 
-pub normed-is : (room : ℕ) (m : Model) (t : Tables) (ps : List Word) (len : ℕ) (raws diags : List Float) (r : Answer) → Fills room m t ps len raws diags r → normFrom r (take len raws) (take len diags) ≡ normAnswer room m t ps
+pub normed-is : (room : ℕ) (m : Model) (t : ModelTables) (ps : List Word) (len : ℕ) (raws diags : List Float) (r : Answer) → Fills room m t ps len raws diags r → normFrom r (take len raws) (take len diags) ≡ normAnswer room m t ps
 unfolding normAnswer muOf normOf
 normed-is room m t ps len raws diags r f = go (ltb room (most (touchedBy m t) ps)) refl
   where
@@ -67,7 +67,7 @@ pub work-zero : (hIndex jIndex mask workWords : List ℕ) (workSums raws diags :
 work-zero hIndex jIndex mask workWords workSums raws diags hIndex′ jIndex′ mask′ workWords′ workSums′ raws′ diags′ e1 e2 e3 e4 e5 e6 e7 = rw (e1, e2, e3, e4, e5, e6, e7)
 
 -- ---- the calls
-module _ (w : Work) (m : Model) (t : Tables) (lanes : List ℕ) (len : ℕ) where
+module _ (w : Work) (m : Model) (t : ModelTables) (lanes : List ℕ) (len : ℕ) where
   pub norm-stops : (r : Refusal) → normTested m t lanes len w ≡ Tests.Refused r → record { answer = Refused r; work = w } ≡ norming w m t lanes len
   unfolding norming
   norm-stops r e = rw e

@@ -16,17 +16,17 @@ use Rattle.refusal.specs.declared.Refusal.the-variants.{CountAboveLimit, Length
 use Rattle.refusal.specs.declared.Answer.{Answer}
 use Rattle.refusal.specs.declared.Answer.the-variants.{Accepted, Refused}
 use Rattle.number.specs.Floats.{isFinite}
-use Rattle.model.specs.Stored.{Tables}
+use Rattle.model.specs.Stored.{ModelTables}
 use Rattle.model.specs.Tested.{whereAny, firstTo, testModel}
 use Rattle.model.specs.Built.{andThen}
-use Rattle.model.specs.declared.tables.Model.{Model}
+use Rattle.model.specs.declared.stored.Model.{Model}
 use Rattle.model.proofs.NeedLaws.{need-some}
 use Rattle.model.proofs.Firsts.{first-before}
 use Rattle.model.proofs.BuildLaws.{passed, both, lent-passed, counted-passed}
 use Rattle.action.specs.Counts.{maxWords, rowLanes, outsideAt, insideTo}
 use Rattle.norm.specs.Norms.{normTests, finiteTests}
 
-module _ (m : Model) (t : Tables) (lanes : List ℕ) (len h j k r d : ℕ) where
+module _ (m : Model) (t : ModelTables) (lanes : List ℕ) (len h j k r d : ℕ) where
   abbrev tests : Answer
   tests = normTests m t lanes len h j k r d
 
@@ -105,7 +105,7 @@ pub first-accepted : (a b : Answer) → a ≡ Accepted → b ≡ andThen a b
 first-accepted a b e = rw e
 
 -- ---- what is known where the tests are passed
-pub record Passed (m : Model) (t : Tables) (lanes : List ℕ) (len h j k r d : ℕ) : Type 0 where
+pub record Passed (m : Model) (t : ModelTables) (lanes : List ℕ) (len h j k r d : ℕ) : Type 0 where
   pub model : testModel m t ≡ Accepted
   pub few : len ≤ maxWords
   pub words-long : len ≤ length lanes / 4
@@ -116,7 +116,7 @@ pub record Passed (m : Model) (t : Tables) (lanes : List ℕ) (len h j k r d : �
   pub diags-long : len ≤ d
   pub inside : (i : ℕ) → i < len → outsideAt lanes (m .qubits) i ≡ false
 
-pub norm-passed : (m : Model) (t : Tables) (lanes : List ℕ) (len h j k r d : ℕ) → normTests m t lanes len h j k r d ≡ Accepted → Passed m t lanes len h j k r d
+pub norm-passed : (m : Model) (t : ModelTables) (lanes : List ℕ) (len h j k r d : ℕ) → normTests m t lanes len h j k r d ≡ Accepted → Passed m t lanes len h j k r d
 unfolding normTests insideTo
 norm-passed m t lanes len h j k r d e =
     let first : ℕ = firstTo len (outsideAt lanes (m .qubits)) in

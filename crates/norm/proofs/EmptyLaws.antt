@@ -16,16 +16,16 @@ use Rattle.number.specs.Floats.{float0, magnitude}
 use Rattle.number.proofs.ExactLaws.{is-nought}
 use Rattle.number.proofs.WholeFloats.{whole-nought, is-lt}
 use Rattle.expm.proofs.LeastLaws.{degree-none}
-use Rattle.model.specs.Stored.{Tables}
+use Rattle.model.specs.Stored.{ModelTables}
 use Rattle.model.specs.Tested.{lent, whereAny, firstTo, testModel}
-use Rattle.model.specs.declared.tables.Model.{Model}
+use Rattle.model.specs.declared.stored.Model.{Model}
 use Rattle.action.specs.Counts.{insideTo, most}
 use Rattle.norm.specs.Columns.{meanOf, largestFrom, muOf, normOf}
 use Rattle.norm.specs.Norms.{Work, zeroed, normTests, finiteTests, normTested, normAnswer, partition, degreeAnswer, norming, selecting}
 use Rattle.norm.specs.declared.norm.Normed.the-variants.{Norm}
 use Rattle.norm.specs.declared.degree.Selected.the-variants.{Partition}
 
-none : (room : ℕ) (m : Model) (t : Tables) → normAnswer room m t [] ≡ Norm float0 float0
+none : (room : ℕ) (m : Model) (t : ModelTables) → normAnswer room m t [] ≡ Norm float0 float0
 unfolding normAnswer most meanOf largestFrom muOf normOf
 none room m t = rw (le-ltb room 0 (omega arith))
 
@@ -45,7 +45,7 @@ lent-none : (places : ℕ) (after : Answer) → lent 0 places after ≡ after
 lent-none places after = rw (le-ltb places 0 (omega arith))
 
 -- ---- the calls, whatever they are lent to work with
-module _ (w : Work) (m : Model) (t : Tables) (lanes : List ℕ) (ok : testModel m t ≡ Tests.Accepted) where
+module _ (w : Work) (m : Model) (t : ModelTables) (lanes : List ℕ) (ok : testModel m t ≡ Tests.Accepted) where
   none-asked : normTested m t lanes 0 w ≡ Tests.Accepted
   unfolding normTests insideTo firstTo whereAny
   none-asked = rw ok (

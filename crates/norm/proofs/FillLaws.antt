@@ -21,8 +21,8 @@ use Rattle.word.specs.Flat.{words}
 use Rattle.word.specs.Register.{reaches}
 use Rattle.word.specs.declared.word.Word.{Word}
 use Rattle.word.proofs.FlatLaws.{words-high}
-use Rattle.model.specs.Stored.{Tables}
-use Rattle.model.specs.declared.tables.Model.{Model}
+use Rattle.model.specs.Stored.{ModelTables}
+use Rattle.model.specs.declared.stored.Model.{Model}
 use Rattle.model.proofs.BuildLaws.{refused-not}
 use Rattle.action.specs.Counts.{most, touchedBy, outsideAt}
 use Rattle.norm.specs.Columns.{rawBy, diagBy, Fills}
@@ -86,10 +86,10 @@ module _ (touch : Word → ℕ) (raw diag : Word → Float) (ps : List Word) (ro
       }
 
 -- ---- the answers
-pub fills-places : (m : Model) (t : Tables) (ps : List Word) (len : ℕ) (raws diags : List Float) (r : Answer) {room places : ℕ} → room ≡ places → Fills room m t ps len raws diags r → Fills places m t ps len raws diags r
+pub fills-places : (m : Model) (t : ModelTables) (ps : List Word) (len : ℕ) (raws diags : List Float) (r : Answer) {room places : ℕ} → room ≡ places → Fills room m t ps len raws diags r → Fills places m t ps len raws diags r
 fills-places m t ps len raws diags r e f = subst (λ (n : ℕ). Fills n m t ps len raws diags r) e f
 
-module _ (m : Model) (t : Tables) (ps : List Word) (room len : ℕ) (raws diags : List Float) (k : ℕ) where
+module _ (m : Model) (t : ModelTables) (ps : List Word) (room len : ℕ) (raws diags : List Float) (k : ℕ) where
   pub fill-full : (p : Word) → k < length ps → p ≡ getD ps k identity → room < touchedBy m t p → Fills room m t ps len raws diags (Refused (TableFull 1 room))
   fill-full p h e l =
       let a = most-at (touchedBy m t) ps k h in

@@ -16,11 +16,11 @@ use Rattle.refusal.specs.declared.Answer.the-variants.{Accepted, Refused}
 use Rattle.word.specs.Order.{same}
 use Rattle.word.specs.declared.word.Word.{Word}
 use Rattle.number.specs.Floats.{floats, float0, magnitude}
-use Rattle.model.specs.Stored.{Tables}
+use Rattle.model.specs.Stored.{ModelTables}
 use Rattle.model.specs.Tested.{testModel}
 use Rattle.model.specs.Given.{Term}
-use Rattle.model.specs.declared.tables.Model.{Model}
-use Rattle.kernel.specs.Near.{ModelIndexed}
+use Rattle.model.specs.declared.stored.Model.{Model}
+use Rattle.rules_by_index.specs.Near.{ModelIndexed}
 use Rattle.action.specs.Acts.{actionOf}
 use Rattle.action.specs.Counts.{maxWords, most, touchedBy, outsideAt}
 
@@ -60,7 +60,7 @@ largestFrom x (y ∷ ys) = largestFrom (floats .larger x y) ys
 abbrev pub largest : List Float → Float
 largest l = largestFrom float0 l
 
-module _ (m : Model) (t : Tables) where
+module _ (m : Model) (t : ModelTables) where
   abbrev pub rawBy : Word → Float
   rawBy p = rawOf (actionOf m t p)
 
@@ -76,7 +76,7 @@ module _ (m : Model) (t : Tables) where
 -- ---- for the functions that work on lent tables
 -- a tested model, its index and a mask where there is a word to act on, places for the words of one action, and for each of so many
 -- basis words a raw and a diagonal
-pub record ColumnRoom (m : Model) (t : Tables) (hIndex jIndex mask workWords : List ℕ) (workSums : List Float) (room : ℕ) (lanes : List ℕ) (len : ℕ) (raws diags : List Float) : Type 0 where
+pub record ColumnRoom (m : Model) (t : ModelTables) (hIndex jIndex mask workWords : List ℕ) (workSums : List Float) (room : ℕ) (lanes : List ℕ) (len : ℕ) (raws diags : List Float) : Type 0 where
   pub tested : testModel m t ≡ Accepted
   pub indexed : 0 < len → ModelIndexed m t hIndex jIndex
   pub h-rows : 0 < len → 64 * m .qubits ≤ length hIndex
@@ -91,11 +91,11 @@ pub record ColumnRoom (m : Model) (t : Tables) (hIndex jIndex mask workWords : L
   pub diags-long : len ≤ length diags
 
 -- 13 where one action touches more words than there is room for
-abbrev pub roomFor : ℕ → Model → Tables → List Word → Answer
+abbrev pub roomFor : ℕ → Model → ModelTables → List Word → Answer
 roomFor room m t ps = cond (ltb room (most (touchedBy m t) ps)) (Refused (TableFull 1 room)) Accepted
 
 -- what filling the columns answers, and leaves in the two tables
-pub record Fills (room : ℕ) (m : Model) (t : Tables) (ps : List Word) (len : ℕ) (raws diags : List Float) (r : Answer) : Type 0 where
+pub record Fills (room : ℕ) (m : Model) (t : ModelTables) (ps : List Word) (len : ℕ) (raws diags : List Float) (r : Answer) : Type 0 where
   pub answers : r ≡ roomFor room m t ps
   pub raws-are : r ≡ Accepted → take len raws ≡ map (rawBy m t) ps
   pub diags-are : r ≡ Accepted → take len diags ≡ map (diagBy m t) ps

@@ -16,13 +16,13 @@ use Rattle.word.specs.declared.word.Word.{Word}
 use Rattle.number.specs.Floats.{floats, float0, magnitude}
 use Rattle.expm.specs.Selects.{degreeBy, tableFor}
 use Rattle.expm.specs.declared.Degree.{Degree}
-use Rattle.model.specs.Stored.{Tables}
+use Rattle.model.specs.Stored.{ModelTables}
 use Rattle.model.specs.Tested.{counted, lent, whereAny, testModel}
 use Rattle.model.specs.Built.{andThen}
-use Rattle.model.specs.declared.tables.Model.{Model}
+use Rattle.model.specs.declared.stored.Model.{Model}
 use Rattle.action.specs.Acts.{sumPlaces}
 use Rattle.action.specs.Counts.{maxWords, rowLanes, insideTo, most, touchedBy}
-use Rattle.basis.specs.Tests.{finiteThreshold}
+use Rattle.truncate.specs.Tests.{finiteThreshold}
 use Rattle.norm.specs.Columns.{meanOf, largest, columnNorms, muOf, normOf}
 use Rattle.norm.specs.declared.norm.Normed.{Normed}
 use Rattle.norm.specs.declared.norm.Normed.the-variants.{Norm, Refused}
@@ -56,7 +56,7 @@ zeroed w = record {
 
 -- ---- the tests
 -- the model, 8, 9, 11, over the first len words and tables of so many places; no words ask for no place
-unfoldable pub normTests : Model → Tables → List ℕ → ℕ → ℕ → ℕ → ℕ → ℕ → ℕ → Answer
+unfoldable pub normTests : Model → ModelTables → List ℕ → ℕ → ℕ → ℕ → ℕ → ℕ → ℕ → Answer
 normTests m t lanes len hIndex jIndex mask raws diags =
     andThen (testModel m t)
     (counted maxWords len
@@ -69,19 +69,19 @@ normTests m t lanes len hIndex jIndex mask raws diags =
     (insideTo len lanes (m .qubits)
     Tests.Accepted))))))))
 
-abbrev pub normTested : Model → Tables → List ℕ → ℕ → Work → Answer
+abbrev pub normTested : Model → ModelTables → List ℕ → ℕ → Work → Answer
 normTested m t lanes len w = normTests m t lanes len (length (w .hIndex)) (length (w .jIndex)) (length (w .mask)) (length (w .raws)) (length (w .diags))
 
 -- then 7 for dt, and 7 for drop_tol: no coefficients are lent, so a threshold's index is 0
 unfoldable pub finiteTests : Float → Float → Answer
 finiteTests dt dropTol = finiteThreshold 0 dt (finiteThreshold 0 dropTol Tests.Accepted)
 
-abbrev pub degreeTested : Model → Tables → List ℕ → ℕ → Float → Float → Work → Answer
+abbrev pub degreeTested : Model → ModelTables → List ℕ → ℕ → Float → Float → Work → Answer
 degreeTested m t lanes len dt dropTol w = andThen (normTested m t lanes len w) (finiteTests dt dropTol)
 
 -- ---- the answers
 -- 13 where one action touches more words than there is room for
-unfoldable pub normAnswer : ℕ → Model → Tables → List Word → Normed
+unfoldable pub normAnswer : ℕ → Model → ModelTables → List Word → Normed
 normAnswer room m t ps = cond (ltb room (most (touchedBy m t) ps)) (Refused (TableFull 1 room)) (Norm (muOf m t ps) (normOf m t ps))
 
 abbrev pub partition : Float → Float → Degree → Selected
@@ -108,7 +108,7 @@ pub record Selecting : Type 0 where
 
 module _ (w : Work) where
   -- the norm of the first len words
-  abbrev pub normCourse : Model → Tables → List ℕ → ℕ → Normed
+  abbrev pub normCourse : Model → ModelTables → List ℕ → ℕ → Normed
   normCourse m t lanes len = normAnswer (sumPlaces (w .workWords) (w .workSums)) m t (take len (words lanes))
 
   -- a refusal by a test changes nothing; work tables are zero after acceptance and 13
@@ -116,12 +116,12 @@ module _ (w : Work) where
   normAfter Tests.Accepted answer = record { answer = answer; work = zeroed w }
   normAfter (Tests.Refused r) answer = record { answer = Refused r; work = w }
 
-  unfoldable pub norming : Model → Tables → List ℕ → ℕ → Norming
+  unfoldable pub norming : Model → ModelTables → List ℕ → ℕ → Norming
   norming m t lanes len = normAfter (normTested m t lanes len w) (normCourse m t lanes len)
 
   abbrev pub degreeAfter : Answer → Selected → Selecting
   degreeAfter Tests.Accepted answer = record { answer = answer; work = zeroed w }
   degreeAfter (Tests.Refused r) answer = record { answer = Choice.Refused r; work = w }
 
-  unfoldable pub selecting : Model → Tables → List ℕ → ℕ → Float → Float → Selecting
+  unfoldable pub selecting : Model → ModelTables → List ℕ → ℕ → Float → Float → Selecting
   selecting m t lanes len dt dropTol = degreeAfter (degreeTested m t lanes len dt dropTol w) (degreeAnswer dt dropTol (normCourse m t lanes len))

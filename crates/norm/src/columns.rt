@@ -7,19 +7,19 @@ ghost use mathlib.Core.Path.{_≡_};
 ghost use Prim.Native.Nat.{_*_, _≤_};
 ghost use lib.ListN.{length, take};
 ghost use Rattle.word.specs.Flat.{words as wordsIn};
-ghost use Rattle.table.specs.Sums.{table};
+ghost use Rattle.sums.specs.Sums.{sumRows};
 ghost use Rattle.model.specs.Stored.{tables};
 ghost use Rattle.action.specs.Acts.{listed};
 ghost use Rattle.norm.specs.Columns.{rawOf, diagOf, ColumnRoom, Fills};
 use action::act::SUMS_TABLE;
-use kernel::near::put_rules_near;
+use rules_by_index::near::put_rules_near;
 use model::product::term_at;
-use model::tables::Model;
+use model::stored::Model;
 use number::scalar::is_zero;
 use number::scalar::magnitude;
 use refusal::Answer;
 use refusal::Refusal;
-use table::sums::Added;
+use sums::sums::Added;
 use word::flat::word_at;
 use word::word::Word;
 use word::word::same_word;
@@ -27,7 +27,7 @@ use word::word::same_word;
 // The magnitudes of the first `len` sums, added in word order.
 fn raw_of(words: &[u64], sums: &[f64], len: usize) -> f64
     requires { ⌜ (4 * len ≤ length (now words)) × (2 * len ≤ length (now sums)) ⌝ }
-    ensures { λ r. ⌜ r ≡ rawOf (listed (table len (now (words .entry)) (now (sums .entry)))) ⌝ }
+    ensures { λ r. ⌜ r ≡ rawOf (listed (sumRows len (now (words .entry)) (now (sums .entry)))) ⌝ }
 {
     let mut raw = 0.0;
     let mut i = 0;
@@ -47,7 +47,7 @@ fn raw_of(words: &[u64], sums: &[f64], len: usize) -> f64
 // The one onto a word, or 0.
 fn diagonal_of(words: &[u64], sums: &[f64], len: usize, w: Word) -> f64
     requires { ⌜ (4 * len ≤ length (now words)) × (2 * len ≤ length (now sums)) ⌝ }
-    ensures { λ r. ⌜ r ≡ diagOf w (listed (table len (now (words .entry)) (now (sums .entry)))) ⌝ }
+    ensures { λ r. ⌜ r ≡ diagOf w (listed (sumRows len (now (words .entry)) (now (sums .entry)))) ⌝ }
 {
     let mut i = 0;
     while i < len {

@@ -10,7 +10,7 @@ use crate::check::check_degree;
 use crate::norm::Normed;
 use crate::norm::norm_tested;
 use expm::select_degree;
-use model::tables::Model;
+use model::stored::Model;
 use number::scalar::magnitude;
 use refusal::Answer;
 use refusal::Refusal;

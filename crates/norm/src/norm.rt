@@ -14,15 +14,15 @@ ghost use Rattle.norm.specs.Columns.{columnNorm, columnNorms, meanOf, la
 ghost use Rattle.norm.specs.Norms.{workOf, zeroed, normTests, normFrom, normCourse, norming};
 use crate::check::check_norm;
 use crate::columns::fill_columns;
-use kernel::indexed::index_model;
-use model::tables::Model;
+use rules_by_index::indexed::index_model;
+use model::stored::Model;
 use model::test::smaller;
 use number::scalar::larger;
 use number::scalar::magnitude;
 use refusal::Answer;
 use refusal::Refusal;
-use table::clear::clear_lanes;
-use table::clear::clear_numbers;
+use sums::clear::clear_lanes;
+use sums::clear::clear_numbers;
 use word::flat::WORD_LANES;
 
 // The mean diagonal and the largest column norm.

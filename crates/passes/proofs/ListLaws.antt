@@ -15,14 +15,14 @@ use Rattle.word.specs.Flat.{words, layWord}
 use Rattle.word.specs.Word.{identity}
 use Rattle.word.specs.declared.word.Word.{Word}
 use Rattle.candidates.specs.Sums.{Row, row}
-use Rattle.candidates.specs.Log.{Rows, table}
+use Rattle.candidates.specs.Log.{Rows, candidateRows}
 use Rattle.candidates.proofs.RowLaws.{noRow, table-long, table-at}
 use Rattle.model.specs.Laid.{laid}
 use Rattle.passes.specs.Leaks.{isAbove, above, wordsOf, sumsOf, Holding}
 
 module _ (tau : Float) (n : ℕ) (lanes : List ℕ) (sums : List Float) where
   abbrev held : Rows
-  held = table n lanes sums
+  held = candidateRows n lanes sums
 
   -- what is left to list from place i on
   abbrev left : ℕ → Rows
@@ -60,7 +60,7 @@ module _ (tau : Float) (n : ℕ) (lanes : List ℕ) (sums : List Float) where
 -- ---- counting them
 pub record CountState (tau : Float) (n : ℕ) (lanes : List ℕ) (sums : List Float) (count i : ℕ) : Type 0 where
   pub few : count ≤ i
-  pub counted : count + length (left tau n lanes sums i) ≡ length (above tau (table n lanes sums))
+  pub counted : count + length (left tau n lanes sums i) ≡ length (above tau (candidateRows n lanes sums))
 
 module _ (tau : Float) (n : ℕ) (lanes : List ℕ) (sums : List Float) (h : Holding n n lanes sums) (count i : ℕ) (s : CountState tau n lanes sums count i) where
   module _ (l : i < n) where
@@ -70,7 +70,7 @@ module _ (tau : Float) (n : ℕ) (lanes : List ℕ) (sums : List Float) (h : Hol
     pub count-passes : isAbove tau (getD sums i nan) ≡ false → CountState tau n lanes sums count (i + 1)
     count-passes f = let k = ap length (left-passed tau n lanes sums h i l f) in record { few = omega (arith, s .few); counted = omega (arith, s .counted, k) }
 
-  pub count-done : n ≤ i → count ≡ length (above tau (table n lanes sums))
+  pub count-done : n ≤ i → count ≡ length (above tau (candidateRows n lanes sums))
   count-done l = let k : length (left tau n lanes sums i) ≡ 0 = ap length (left-none tau n lanes sums h i l) in omega (arith, s .counted, k)
 
 -- ---- laying them
@@ -91,7 +91,7 @@ module _ (tau : Float) (n : ℕ) (lanes : List ℕ) (sums : List Float) (outWord
   pub list-start : State outWords₀ outValues₀ 0 0
   list-start = record { words-same = refl; values-same = refl; count = omega arith; words-left = refl; values-left = refl }
 
-  module _ (room : Holding n n lanes sums × (4 * length (above tau (table n lanes sums)) ≤ length outWords₀) × (length (above tau (table n lanes sums)) ≤ length outValues₀))
+  module _ (room : Holding n n lanes sums × (4 * length (above tau (candidateRows n lanes sums)) ≤ length outWords₀) × (length (above tau (candidateRows n lanes sums)) ≤ length outValues₀))
       (outWords : List ℕ) (outValues : List Float) (place i : ℕ) (s : State outWords outValues place i) where
     words-from : (L : Rows) → rest i ≡ L → laid layWord place (wordsOf L) outWords ≡ laid layWord 0 (wordsOf (rest 0)) outWords₀
     words-from L e = subst (λ (M : Rows). laid layWord place (wordsOf M) outWords ≡ laid layWord 0 (wordsOf (rest 0)) outWords₀) e (s .words-left)

@@ -16,9 +16,9 @@ use Rattle.word.specs.declared.word.Word.{Word}
 use Rattle.word.proofs.FlatLaws.{words-high}
 use Rattle.number.specs.Floats.{floats}
 use Rattle.order.specs.Places.{isAmong}
-use Rattle.table.specs.Sums as Terms
+use Rattle.sums.specs.Sums as Terms
 use Rattle.candidates.specs.Sums.{row}
-use Rattle.candidates.specs.Log.{Rows, rows, table}
+use Rattle.candidates.specs.Log.{Rows, rows, candidateRows}
 use Rattle.candidates.proofs.RowLaws.{rows-set, rows-long}
 use Rattle.model.specs.Given.{Term}
 use Rattle.model.specs.Product.{termAt}
@@ -38,7 +38,7 @@ outside-second basis protected w e b f = rw (e, f)
 -- ---- the log
 -- one row more
 table-more : (k : ℕ) (lanes lanes′ : List ℕ) (values : List Float) (w : Word) (x : Float) → 4 * k + 4 ≤ length lanes → k < length values → words lanes′ ≡ set (words lanes) k w
-    → table (k + 1) lanes′ (set values k x) ≡ table k lanes values ++ (row w x ∷ [])
+    → candidateRows (k + 1) lanes′ (set values k x) ≡ candidateRows k lanes values ++ (row w x ∷ [])
 table-more k lanes lanes′ values w x h l e =
     let R : Rows = rows (words lanes) values in
     let n : suc k ≤ length R = rows-long (words lanes) values (suc k) (omega (arith, words-high lanes)) (omega arith) in
@@ -54,7 +54,7 @@ module _ (out : Word → Bool) (c : Float) (touched : ℕ) (lanes : List ℕ) (s
     pub values-same : length logValues ≡ length logValues₀
     pub high : i ≤ touched
     pub few : end ≤ count + i
-    pub gives : table end logWords logValues ++ toLay i ≡ table count logWords₀ logValues₀ ++ leaked out c (listed (Terms.table touched lanes sums))
+    pub gives : candidateRows end logWords logValues ++ toLay i ≡ candidateRows count logWords₀ logValues₀ ++ leaked out c (listed (Terms.sumRows touched lanes sums))
 
   pub log-start : LogState logWords₀ logValues₀ count 0
   log-start = record { words-same = refl; values-same = refl; high = omega arith; few = omega arith; gives = refl }
@@ -73,7 +73,7 @@ module _ (out : Word → Bool) (c : Float) (touched : ℕ) (lanes : List ℕ) (s
               values-same = s .values-same;
               high = omega arith;
               few = omega (arith, s .few);
-              gives = ap (λ (L : Rows). table end logWords logValues ++ L) (sym q) ∙ s .gives;
+              gives = ap (λ (L : Rows). candidateRows end logWords logValues ++ L) (sym q) ∙ s .gives;
             }
 
         pub log-passes : floats .isZero (t .num .re) ≡ true → LogState logWords logValues end (i + 1)
@@ -93,8 +93,8 @@ module _ (out : Word → Bool) (c : Float) (touched : ℕ) (lanes : List ℕ) (s
               → length logWords′ ≡ length logWords → length logValues′ ≡ length logValues → LogState logWords′ logValues′ (end + 1) (i + 1)
           log-lays g logWords′ logValues′ ew ev lw lv =
               let r = row (t .word) (floats .times c (t .num .re)) in
-              let T : Rows = table end logWords logValues in
-              let m : table (end + 1) logWords′ logValues′ ≡ T ++ (r ∷ []) = rw ev (table-more end logWords logWords′ logValues (t .word) (floats .times c (t .num .re)) (log-place .0) (log-place .1) ew) in
+              let T : Rows = candidateRows end logWords logValues in
+              let m : candidateRows (end + 1) logWords′ logValues′ ≡ T ++ (r ∷ []) = rw ev (table-more end logWords logWords′ logValues (t .word) (floats .times c (t .num .re)) (log-place .0) (log-place .1) ew) in
               record {
                 words-same = lw ∙ s .words-same;
                 values-same = lv ∙ s .values-same;
@@ -107,8 +107,8 @@ module _ (out : Word → Bool) (c : Float) (touched : ℕ) (lanes : List ℕ) (s
                     ∙ s .gives;
               }
 
-    pub log-done : touched ≤ i → (end ≤ count + touched) × (table end logWords logValues ≡ table count logWords₀ logValues₀ ++ leaked out c (listed (Terms.table touched lanes sums)))
+    pub log-done : touched ≤ i → (end ≤ count + touched) × (candidateRows end logWords logValues ≡ candidateRows count logWords₀ logValues₀ ++ leaked out c (listed (Terms.sumRows touched lanes sums)))
     unfolding leaked
     log-done h =
         let n : toLay i ≡ [] = ap (leaked out c) (left-none touched lanes sums hl hs i h) in
-        (omega (arith, s .few, s .high), sym (append-nil (table end logWords logValues)) ∙ ap (λ (L : Rows). table end logWords logValues ++ L) (sym n) ∙ s .gives)
+        (omega (arith, s .few, s .high), sym (append-nil (candidateRows end logWords logValues)) ∙ ap (λ (L : Rows). candidateRows end logWords logValues ++ L) (sym n) ∙ s .gives)

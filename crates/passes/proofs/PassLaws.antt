@@ -21,14 +21,14 @@ use Rattle.word.specs.Flat.{words}
 use Rattle.word.specs.Order.{before}
 use Rattle.word.specs.Word.{identity}
 use Rattle.number.specs.Floats.{floats}
-use Rattle.table.specs.declared.sums.Added.{Added}
-use Rattle.table.specs.declared.sums.Added.the-variants as Put
+use Rattle.sums.specs.declared.sums.Added.{Added}
+use Rattle.sums.specs.declared.sums.Added.the-variants as Put
 use Rattle.candidates.specs.Sums.{Row, putAll}
-use Rattle.candidates.specs.Log.{Rows, rows, table, putRows, answer, Holds}
+use Rattle.candidates.specs.Log.{Rows, rows, candidateRows, putRows, answer, Holds}
 use Rattle.candidates.proofs.PutLaws.{strict, all-append, all-grow}
 use Rattle.model.specs.Given.{Term, Read, got, refused, refuseIf}
-use Rattle.model.specs.Stored.{Tables}
-use Rattle.model.specs.declared.tables.Model.{Model}
+use Rattle.model.specs.Stored.{ModelTables}
+use Rattle.model.specs.declared.stored.Model.{Model}
 use Rattle.action.specs.Acts.{actionOf}
 use Rattle.passes.specs.declared.taken.Taken.the-variants.{Held, Refused}
 use Rattle.passes.specs.declared.pass.Pending.the-variants.{Open, NoRoom}
@@ -56,7 +56,7 @@ full-long room g e = go (ltb room (length g)) refl e
     go false p q = let z : _≡_ {A = ℕ} 0 1 = cc in absurd (omega arith)
 
 -- ---- answers
-took-held : (room n : ℕ) (course : Read Rows) (lanes : List ℕ) (sums : List Float) → course ≡ got (table n lanes sums) → n ≤ room → Took room course lanes sums (Held n)
+took-held : (room n : ℕ) (course : Read Rows) (lanes : List ℕ) (sums : List Float) → course ≡ got (candidateRows n lanes sums) → n ≤ room → Took room course lanes sums (Held n)
 took-held room n course lanes sums e h =
     record {
       held = λ k z. let q : n ≡ k = cc in (rw (← q) e, omega arith);
@@ -72,7 +72,7 @@ took-refused room course lanes sums r e =
 
 -- ---- room in the log
 module _ (room capacity more : ℕ) (all : Rows) (logWords : List ℕ) (logValues : List Float) (lanes : List ℕ) (sums : List Float) where
-  pub opens : (held logged : ℕ) → putRows (table logged logWords logValues) (table held lanes sums) ≡ all → logged + more ≤ capacity → held ≤ room → Opens room capacity more all logWords logValues lanes sums (Open held logged)
+  pub opens : (held logged : ℕ) → putRows (candidateRows logged logWords logValues) (candidateRows held lanes sums) ≡ all → logged + more ≤ capacity → held ≤ room → Opens room capacity more all logWords logValues lanes sums (Open held logged)
   opens held logged e h k =
       record {
         opened = λ m l z. let p : held ≡ m = cc in let q : logged ≡ l = cc in (rw (← p, ← q) e, omega arith, omega arith);
@@ -141,19 +141,19 @@ module _ (touched : ℕ → ℕ) (leaks : ℕ → Rows) (sumRoom room : ℕ) whe
   -- ---- the turns of a pass over its positions
   -- what is held with what is logged, and the positions from i on, give the whole
   pub record Passing (positions : List ℕ) (course : Read Rows) (i held count : ℕ) (logWords : List ℕ) (logValues : List Float) (lanes : List ℕ) (sums : List Float) : Type 0 where
-    pub gives : left (drop i positions) (putRows (table count logWords logValues) (table held lanes sums)) ≡ course
+    pub gives : left (drop i positions) (putRows (candidateRows count logWords logValues) (candidateRows held lanes sums)) ≡ course
     pub inside : held ≤ room
 
   module _ (positions : List ℕ) where
     -- nothing is logged at first
-    pub passing-first : (n : ℕ) (logWords : List ℕ) (logValues : List Float) (lanes : List ℕ) (sums : List Float) → n ≤ room → Passing positions (takenBy touched leaks sumRoom room positions (table n lanes sums)) 0 n 0 logWords logValues lanes sums
+    pub passing-first : (n : ℕ) (logWords : List ℕ) (logValues : List Float) (lanes : List ℕ) (sums : List Float) → n ≤ room → Passing positions (takenBy touched leaks sumRoom room positions (candidateRows n lanes sums)) 0 n 0 logWords logValues lanes sums
     unfolding putAll
     passing-first n logWords logValues lanes sums h =
-        record { gives = left-first positions (table n lanes sums) (omega (arith, h, length-take n (rows (words lanes) sums))); inside = h }
+        record { gives = left-first positions (candidateRows n lanes sums) (omega (arith, h, length-take n (rows (words lanes) sums))); inside = h }
 
     module _ (course : Read Rows) (i held count : ℕ) (logWords : List ℕ) (logValues : List Float) (lanes : List ℕ) (sums : List Float) (o : Passing positions course i held count logWords logValues lanes sums) where
       abbrev all : Rows
-      all = putRows (table count logWords logValues) (table held lanes sums)
+      all = putRows (candidateRows count logWords logValues) (candidateRows held lanes sums)
 
       -- at the end the last of the log is put
       pub passing-end : (lanes′ : List ℕ) (sums′ : List Float) (r : Added) → length positions ≤ i → Holds room all lanes′ sums′ r → Took room course lanes′ sums′ (heldAfter room r)
@@ -176,11 +176,11 @@ module _ (touched : ℕ → ℕ) (leaks : ℕ → Rows) (sumRoom room : ℕ) whe
 
         -- its entries are logged
         pub passing-next : (held′ logged count′ : ℕ) (logWords′ : List ℕ) (logValues′ : List Float) (lanes′ : List ℕ) (sums′ : List Float) → touched p ≤ sumRoom
-            → putRows (table logged logWords logValues) (table held′ lanes′ sums′) ≡ putRows (table count logWords logValues) (table held lanes sums) → held′ ≤ room
-            → table count′ logWords′ logValues′ ≡ table logged logWords logValues ++ leaks p → Passing positions course (i + 1) held′ count′ logWords′ logValues′ lanes′ sums′
+            → putRows (candidateRows logged logWords logValues) (candidateRows held′ lanes′ sums′) ≡ putRows (candidateRows count logWords logValues) (candidateRows held lanes sums) → held′ ≤ room
+            → candidateRows count′ logWords′ logValues′ ≡ candidateRows logged logWords logValues ++ leaks p → Passing positions course (i + 1) held′ count′ logWords′ logValues′ lanes′ sums′
         passing-next held′ logged count′ logWords′ logValues′ lanes′ sums′ h e l f =
             record {
-              gives = rw (add-one i, f, parts (table logged logWords logValues) (leaks p) (table held′ lanes′ sums′), e) (sym (left-next p (drop (suc i) positions) all h) ∙ next);
+              gives = rw (add-one i, f, parts (candidateRows logged logWords logValues) (leaks p) (candidateRows held′ lanes′ sums′), e) (sym (left-next p (drop (suc i) positions) all h) ∙ next);
               inside = l;
             }
 
@@ -193,6 +193,6 @@ pub log-enough : (sumRoom : ℕ) (workWords : List ℕ) (workSums : List Float) 
     → ActionRoom sumRoom workWords workSums logWords logValues order work → sumRoom ≤ capacity
 log-enough sumRoom workWords workSums logWords logValues order work capacity e h = omega (arith, e, h .log-words, h .log-values, h .order-long, h .work-long)
 
-pub leaks-are : (m : Model) (t : Tables) (basis : List Word) (coeffs : List Float) (protected : List Word) (p : ℕ) (w : Word) (L : List Term) → w ≡ getD basis p identity → L ≡ actionOf m t w
+pub leaks-are : (m : Model) (t : ModelTables) (basis : List Word) (coeffs : List Float) (protected : List Word) (p : ℕ) (w : Word) (L : List Term) → w ≡ getD basis p identity → L ≡ actionOf m t w
     → leaked (outside basis protected) (getD coeffs p nan) L ≡ leaksAt m t basis coeffs protected p
 leaks-are m t basis coeffs protected p w L e f = rw (f, e)

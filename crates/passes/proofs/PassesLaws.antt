@@ -11,9 +11,9 @@ use lib.Ieee.{Float}
 use lib.ListN.{length, take, drop, length-drop, drop-of-length-le}
 use lib.Seq.{take-all, drop-drop}
 use Rattle.refusal.specs.declared.Refusal.{Refusal}
-use Rattle.candidates.specs.Log.{Rows, table}
-use Rattle.model.specs.Stored.{Tables}
-use Rattle.model.specs.declared.tables.Model.{Model}
+use Rattle.candidates.specs.Log.{Rows, candidateRows}
+use Rattle.model.specs.Stored.{ModelTables}
+use Rattle.model.specs.declared.stored.Model.{Model}
 use Rattle.model.specs.Given.{Read, got, refused, onward}
 use Rattle.passes.specs.Leaks.{takenBy, ended, passSize, passCount, passes, ModelReady, ActionRoom, Holding, Took}
 use Rattle.passes.specs.declared.taken.Taken.{Taken}
@@ -21,7 +21,7 @@ use Rattle.passes.specs.declared.taken.Taken.the-variants.{Held, Refused
 use Rattle.passes.proofs.TookLaws.{took-held, took-refused}
 
 -- ---- tables that a pass has written keep their lengths, and so what is asked of them
-pub ready-still : (m : Model) (t : Tables) (hIndex jIndex mask mask′ : List ℕ) → ModelReady m t hIndex jIndex mask → length mask′ ≡ length mask → ModelReady m t hIndex jIndex mask′
+pub ready-still : (m : Model) (t : ModelTables) (hIndex jIndex mask mask′ : List ℕ) → ModelReady m t hIndex jIndex mask → length mask′ ≡ length mask → ModelReady m t hIndex jIndex mask′
 ready-still m t hIndex jIndex mask mask′ r e = record { tested = r .tested; indexed = r .indexed; h-rows = r .h-rows; j-rows = r .j-rows; row = omega (arith, r .row, e) }
 
 pub action-room-still : (room : ℕ) (workWords workWords′ : List ℕ) (workSums workSums′ : List Float) (logWords logWords′ : List ℕ) (logValues logValues′ : List Float) (order order′ work work′ : List ℕ)
@@ -99,20 +99,20 @@ module _ (touched : ℕ → ℕ) (leaks : ℕ → Rows) (sumRoom candidateRoom r
           rw e (took-refused candidateRoom all lanes sums q (sym (rw stop at through)))
 
       module _ (n : ℕ) (e : r ≡ Held n) where
-        after : onward (ended room (table n lanes sums)) (rest to) ≡ all
-        after = let gave : taken (take (to - from) (drop from ps)) T ≡ got (table n lanes sums) = took .held n e .0 in rw gave at through
+        after : onward (ended room (candidateRows n lanes sums)) (rest to) ≡ all
+        after = let gave : taken (take (to - from) (drop from ps)) T ≡ got (candidateRows n lanes sums) = took .held n e .0 in rw gave at through
 
-        module _ (lanes′ : List ℕ) (sums′ : List Float) (r′ : Taken) (end : Took n (ended room (table n lanes sums)) lanes′ sums′ r′) where
+        module _ (lanes′ : List ℕ) (sums′ : List Float) (r′ : Taken) (end : Took n (ended room (candidateRows n lanes sums)) lanes′ sums′ r′) where
           pub end-refused : (q : Refusal) → r′ ≡ Refused q → Took candidateRoom all lanes′ sums′ r′
           end-refused q e′ =
-              let stop : ended room (table n lanes sums) ≡ refused q = end .stopped q e′ in
+              let stop : ended room (candidateRows n lanes sums) ≡ refused q = end .stopped q e′ in
               rw e′ (took-refused candidateRoom all lanes′ sums′ q (sym (rw stop at after)))
 
-          pub end-held : (k : ℕ) → r′ ≡ Held k → (rest to (table k lanes′ sums′) ≡ all) × (k ≤ candidateRoom)
+          pub end-held : (k : ℕ) → r′ ≡ Held k → (rest to (candidateRows k lanes′ sums′) ≡ all) × (k ≤ candidateRoom)
           end-held k e′ =
-              let gave : ended room (table n lanes sums) ≡ got (table k lanes′ sums′) = end .held k e′ .0 in
+              let gave : ended room (candidateRows n lanes sums) ≡ got (candidateRows k lanes′ sums′) = end .held k e′ .0 in
               (rw gave at after, omega (arith, end .held k e′ .1, took .held n e .1))
 
-  pub passes-end : (all : Read Rows) (from n : ℕ) (lanes : List ℕ) (sums : List Float) → rest from (table n lanes sums) ≡ all → length ps ≤ from → n ≤ candidateRoom
+  pub passes-end : (all : Read Rows) (from n : ℕ) (lanes : List ℕ) (sums : List Float) → rest from (candidateRows n lanes sums) ≡ all → length ps ≤ from → n ≤ candidateRoom
       → Took candidateRoom all lanes sums (Held n)
-  passes-end all from n lanes sums going h l = took-held candidateRoom all lanes sums n l (sym going ∙ rest-none from (table n lanes sums) h)
+  passes-end all from n lanes sums going h l = took-held candidateRoom all lanes sums n l (sym going ∙ rest-none from (candidateRows n lanes sums) h)

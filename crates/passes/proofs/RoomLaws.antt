@@ -15,19 +15,19 @@ use lib.Seq.{take-all, take-length, length-take-le, getD-take}
 use Rattle.refusal.specs.declared.Refusal.the-variants.{SumNotFinite}
 use Rattle.number.specs.Floats.{isFinite}
 use Rattle.order.specs.Magnitudes.{byMagnitude, AreFinite}
-use Rattle.truncate.specs.Retained.{pick, flagged, Retains}
-use Rattle.truncate.specs.Chosen.{flagOf, chosen, EachOnce}
-use Rattle.truncate.proofs.ChosenLaws.{walked-length, chosen-unfixed}
-use Rattle.truncate.proofs.FlagLaws.{flagged-few}
-use Rattle.truncate.proofs.PickLaws.{pick-length}
-use Rattle.candidates.specs.Log.{Rows, table}
+use Rattle.keep.specs.Retained.{pick, flagged, Retains}
+use Rattle.keep.specs.Chosen.{flagOf, chosen, EachOnce}
+use Rattle.keep.proofs.ChosenLaws.{walked-length, chosen-unfixed}
+use Rattle.keep.proofs.FlagLaws.{flagged-few}
+use Rattle.keep.proofs.PickLaws.{pick-length}
+use Rattle.candidates.specs.Log.{Rows, candidateRows}
 use Rattle.candidates.proofs.RowLaws.{table-long}
 use Rattle.model.specs.Given.{got, refused, refuseIf}
 use Rattle.model.specs.Tested.{firstTo}
 use Rattle.model.proofs.Firsts.{first-cong, first-before}
-use Rattle.basis.specs.Tests.{notFinite}
-use Rattle.basis.proofs.ChecksLaws.{front-finite}
-use Rattle.basis.proofs.OrderOnce.{magnitude-once}
+use Rattle.truncate.specs.Tests.{notFinite}
+use Rattle.truncate.proofs.ChecksLaws.{front-finite}
+use Rattle.truncate.proofs.OrderOnce.{magnitude-once}
 use Rattle.passes.specs.Leaks.{sumsOf, largest, ended, Holding}
 use Rattle.passes.proofs.TableLaws.{table-sums, table-first, table-left, table-kept}
 
@@ -99,7 +99,7 @@ ended-count room T T′ e = go (ltb (firstTo (length T) (notFinite (sumsOf T))) 
 -- ---- in lent tables of exact lengths
 module _ (room : ℕ) (lanes : List ℕ) (sums : List Float) (each : length lanes ≡ 4 * length sums) where
   abbrev all : Rows
-  all = table (length sums) lanes sums
+  all = candidateRows (length sums) lanes sums
 
   all-sums : sumsOf all ≡ sums
   all-sums = table-sums (length sums) lanes sums (omega (arith, each)) (omega arith) ∙ take-length sums
@@ -112,7 +112,7 @@ module _ (room : ℕ) (lanes : List ℕ) (sums : List Float) (each : length lane
     kept-are = ek ∙ rw (ef, em, all-sums, all-long)
 
     pub retained-largest : (r : ℕ) (lanes′ : List ℕ) (sums′ : List Float) → Retains (length sums) kept lanes sums r lanes′ sums′
-        → (r ≤ length sums) × (table r lanes′ sums′ ≡ largest room all)
+        → (r ≤ length sums) × (candidateRows r lanes′ sums′ ≡ largest room all)
     unfolding largest
     retained-largest r lanes′ sums′ s =
         let raised : r ≡ min room (length sums) = s .answers ∙ ap flagged (take-all (length sums) kept (omega (arith, long)) ∙ kept-are) ∙ flags-raised room all ∙ ap (min room) all-long in (
@@ -123,17 +123,17 @@ module _ (room : ℕ) (lanes : List ℕ) (sums : List Float) (each : length lane
 -- ---- in the first places of lent tables
 module _ (n room : ℕ) (lanes : List ℕ) (sums : List Float) (h : Holding n n lanes sums) where
   abbrev first : Rows
-  first = table n lanes sums
+  first = candidateRows n lanes sums
 
   pub kept-all : n ≤ room → (n ≤ n) × (first ≡ largest room first)
   kept-all l = let e = table-long n lanes sums (h .lanes-long) (h .sums-long) in (omega arith, sym (largest-all room first (omega (arith, e, l))))
 
-  pub kept-none : room ≡ 0 → (0 ≤ n) × (table 0 lanes sums ≡ largest room first)
+  pub kept-none : room ≡ 0 → (0 ≤ n) × (candidateRows 0 lanes sums ≡ largest room first)
   kept-none e = (omega arith, sym (largest-none room first e))
 
   pub kept-some : (r : ℕ) (lanes′ : List ℕ) (sums′ : List Float) → length lanes′ ≡ length (take (n * 4) lanes) → length sums′ ≡ length (take n sums)
-      → (r ≤ length (take n sums)) × (table r lanes′ sums′ ≡ largest room (table (length (take n sums)) (take (n * 4) lanes) (take n sums)))
-      → (r ≤ n) × (table r (lanes′ ++ drop (n * 4) lanes) (sums′ ++ drop n sums) ≡ largest room first)
+      → (r ≤ length (take n sums)) × (candidateRows r lanes′ sums′ ≡ largest room (candidateRows (length (take n sums)) (take (n * 4) lanes) (take n sums)))
+      → (r ≤ n) × (candidateRows r (lanes′ ++ drop (n * 4) lanes) (sums′ ++ drop n sums) ≡ largest room first)
   kept-some r lanes′ sums′ el es q =
       let w : length (take (n * 4) lanes) ≡ n * 4 = length-take-le (n * 4) lanes (omega (arith, h .lanes-long)) in
       let l : length (take n sums) ≡ n = length-take-le n sums (h .sums-long) in
@@ -143,7 +143,7 @@ module _ (n room : ℕ) (lanes : List ℕ) (sums : List Float) (h : Holding n n 
 -- ---- a pass's end
 module _ (n room : ℕ) (lanes : List ℕ) (sums : List Float) (hl : 4 * n ≤ length lanes) (hs : n ≤ length sums) (bad : ℕ) (is : bad ≡ firstTo n (notFinite sums)) where
   abbrev held : Rows
-  held = table n lanes sums
+  held = candidateRows n lanes sums
 
   long : length held ≡ n
   long = table-long n lanes sums hl hs

@@ -14,10 +14,10 @@ use lib.Seq.{take-take, take-at}
 use Rattle.word.specs.Flat.{words}
 use Rattle.word.specs.declared.word.Word.{Word}
 use Rattle.word.proofs.FlatLaws.{words-high}
-use Rattle.truncate.specs.Retained.{pick, flagged, Retains}
-use Rattle.truncate.proofs.RetainLaws.{retained-words}
+use Rattle.keep.specs.Retained.{pick, flagged, Retains}
+use Rattle.keep.proofs.RetainLaws.{retained-words}
 use Rattle.candidates.specs.Sums.{row}
-use Rattle.candidates.specs.Log.{Rows, rows, table}
+use Rattle.candidates.specs.Log.{Rows, rows, candidateRows}
 use Rattle.candidates.proofs.LogLaws.{first-entries}
 use Rattle.passes.specs.Leaks.{sumsOf}
 
@@ -29,7 +29,7 @@ rows-sums (suc n) [] xs h l = absurd (omega arith)
 rows-sums (suc n) (w ∷ ws) [] h l = absurd (omega arith)
 rows-sums (suc n) (w ∷ ws) (x ∷ xs) h l = ap (λ (t : List Float). x ∷ t) (rows-sums n ws xs (omega arith) (omega arith))
 
-pub table-sums : (n : ℕ) (lanes : List ℕ) (sums : List Float) → 4 * n ≤ length lanes → n ≤ length sums → sumsOf (table n lanes sums) ≡ take n sums
+pub table-sums : (n : ℕ) (lanes : List ℕ) (sums : List Float) → 4 * n ≤ length lanes → n ≤ length sums → sumsOf (candidateRows n lanes sums) ≡ take n sums
 table-sums n lanes sums h l = rows-sums n (words lanes) sums (omega (arith, words-high lanes)) l
 
 -- ---- in the first places of longer lists
@@ -41,7 +41,7 @@ rows-first (suc n) [] xs = refl
 rows-first (suc n) (w ∷ ws) [] = refl
 rows-first (suc n) (w ∷ ws) (x ∷ xs) = ap (λ (t : Rows). row w x ∷ t) (rows-first n ws xs)
 
-pub table-first : (r n : ℕ) (lanes : List ℕ) (sums : List Float) → r ≤ n → table r (take (n * 4) lanes) (take n sums) ≡ table r lanes sums
+pub table-first : (r n : ℕ) (lanes : List ℕ) (sums : List Float) → r ≤ n → candidateRows r (take (n * 4) lanes) (take n sums) ≡ candidateRows r lanes sums
 table-first r n lanes sums h =
     let ws : List Word = words (take (n * 4) lanes) in
     ap (take r) (rows-first n ws sums)
@@ -51,7 +51,7 @@ table-first r n lanes sums h =
 
 -- what a call leaves in them
 pub table-left : (r n : ℕ) (lanes lanes′ : List ℕ) (sums sums′ : List Float) → r ≤ n → length lanes′ ≡ n * 4 → length sums′ ≡ n
-    → table r (lanes′ ++ drop (n * 4) lanes) (sums′ ++ drop n sums) ≡ table r lanes′ sums′
+    → candidateRows r (lanes′ ++ drop (n * 4) lanes) (sums′ ++ drop n sums) ≡ candidateRows r lanes′ sums′
 table-left r n lanes lanes′ sums sums′ h el es =
     let a : take (n * 4) (lanes′ ++ drop (n * 4) lanes) ≡ lanes′ = take-at lanes′ (drop (n * 4) lanes) (n * 4) el in
     let b : take n (sums′ ++ drop n sums) ≡ sums′ = take-at sums′ (drop n sums) n es in
@@ -76,7 +76,7 @@ module _ (A : List Word) (B : List Float) where
       go false m vs ys t e = ap (λ (u : Rows). row w x ∷ u) e
 
 pub table-kept : (n : ℕ) (kept lanes : List ℕ) (sums : List Float) (r : ℕ) (lanes′ : List ℕ) (sums′ : List Float) → n ≤ length kept → 4 * n ≤ length lanes → n ≤ length sums
-    → Retains n kept lanes sums r lanes′ sums′ → table r lanes′ sums′ ≡ pick kept (table n lanes sums)
+    → Retains n kept lanes sums r lanes′ sums′ → candidateRows r lanes′ sums′ ≡ pick kept (candidateRows n lanes sums)
 table-kept n kept lanes sums r lanes′ sums′ k h l s =
     rw (s .words-left, s .numbers-left, s .answers, retained-words n kept lanes)
     (rows-kept _ _ kept n (words lanes) sums k (omega (arith, words-high lanes)) l)

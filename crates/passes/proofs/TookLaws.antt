@@ -8,13 +8,13 @@ use Prim.Native.Nat.{ℕ, _≤_}
 use native.Mathlib.Omega.{arith}
 use lib.Ieee.{Float}
 use Rattle.refusal.specs.declared.Refusal.{Refusal}
-use Rattle.candidates.specs.Log.{Rows, table}
+use Rattle.candidates.specs.Log.{Rows, candidateRows}
 use Rattle.model.specs.Given.{Read, got, refused}
 use Rattle.passes.specs.Leaks.{Took}
 use Rattle.passes.specs.declared.taken.Taken.the-variants.{Held, Refused}
 
 module _ (room : ℕ) (course : Read Rows) (lanes : List ℕ) (sums : List Float) where
-  pub took-held : (n : ℕ) → n ≤ room → course ≡ got (table n lanes sums) → Took room course lanes sums (Held n)
+  pub took-held : (n : ℕ) → n ≤ room → course ≡ got (candidateRows n lanes sums) → Took room course lanes sums (Held n)
   took-held n h e =
       record {
         held = λ m z. let q : n ≡ m = cc in (rw (← q) e, rw (← q) h);

@@ -19,20 +19,20 @@ use Rattle.number.specs.Floats.{floats, magnitude}
 use Rattle.order.specs.Magnitudes.{byMagnitude}
 use Rattle.order.specs.Places.{isAmong}
 use Rattle.slots.specs.Slots.{Slotted}
-use Rattle.truncate.specs.Retained.{pick}
-use Rattle.truncate.specs.Chosen.{chosen}
-use Rattle.table.specs.declared.sums.Added.{Added}
-use Rattle.table.specs.declared.sums.Added.the-variants as Put
+use Rattle.keep.specs.Retained.{pick}
+use Rattle.keep.specs.Chosen.{chosen}
+use Rattle.sums.specs.declared.sums.Added.{Added}
+use Rattle.sums.specs.declared.sums.Added.the-variants as Put
 use Rattle.candidates.specs.Sums.{Row, row}
-use Rattle.candidates.specs.Log.{Rows, table, putRows}
-use Rattle.model.specs.Stored.{Tables}
+use Rattle.candidates.specs.Log.{Rows, candidateRows, putRows}
+use Rattle.model.specs.Stored.{ModelTables}
 use Rattle.model.specs.Given.{Term, Read, got, refused, onward, refuseIf}
 use Rattle.model.specs.Tested.{firstTo, testModel}
-use Rattle.model.specs.declared.tables.Model.{Model}
+use Rattle.model.specs.declared.stored.Model.{Model}
 use Rattle.action.specs.Acts.{actionOf}
 use Rattle.action.specs.Counts.{touchedBy, AllInside}
-use Rattle.basis.specs.Tests.{notFinite}
-use Rattle.kernel.specs.Near.{ModelIndexed}
+use Rattle.truncate.specs.Tests.{notFinite}
+use Rattle.rules_by_index.specs.Near.{ModelIndexed}
 use Rattle.passes.specs.declared.taken.Taken.{Taken}
 use Rattle.passes.specs.declared.taken.Taken.the-variants.{Held, Refused}
 use Rattle.passes.specs.declared.pass.Pending.{Pending}
@@ -98,7 +98,7 @@ module _ (touched : ℕ → ℕ) (leaks : ℕ → Rows) (sumRoom candidateRoom r
       (λ T′. onward (ended room T′) (passes k (drop passSize ps)))
 
 -- ---- of a model
-module _ (m : Model) (t : Tables) (basis : List Word) (coeffs : List Float) (protected : List Word) where
+module _ (m : Model) (t : ModelTables) (basis : List Word) (coeffs : List Float) (protected : List Word) where
   abbrev pub touchedAt : ℕ → ℕ
   touchedAt p = touchedBy m t (getD basis p identity)
 
@@ -111,7 +111,7 @@ module _ (m : Model) (t : Tables) (basis : List Word) (coeffs : List Float) (pro
 
 -- ---- for the functions that work on lent tables
 -- a tested model with its index, and a mask
-pub record ModelReady (m : Model) (t : Tables) (hIndex jIndex mask : List ℕ) : Type 0 where
+pub record ModelReady (m : Model) (t : ModelTables) (hIndex jIndex mask : List ℕ) : Type 0 where
   pub tested : testModel m t ≡ Accepted
   pub indexed : ModelIndexed m t hIndex jIndex
   pub h-rows : 64 * m .qubits ≤ length hIndex
@@ -142,7 +142,7 @@ pub record Holding (room n : ℕ) (lanes : List ℕ) (sums : List Float) : Type 
 
 -- what is held and logged, with places for more in the log; or that what the log adds finds no room
 pub record Opens (room capacity more : ℕ) (all : Rows) (logWords : List ℕ) (logValues : List Float) (lanes : List ℕ) (sums : List Float) (r : Pending) : Type 0 where
-  pub opened : (held logged : ℕ) → r ≡ Open held logged → (putRows (table logged logWords logValues) (table held lanes sums) ≡ all) × (logged + more ≤ capacity) × (held ≤ room)
+  pub opened : (held logged : ℕ) → r ≡ Open held logged → (putRows (candidateRows logged logWords logValues) (candidateRows held lanes sums) ≡ all) × (logged + more ≤ capacity) × (held ≤ room)
   pub full : r ≡ NoRoom → room < length all
 
 -- what putting the log answers, at a pass's end and where an action found no room
@@ -160,5 +160,5 @@ logPlaces logWords logValues order work = min (min (length logWords / 4) (length
 
 -- the answer of a step, and the candidates in the lent tables afterwards
 pub record Took (room : ℕ) (course : Read Rows) (lanes : List ℕ) (sums : List Float) (r : Taken) : Type 0 where
-  pub held : (n : ℕ) → r ≡ Held n → (course ≡ got (table n lanes sums)) × (n ≤ room)
+  pub held : (n : ℕ) → r ≡ Held n → (course ≡ got (candidateRows n lanes sums)) × (n ≤ room)
   pub stopped : (q : Refusal) → r ≡ Refused q → course ≡ refused q

@@ -5,10 +5,10 @@
 ghost use mathlib.Core.Path.{_≡_};
 ghost use Prim.Native.Nat.{_*_, _≤_};
 ghost use lib.ListN.{length};
-ghost use Rattle.candidates.specs.Log.{table, putRows, Holds};
+ghost use Rattle.candidates.specs.Log.{candidateRows, putRows, Holds};
 ghost use Rattle.passes.specs.Leaks.{Holding};
 use candidates::merge::absorb;
-use table::sums::Added;
+use sums::sums::Added;
 use word::flat::WORD_LANES;
 use word::flat::set_word;
 use word::flat::word_at;
@@ -16,7 +16,7 @@ use word::flat::word_at;
 // The first n rows of a table, copied.
 fn copy_rows(from: &[u64], sums: &[f64], n: usize, to: &mut [u64], copies: &mut [f64])
     requires { ⌜ Holding n n (now from) (now sums) × Holding n n (now to) (now copies) ⌝ }
-    ensures { λ _. ⌜ table n (now (to .exit)) (now (copies .exit)) ≡ table n (now (from .entry)) (now (sums .entry)) ⌝ }
+    ensures { λ _. ⌜ candidateRows n (now (to .exit)) (now (copies .exit)) ≡ candidateRows n (now (from .entry)) (now (sums .entry)) ⌝ }
 {
     let mut i = 0;
     while i < n {
@@ -43,7 +43,7 @@ pub fn flush(
 ) -> Added
     requires { ⌜ Holding room n (now words) (now sums) × Holding room 0 (now «next_words») (now «next_sums») ⌝ }
     requires { ⌜ (4 * count ≤ length (now «log_words»)) × (count ≤ length (now «log_values»)) × (count ≤ length (now order)) × (count ≤ length (now work)) ⌝ }
-    ensures { λ r. ⌜ Holds room (putRows (table count (now («log_words» .entry)) (now («log_values» .entry))) (table n (now (words .entry)) (now (sums .entry)))) (now (words .exit)) (now (sums .exit)) r ⌝ }
+    ensures { λ r. ⌜ Holds room (putRows (candidateRows count (now («log_words» .entry)) (now («log_values» .entry))) (candidateRows n (now (words .entry)) (now (sums .entry)))) (now (words .exit)) (now (sums .exit)) r ⌝ }
 {
     let added = absorb(
         words,

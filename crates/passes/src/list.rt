@@ -6,7 +6,7 @@ ghost use mathlib.Core.Path.{_≡_};
 ghost use Prim.Native.Nat.{_*_, _≤_};
 ghost use lib.ListN.{length, set};
 ghost use Rattle.word.specs.Flat.{layWord};
-ghost use Rattle.candidates.specs.Log.{table};
+ghost use Rattle.candidates.specs.Log.{candidateRows};
 ghost use Rattle.model.specs.Laid.{laid};
 ghost use Rattle.passes.specs.Leaks.{isAbove, above, wordsOf, sumsOf, Holding};
 use number::scalar::magnitude;
@@ -24,7 +24,7 @@ fn is_above(x: f64, tau_add: f64) -> bool
 // How many of the first n candidates are listed.
 pub fn count_above(words: &[u64], sums: &[f64], n: usize, tau_add: f64) -> usize
     requires { ⌜ Holding n n (now words) (now sums) ⌝ }
-    ensures { λ r. ⌜ r ≡ length (above «tau_add» (table n (now (words .entry)) (now (sums .entry)))) ⌝ }
+    ensures { λ r. ⌜ r ≡ length (above «tau_add» (candidateRows n (now (words .entry)) (now (sums .entry)))) ⌝ }
 {
     let mut count = 0;
     let mut i = 0;
@@ -48,8 +48,8 @@ pub fn list_above(
     out_words: &mut [u64],
     out_values: &mut [f64],
 )
-    requires { ⌜ Holding n n (now words) (now sums) × (4 * length (above «tau_add» (table n (now words) (now sums))) ≤ length (now «out_words»)) × (length (above «tau_add» (table n (now words) (now sums))) ≤ length (now «out_values»)) ⌝ }
-    ensures { λ _. ⌜ (now («out_words» .exit) ≡ laid layWord 0 (wordsOf (above «tau_add» (table n (now (words .entry)) (now (sums .entry))))) (now («out_words» .entry))) × (now («out_values» .exit) ≡ laid set 0 (sumsOf (above «tau_add» (table n (now (words .entry)) (now (sums .entry))))) (now («out_values» .entry))) ⌝ }
+    requires { ⌜ Holding n n (now words) (now sums) × (4 * length (above «tau_add» (candidateRows n (now words) (now sums))) ≤ length (now «out_words»)) × (length (above «tau_add» (candidateRows n (now words) (now sums))) ≤ length (now «out_values»)) ⌝ }
+    ensures { λ _. ⌜ (now («out_words» .exit) ≡ laid layWord 0 (wordsOf (above «tau_add» (candidateRows n (now (words .entry)) (now (sums .entry))))) (now («out_words» .entry))) × (now («out_values» .exit) ≡ laid set 0 (sumsOf (above «tau_add» (candidateRows n (now (words .entry)) (now (sums .entry))))) (now («out_values» .entry))) ⌝ }
 {
     let mut place = 0;
     let mut i = 0;

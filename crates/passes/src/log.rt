@@ -7,8 +7,8 @@ ghost use mathlib.Core.List.{_++_};
 ghost use Prim.Native.Nat.{_+_, _*_, _≤_};
 ghost use lib.ListN.{length};
 ghost use Rattle.word.specs.Flat.{words};
-ghost use Rattle.table.specs.Sums as Terms;
-ghost use Rattle.candidates.specs.Log.{table};
+ghost use Rattle.sums.specs.Sums as Terms;
+ghost use Rattle.candidates.specs.Log.{candidateRows};
 ghost use Rattle.slots.specs.Slots.{Slotted};
 ghost use Rattle.action.specs.Acts.{listed};
 ghost use Rattle.passes.specs.Leaks.{outside, leaked};
@@ -57,7 +57,7 @@ pub fn log_terms(
     count: usize,
 ) -> usize
     requires { ⌜ (4 * touched ≤ length (now «sum_words»)) × (2 * touched ≤ length (now sums)) × Slotted (words (now basis)) (now heads) (now nexts) × Slotted (words (now protected)) (now «fixed_heads») (now «fixed_nexts») × (4 * (count + touched) ≤ length (now «log_words»)) × (count + touched ≤ length (now «log_values»)) ⌝ }
-    ensures { λ r. ⌜ (r ≤ count + touched) × (table r (now («log_words» .exit)) (now («log_values» .exit)) ≡ table count (now («log_words» .entry)) (now («log_values» .entry)) ++ leaked (outside (words (now (basis .entry))) (words (now (protected .entry)))) c (listed (Terms.table touched (now («sum_words» .entry)) (now (sums .entry))))) ⌝ }
+    ensures { λ r. ⌜ (r ≤ count + touched) × (candidateRows r (now («log_words» .exit)) (now («log_values» .exit)) ≡ candidateRows count (now («log_words» .entry)) (now («log_values» .entry)) ++ leaked (outside (words (now (basis .entry))) (words (now (protected .entry)))) c (listed (Terms.sumRows touched (now («sum_words» .entry)) (now (sums .entry))))) ⌝ }
 {
     let mut end = count;
     let mut i = 0;

@@ -14,7 +14,7 @@ ghost use Rattle.passes.specs.Leaks.{passes, passCount, touchedAt, leaks
 use crate::pass::take_pass;
 use crate::room::end_pass;
 use crate::taken::Taken;
-use model::tables::Model;
+use model::stored::Model;
 use model::test::smaller;
 
 pub const PASS_SIZE: usize = 4096;

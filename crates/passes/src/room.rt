@@ -6,14 +6,14 @@ ghost use mathlib.Core.Path.{_≡_};
 ghost use Prim.Native.Nat.{_*_, _≤_};
 ghost use lib.ListN.{length, take};
 ghost use Rattle.order.specs.Magnitudes.{AreFinite};
-ghost use Rattle.candidates.specs.Log.{table};
+ghost use Rattle.candidates.specs.Log.{candidateRows};
 ghost use Rattle.passes.specs.Leaks.{largest, ended, Holding, Took};
 use crate::taken::Taken;
-use basis::tests::first_not_finite;
+use truncate::tests::first_not_finite;
 use refusal::Refusal;
-use table::clear::clear_lanes;
-use truncate::largest::choose_largest_of;
-use truncate::retain::retain_in_place;
+use sums::clear::clear_lanes;
+use keep::largest::choose_largest_of;
+use keep::retain::retain_in_place;
 use word::flat::WORD_LANES;
 
 // Keeps the largest, ties to the lower word: how many stay. The tables are of exact lengths. The work table
@@ -27,7 +27,7 @@ fn retain_largest(
     kept: &mut [u64],
 ) -> usize
     requires { ⌜ (length (now words) ≡ 4 * length (now sums)) × (length (now order) ≡ length (now sums)) × (length (now work) ≡ length (now sums)) × (length (now kept) ≡ length (now sums)) × AreFinite (now sums) ⌝ }
-    ensures { λ r. ⌜ (r ≤ length (now (sums .entry))) × (table r (now (words .exit)) (now (sums .exit)) ≡ largest room (table (length (now (sums .entry))) (now (words .entry)) (now (sums .entry)))) ⌝ }
+    ensures { λ r. ⌜ (r ≤ length (now (sums .entry))) × (candidateRows r (now (words .exit)) (now (sums .exit)) ≡ largest room (candidateRows (length (now (sums .entry))) (now (words .entry)) (now (sums .entry)))) ⌝ }
 {
     let n = sums.len();
     clear_lanes(work);
@@ -47,7 +47,7 @@ fn keep_largest(
     kept: &mut [u64],
 ) -> usize
     requires { ⌜ Holding n n (now words) (now sums) × (n ≤ length (now order)) × (n ≤ length (now work)) × (n ≤ length (now kept)) × AreFinite (take n (now sums)) ⌝ }
-    ensures { λ r. ⌜ (r ≤ n) × (table r (now (words .exit)) (now (sums .exit)) ≡ largest room (table n (now (words .entry)) (now (sums .entry)))) ⌝ }
+    ensures { λ r. ⌜ (r ≤ n) × (candidateRows r (now (words .exit)) (now (sums .exit)) ≡ largest room (candidateRows n (now (words .entry)) (now (sums .entry)))) ⌝ }
 {
     if n <= room {
         return n;
@@ -76,7 +76,7 @@ pub fn end_pass(
     kept: &mut [u64],
 ) -> Taken
     requires { ⌜ Holding n n (now words) (now sums) × (n ≤ length (now order)) × (n ≤ length (now work)) × (n ≤ length (now kept)) ⌝ }
-    ensures { λ r. ⌜ Took n (ended room (table n (now (words .entry)) (now (sums .entry)))) (now (words .exit)) (now (sums .exit)) r ⌝ }
+    ensures { λ r. ⌜ Took n (ended room (candidateRows n (now (words .entry)) (now (sums .entry)))) (now (words .exit)) (now (sums .exit)) r ⌝ }
 {
     let bad = first_not_finite(sums, n);
     if bad < n {

@@ -13,8 +13,8 @@ use lib.Dec.{ltb}
 use lib.Ieee.{Float}
 use lib.ListN.{length}
 use Rattle.model.specs.Tested.{whereAny}
-use Rattle.basis.specs.Prunes.{pruneTests, capTests}
-use Rattle.basis.specs.Admissions.{admitTests}
+use Rattle.truncate.specs.Prunes.{pruneTests, capTests}
+use Rattle.truncate.specs.Admissions.{admitTests}
 use Rattle.pebblelinen.specs.Bases.{basisSizes}
 use Rattle.pebblelinen.specs.declared.bases.BasisSizes.{BasisSizes}
 

@@ -20,12 +20,12 @@ use Rattle.word.specs.Flat.{words}
 use Rattle.order.specs.Merge.{positions, mergeHead, mergeBy, sortBy}
 use Rattle.order.specs.Magnitudes.{fallsBefore}
 use Rattle.order.specs.Places.{isAmong}
-use Rattle.truncate.specs.Retained.{pick, flagged, flatLanes}
-use Rattle.truncate.specs.Chosen.{walked}
+use Rattle.keep.specs.Retained.{pick, flagged, flatLanes}
+use Rattle.keep.specs.Chosen.{walked}
 use Rattle.model.specs.Tested.{whereAny, firstTo}
 use Rattle.action.specs.Counts.{outsideAt, insideTo}
-use Rattle.basis.specs.Tests.{notFinite, finiteTo}
-use Rattle.basis.specs.Prunes.{protectedFlags, capFlags, capTests, cap}
+use Rattle.truncate.specs.Tests.{notFinite, finiteTo}
+use Rattle.truncate.specs.Prunes.{protectedFlags, capFlags, capTests, cap}
 use Rattle.action_laws.proofs.ReachedListed.{identity-action}
 use Rattle.pebblelinen.specs.Examples.{lists, lanesFor, Holds, AllHold, table}
 

@@ -6,8 +6,8 @@ use mathlib.Core.Path.{_≡_, ap, _∙_}
 use Rattle.model.specs.Built.{Building}
 use Rattle.action.specs.Acts.{Acting}
 use Rattle.action.specs.Counts.{Counting}
-use Rattle.basis.specs.Prunes.{Keeping}
-use Rattle.basis.specs.Admissions.{Admitting}
+use Rattle.truncate.specs.Prunes.{Keeping}
+use Rattle.truncate.specs.Admissions.{Admitting}
 use Rattle.leakage.specs.Leakages.{Leaking}
 use Rattle.generator.specs.Generators.{Generating, CsrBuilding}
 use Rattle.csr.specs.Products.{Multiplying}

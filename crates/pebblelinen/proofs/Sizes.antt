@@ -9,11 +9,11 @@ use Prim.Native.Nat.{ℕ, zero, suc, _+_, _*_, _≤_, min}
 use native.Mathlib.Omega.{arith}
 use lib.Ieee.{Float}
 use lib.ListN.{length, getD}
-use Rattle.model.specs.Stored.{Tables}
+use Rattle.model.specs.Stored.{ModelTables}
 use Rattle.model.specs.Tested.{maxHamiltonian, maxJumps}
 use Rattle.model.specs.Given.{maxTerms}
 use Rattle.model.specs.Built as Building
-use Rattle.model.specs.declared.tables.Model.{Model}
+use Rattle.model.specs.declared.stored.Model.{Model}
 use Rattle.kossakowski.specs.Added.{operators, maxOperators}
 use Rattle.kossakowski.specs.Added as Adding
 use Rattle.model_laws.specs.BuiltFrom.{builtFrom, ModelCounts, ModelRoom}
@@ -23,7 +23,7 @@ use Rattle.pebblelinen.specs.Models.{modelSizes, matrixSizes, largestCou
 use Rattle.pebblelinen.specs.declared.models.Sizes.{Sizes}
 
 -- tables at least as long
-pub record AtLeast (s : Sizes) (t : Tables) (workWords : List ℕ) (workNumbers : List Float) : Type 0 where
+pub record AtLeast (s : Sizes) (t : ModelTables) (workWords : List ℕ) (workNumbers : List Float) : Type 0 where
   pub h-words : s .«h_words» ≤ length (t .hWords)
   pub h-coeffs : s .«h_coeffs» ≤ length (t .hCoeffs)
   pub jumps : s .jumps ≤ length (t .jumps)
@@ -40,7 +40,7 @@ count-most (k ∷ ks) zero = omega arith
 count-most (k ∷ ks) (suc j) = omega (arith, count-most ks j)
 
 -- ---- building
-module _ (h j c : ℕ) (t : Tables) (workWords : List ℕ) (workNumbers : List Float) (a : AtLeast (modelSizes h j c) t workWords workNumbers) where
+module _ (h j c : ℕ) (t : ModelTables) (workWords : List ℕ) (workNumbers : List Float) (a : AtLeast (modelSizes h j c) t workWords workNumbers) where
   model-room : ModelRoom (min h maxHamiltonian) (min j maxJumps) (min c maxTerms) t workWords workNumbers
   unfolding modelSizes
   model-room = record {
@@ -59,7 +59,7 @@ module _ (h j c : ℕ) (t : Tables) (workWords : List ℕ) (workNumbers : List F
   model-enough n i counts = build-answer n (min h maxHamiltonian) (min j maxJumps) (min c maxTerms) i counts t workWords workNumbers model-room
 
 -- every input, by its own counts
-pub model-own-enough : (n : ℕ) (i : Building.Input) (t : Tables) (workWords : List ℕ) (workNumbers : List Float)
+pub model-own-enough : (n : ℕ) (i : Building.Input) (t : ModelTables) (workWords : List ℕ) (workNumbers : List Float)
     → AtLeast (modelSizes (length (i .hNumbers)) (length (i .rates)) (largestCount (i .counts))) t workWords workNumbers
     → Building.build n i t workWords workNumbers .answer ≡ builtFrom n i
 model-own-enough n i t workWords workNumbers a =
@@ -67,7 +67,7 @@ model-own-enough n i t workWords workNumbers a =
     (record { reals = omega arith; jumps = omega arith; terms = λ k. omega (arith, count-most (i .counts) k) })
 
 -- ---- adding: tables that are so much longer than what the model takes
-pub record Beyond (s : Sizes) (m : Model) (t : Tables) (workWords : List ℕ) (workNumbers : List Float) : Type 0 where
+pub record Beyond (s : Sizes) (m : Model) (t : ModelTables) (workWords : List ℕ) (workNumbers : List Float) : Type 0 where
   pub jumps : 8 * m .jumps + s .jumps ≤ length (t .jumps)
   pub rates : m .jumps + s .rates ≤ length (t .rates)
   pub t-words : 4 * m .terms + s .«t_words» ≤ length (t .tWords)
@@ -75,7 +75,7 @@ pub record Beyond (s : Sizes) (m : Model) (t : Tables) (workWords : List ℕ) (w
   pub work-words : s .«work_words» ≤ length workWords
   pub work-numbers : s .«work_numbers» ≤ length workNumbers
 
-module _ (k c : ℕ) (m : Model) (t : Tables) (workWords : List ℕ) (workNumbers : List Float) (b : Beyond (matrixSizes k c) m t workWords workNumbers) where
+module _ (k c : ℕ) (m : Model) (t : ModelTables) (workWords : List ℕ) (workNumbers : List Float) (b : Beyond (matrixSizes k c) m t workWords workNumbers) where
   matrix-room : MatrixRoom (min k maxOperators) (min c maxTerms) m t workWords workNumbers
   unfolding matrixSizes
   matrix-room = record {
@@ -91,7 +91,7 @@ module _ (k c : ℕ) (m : Model) (t : Tables) (workWords : List ℕ) (workNumber
   matrix-enough i counts = add-answer (min k maxOperators) (min c maxTerms) m i counts t workWords workNumbers matrix-room
 
 -- every input, by its own counts
-pub matrix-own-enough : (m : Model) (i : Adding.Input) (t : Tables) (workWords : List ℕ) (workNumbers : List Float)
+pub matrix-own-enough : (m : Model) (i : Adding.Input) (t : ModelTables) (workWords : List ℕ) (workNumbers : List Float)
     → Beyond (matrixSizes (operators i) (largestCount (i .counts))) m t workWords workNumbers
     → Adding.add m i t workWords workNumbers .answer ≡ addedFrom m i t
 matrix-own-enough m i t workWords workNumbers b =

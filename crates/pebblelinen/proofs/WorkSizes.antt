@@ -17,10 +17,10 @@ use Rattle.refusal.specs.declared.Refusal.the-variants.{CountAboveLimit}
 use Rattle.refusal.specs.declared.Answer.{Answer}
 use Rattle.refusal.specs.declared.Answer.the-variants.{Accepted, Refused}
 use Rattle.word.specs.Word.{maxQubits}
-use Rattle.model.specs.Stored.{Tables}
+use Rattle.model.specs.Stored.{ModelTables}
 use Rattle.model.specs.Tested.{counted, whereAny, testModel}
 use Rattle.model.specs.Built.{andThen}
-use Rattle.model.specs.declared.tables.Model.{Model}
+use Rattle.model.specs.declared.stored.Model.{Model}
 use Rattle.model.proofs.NeedLaws.{need-most}
 use Rattle.model_laws.proofs.StandsLaws.{tested-stands}
 use Rattle.action.specs.Acts.{sumPlaces}
@@ -115,7 +115,7 @@ module _ (qubits entries protected touched candidates : ℕ) (w : Leak.Work) (a 
       let l : candidates ≤ max t c = le-trans e (le-max-right t c) in
       le-min (le-min (le-min (quarter candidates c e (a .cand-words)) (le-trans e (a .cand-sums))) (le-min (quarter candidates c e (a .next-words)) (le-trans e (a .next-sums)))) (le-min (le-min (le-trans l (a .place-order)) (le-trans l (a .place-work))) (le-trans e (a .place-kept)))
 
-pub leakage-enough : (m : Model) (t : Tables) (b : Leak.Basis) (l : Limits) (touched candidates : ℕ) (w w′ : Leak.Work)
+pub leakage-enough : (m : Model) (t : ModelTables) (b : Leak.Basis) (l : Limits) (touched candidates : ℕ) (w w′ : Leak.Work)
     → LeakageLent (leakageSizes (m .qubits) (b .len) (length (b .protected) / 4) touched candidates) w
     → LeakageLent (leakageSizes (m .qubits) (b .len) (length (b .protected) / 4) touched candidates) w′
     → Leak.leakTests m t b l w ≡ Leak.leakTests m t b l w′
@@ -165,7 +165,7 @@ module _ (qubits len touched entries : ℕ) (w : Gen.Work) (a : GeneratorLent (g
   unfolding generatorSizes
   entries-room h = omega (arith, a .stage-rows, a .stage-columns, a .stage-values)
 
-module _ (m : Model) (t : Tables) (lanes : List ℕ) (len touched entries : ℕ) (w w′ : Gen.Work) (x : GeneratorLent (generatorSizes (m .qubits) len touched entries) w) (y : GeneratorLent (generatorSizes (m .qubits) len touched entries) w′) where
+module _ (m : Model) (t : ModelTables) (lanes : List ℕ) (len touched entries : ℕ) (w w′ : Gen.Work) (x : GeneratorLent (generatorSizes (m .qubits) len touched entries) w) (y : GeneratorLent (generatorSizes (m .qubits) len touched entries) w′) where
   lent-alike : Gen.lentTests m t lanes len w ≡ Gen.lentTests m t lanes len w′
   unfolding Gen.tableTests
   lent-alike =
@@ -208,7 +208,7 @@ module _ (qubits len touched entries : ℕ) (w : Norm.Work) (a : NormLent (gener
     diags = le-ltb (length (w .diags)) len (a .diags);
   }
 
-pub norm-enough : (m : Model) (t : Tables) (lanes : List ℕ) (len touched entries : ℕ) (w w′ : Norm.Work)
+pub norm-enough : (m : Model) (t : ModelTables) (lanes : List ℕ) (len touched entries : ℕ) (w w′ : Norm.Work)
     → NormLent (generatorSizes (m .qubits) len touched entries) len w
     → NormLent (generatorSizes (m .qubits) len touched entries) len w′
     → Norm.normTested m t lanes len w ≡ Norm.normTested m t lanes len w′

@@ -9,10 +9,10 @@ use lib.Ieee.{Float}
 use Rattle.refusal.specs.Cause.{statusOf, answerStatus}
 use Rattle.refusal.specs.declared.Answer.the-variants.{Accepted}
 use Rattle.model.specs.Tested.{whereAny}
-use Rattle.basis.specs.Prunes.{Keeping}
-use Rattle.basis.specs.Admissions.{Admitting}
-use Rattle.basis.specs.declared.kept.Kept.{Kept}
-use Rattle.basis.specs.declared.kept.Kept.the-variants.{Entries, Refused}
+use Rattle.truncate.specs.Prunes.{Keeping}
+use Rattle.truncate.specs.Admissions.{Admitting}
+use Rattle.truncate.specs.declared.kept.Kept.{Kept}
+use Rattle.truncate.specs.declared.kept.Kept.the-variants.{Entries, Refused}
 use Rattle.pebblelinen.specs.declared.bases.KeptEntries.{KeptEntries}
 use Rattle.pebblelinen.specs.declared.bases.BasisSizes.{BasisSizes}
 

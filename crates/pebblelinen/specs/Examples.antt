@@ -23,12 +23,12 @@ use Rattle.gksl.specs.Operator.{Onto}
 use Rattle.gksl.specs.Model.{ModelOver}
 use Rattle.gksl.specs.Rules.{actionOver}
 use Rattle.gksl.specs.Words.{pauli}
-use Rattle.model.specs.Stored.{Tables}
-use Rattle.model.specs.declared.tables.Model.{Model}
+use Rattle.model.specs.Stored.{ModelTables}
+use Rattle.model.specs.declared.stored.Model.{Model}
 use Rattle.order.specs.Merge.{positions}
-use Rattle.basis.specs.Prunes as Prunes
-use Rattle.basis.specs.Prunes.{Keeping}
-use Rattle.basis.specs.declared.kept.Kept.the-variants.{Entries}
+use Rattle.truncate.specs.Prunes as Prunes
+use Rattle.truncate.specs.Prunes.{Keeping}
+use Rattle.truncate.specs.declared.kept.Kept.the-variants.{Entries}
 use Rattle.action.specs.Acts.{actionOf}
 
 -- the bytes of the letters
@@ -112,7 +112,7 @@ lists (c ∷ L) (e ∷ es) = same (c .word) (e .word) && (eq (c .num .re) (e .va
 unfoldable pub Holds : Example → Type 0
 Holds (product left right word k) = (same (mul (read left) (read right)) (read word) && eqb (phase (read left) (read right)) k) ≡ true
 Holds (action model word listed) = lists (actionOver floats pauli model (read word)) listed ≡ true
-Holds onIdentity = (m : Model) (t : Tables) → actionOf m t identity ≡ []
+Holds onIdentity = (m : Model) (t : ModelTables) → actionOf m t identity ≡ []
 Holds (cap coefficients protected limit kept) =
     let n : ℕ = length coefficients in
     let zeros : List ℕ = replicate n 0 in

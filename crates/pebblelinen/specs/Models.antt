@@ -8,12 +8,12 @@ use mathlib.Core.List.{List, [], _∷_}
 use lib.Ieee.{Float}
 use Rattle.refusal.specs.Cause.{statusOf, answerStatus}
 use Rattle.refusal.specs.declared.Answer.the-variants.{Accepted}
-use Rattle.model.specs.Stored.{Tables}
+use Rattle.model.specs.Stored.{ModelTables}
 use Rattle.model.specs.Given.{maxTerms}
 use Rattle.model.specs.Tested.{maxHamiltonian, maxJumps, whereAny}
 use Rattle.model.specs.Built.{workPlaces, Building}
 use Rattle.kossakowski.specs.Added.{maxOperators, workNeeded}
-use Rattle.model.specs.declared.tables.Model.{Model}
+use Rattle.model.specs.declared.stored.Model.{Model}
 use Rattle.model.specs.declared.spec.Built.{Built}
 use Rattle.model.specs.declared.spec.Built.the-variants as Answers
 use Rattle.pebblelinen.specs.declared.models.BuiltModel.{BuiltModel}
@@ -29,7 +29,7 @@ builtOf (Answers.Model m) = record { status = answerStatus Accepted; model = m }
 builtOf (Answers.Refused refusal) = record { status = statusOf refusal; model = noModel }
 
 -- what a builder answers, and the lent tables afterwards
-pub record Leaves (b : Building) (r : BuiltModel) (t : Tables) (workWords : List ℕ) (workNumbers : List Float) : Type 0 where
+pub record Leaves (b : Building) (r : BuiltModel) (t : ModelTables) (workWords : List ℕ) (workNumbers : List Float) : Type 0 where
   pub answers : r ≡ builtOf (b .answer)
   pub tables-are : t ≡ b .tables
   pub work-words : workWords ≡ b .workWords

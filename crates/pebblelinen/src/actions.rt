@@ -8,7 +8,7 @@ ghost use Rattle.action.specs.Counts.{countPlaces};
 ghost use Rattle.pebblelinen.specs.Actions.{listedOf, LeavesList, countedOf, LeavesCount};
 use action::act::Acted;
 use action::count::Counted;
-use model::tables::Model;
+use model::stored::Model;
 use refusal::Refusal;
 use refusal::Status;
 use word::word::Word;

@@ -3,11 +3,11 @@
 
 // Calls on a lent basis: prune, cap and admission, and the lengths of their work tables.
 ghost use mathlib.Core.Path.{_≡_};
-ghost use Rattle.basis.specs.Prunes.{prune, cap};
-ghost use Rattle.basis.specs.Admissions.{admit};
+ghost use Rattle.truncate.specs.Prunes.{prune, cap};
+ghost use Rattle.truncate.specs.Admissions.{admit};
 ghost use Rattle.pebblelinen.specs.Bases.{keptOf, LeavesBasis, LeavesAdmitted, basisSizes};
 use action::count::larger_count;
-use basis::kept::Kept;
+use truncate::kept::Kept;
 use model::lengths::where_any;
 use refusal::Refusal;
 use refusal::Status;
@@ -53,7 +53,7 @@ pub extern "C" fn pebblelinen_prune_basis(
 ) -> KeptEntries
     ensures { λ r. ⌜ LeavesBasis (prune len (now (words .entry)) (now (coeffs .entry)) (now (order .entry)) (now (work .entry)) (now (fixed .entry)) (now (kept .entry)) n (now (protected .entry)) «drop_tol») r (now (words .exit)) (now (coeffs .exit)) (now (order .exit)) (now (work .exit)) (now (fixed .exit)) (now (kept .exit)) ⌝ }
 {
-    kept_of(basis::prune::prune_basis(
+    kept_of(truncate::prune::prune_basis(
         n,
         words,
         coeffs,
@@ -82,7 +82,7 @@ pub extern "C" fn pebblelinen_cap_basis(
 ) -> KeptEntries
     ensures { λ r. ⌜ LeavesBasis (cap len (now (words .entry)) (now (coeffs .entry)) (now (order .entry)) (now (work .entry)) (now (fixed .entry)) (now (kept .entry)) n (now (protected .entry)) limit) r (now (words .exit)) (now (coeffs .exit)) (now (order .exit)) (now (work .exit)) (now (fixed .exit)) (now (kept .exit)) ⌝ }
 {
-    kept_of(basis::cap::cap_basis(
+    kept_of(truncate::cap::cap_basis(
         n,
         words,
         coeffs,
@@ -111,7 +111,7 @@ pub extern "C" fn pebblelinen_add_leakage_capped(
 ) -> KeptEntries
     ensures { λ r. ⌜ LeavesAdmitted (admit len (now (words .entry)) (now (coeffs .entry)) (now (list .entry)) (now (values .entry)) (now (order .entry)) (now (work .entry)) (now (kept .entry)) n limit) r (now (words .exit)) (now (coeffs .exit)) (now (order .exit)) (now (work .exit)) (now (kept .exit)) ⌝ }
 {
-    kept_of(basis::admit::add_leakage_capped(
+    kept_of(truncate::admit::add_leakage_capped(
         n,
         words,
         coeffs,

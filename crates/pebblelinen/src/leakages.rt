@@ -12,7 +12,7 @@ use action::words::MAX_WORDS;
 use action::words::ROW_LANES;
 use leakage::limits::Limits;
 use model::lengths::where_any;
-use model::tables::Model;
+use model::stored::Model;
 use model::test::smaller;
 use word::word::MAX_QUBITS;
 

@@ -14,7 +14,7 @@ use model::lengths::WORK_PLACES;
 use model::lengths::where_any;
 use model::product::SUM_PLACES;
 use model::spec::Built;
-use model::tables::Model;
+use model::stored::Model;
 use model::test::MAX_HAMILTONIAN;
 use model::test::MAX_JUMPS;
 use model::test::smaller;

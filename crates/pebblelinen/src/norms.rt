@@ -7,7 +7,7 @@ ghost use Rattle.expm.specs.Selects.{degreeBy, tableFor};
 ghost use Rattle.norm.specs.Norms.{workOf, norming, selecting};
 ghost use Rattle.pebblelinen.specs.Norms.{normedOf, LeavesNorm, partitionOf, LeavesPartition};
 use expm::Degree;
-use model::tables::Model;
+use model::stored::Model;
 use norm::degree::Selected;
 use norm::norm::Normed;
 use refusal::Status;

@@ -10,7 +10,7 @@ ghost use Rattle.word.specs.Word.{identity};
 ghost use Rattle.word.specs.Flat.{words};
 ghost use Rattle.order.specs.Places.{isAmong};
 ghost use Rattle.slots.specs.Slots.{laneHash, wordHash, slotOf, lastOf, Slotted};
-use table::clear::clear_lanes;
+use sums::clear::clear_lanes;
 use word::flat::WORD_LANES;
 use word::flat::word_at;
 use word::word::Word;

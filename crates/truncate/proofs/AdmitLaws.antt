@@ -1,128 +1,103 @@
 -- SPDX-FileCopyrightText: 2026 The PPVM Authors
 -- SPDX-License-Identifier: Apache-2.0
 
--- Appending listed words one by one, and the words that the basis then has. Assumes nothing.
-use mathlib.Core.Path.{_≡_, refl, ap, ap₂, sym, _∙_}
+-- Admission step by step: the largest are chosen and appended, the work tables are cleared.
+-- Assumes nothing.
+use mathlib.Core.Path.{_≡_, sym, ap, subst, _∙_}
 use mathlib.Core.Bool.{true, false}
-use mathlib.Core.List.{List, [], _∷_, _++_, append-nil, append-assoc}
-use Prim.Native.Nat.{ℕ, _+_, _-_, _*_, _≤_, _<_}
+use mathlib.Core.List.{List, _++_}
+use Prim.Native.Nat.{ℕ, _+_, _-_, _*_, _/_, _≤_, _<_, min}
 use native.Mathlib.Omega.{arith}
-use native.Mathlib.Numerals.{add-one}
-use lib.Dec.{eqb}
+use borrow.Author.Tests.{lt-ltb, le-ltb}
+use lib.Dec.{ltb}
 use lib.Ieee.{Float}
-use lib.ListN.{length, getD, set, take, drop, replicate, take-append-drop}
-use lib.Seq.{take-suc-set, drop-set-lt, drop-drop, length-take-le}
-use borrow.Rule.Slice.PartMut.{putMid}
-use Rattle.word.specs.Word.{identity}
-use Rattle.word.specs.Flat.{words, layWord, LaysWord}
-use Rattle.word.specs.declared.word.Word.{Word}
-use Rattle.word.proofs.FlatLaws.{words-high}
-use Rattle.number.specs.Floats.{float0}
-use Rattle.truncate.specs.Retained.{pick, flagged, flatLanes}
-use Rattle.truncate.specs.Admitted.{appendedLanes, appendedZeros, picked, AdmitRoom}
-use Rattle.truncate.proofs.PickLaws.{flagged-skips, flagged-takes, flagged-below, pick-skips, pick-takes, pick-length}
-use Rattle.truncate.proofs.LaneLaws.{lanes-front, lanes-append, Whole, whole-words, whole-take, whole-pick, words-lanes, words-drop}
-use Rattle.truncate.proofs.FillLaws.{part-filled}
+use lib.ListN.{length, take, drop, replicate, length-append, length-drop}
+use lib.Seq.{take-all, length-take-le}
+use Rattle.refusal.specs.declared.Refusal.{Refusal}
+use Rattle.refusal.specs.declared.Refusal.the-variants.{TableFull}
+use Rattle.refusal.specs.declared.Answer.the-variants as Tests
+use Rattle.order.specs.Magnitudes.{byMagnitude}
+use Rattle.keep.specs.Retained.{flagged}
+use Rattle.keep.specs.Chosen.{chosen}
+use Rattle.keep.specs.Admitted.{appendedZeros, AdmitRoom, Admits}
+use Rattle.keep.proofs.ChosenLaws.{chosen-unfixed}
+use Rattle.truncate.specs.Admissions.{admitFlags, admitTests, admit}
+use Rattle.truncate.specs.declared.kept.Kept.the-variants.{Entries, Refused}
+pub use Rattle.keep.proofs.OrderOnce.{magnitude-once}
 
--- after i listed words: those picked stand after the first len, up to at, and from at on nothing has changed
-pub record Grown (len : ℕ) (list ks l₀ l : List ℕ) (at i : ℕ) : Type 0 where
-  pub place : at ≡ len + flagged (take i ks)
-  pub front : take at (words l) ≡ take len (words l₀) ++ picked i ks list
-  pub back : drop (at * 4) l ≡ drop (at * 4) l₀
-  pub long : length l ≡ length l₀
+-- ---- choosing and appending
+module _ (len : ℕ) (lanes : List ℕ) (coeffs : List Float) (list : List ℕ) (values : List Float) (room : ℕ) where
+  abbrev flags : List ℕ
+  flags = chosen (byMagnitude values) (replicate (length values) 0) room
 
-pub grown-start : (len : ℕ) (list ks l : List ℕ) → Grown len list ks l l len 0
-unfolding flagged pick
-grown-start len list [] l = record { place = omega arith; front = sym (append-nil (take len (words l))); back = refl; long = refl }
-grown-start len list (k ∷ ks) l = record { place = omega arith; front = sym (append-nil (take len (words l))); back = refl; long = refl }
+  module _ (fixed kept : List ℕ) (m : ℕ) (ef : fixed ≡ replicate m 0) (em : m ≡ length values) (ek : kept ≡ chosen (byMagnitude values) fixed room) (long : length kept ≡ length values) where
+    kept-are : kept ≡ flags
+    kept-are = ek ∙ rw (ef, em)
 
-lay-drop : (l : List ℕ) (k : ℕ) (w : Word) (n : ℕ) → k * 4 + 3 < n → drop n (layWord l k w) ≡ drop n l
-lay-drop l k w n h =
-    let a : List ℕ = set l (k * 4) (getD (w .x) 0 0) in
-    let b : List ℕ = set a (k * 4 + 1) (getD (w .x) 1 0) in
-    let c : List ℕ = set b (k * 4 + 2) (getD (w .z) 0 0) in
-    drop-set-lt n c (k * 4 + 3) (getD (w .z) 1 0) h
-    ∙ drop-set-lt n b (k * 4 + 2) (getD (w .z) 0 0) (omega arith)
-    ∙ drop-set-lt n a (k * 4 + 1) (getD (w .x) 1 0) (omega arith)
-    ∙ drop-set-lt n l (k * 4) (getD (w .x) 0 0) (omega arith)
+    kept-count : flagged (take (length values) kept) ≡ min room (length values)
+    kept-count =
+        ap flagged (take-all (length values) kept (omega (arith, long)) ∙ kept-are)
+        ∙ chosen-unfixed (length values) (byMagnitude values) (magnitude-once values) room
 
-module _ (len count : ℕ) (list ks l₀ : List ℕ) (room : AdmitRoom len count list ks l₀) (l : List ℕ) (at i : ℕ) (g : Grown len list ks l₀ l at i) (h : i < count) where
-  flag-here : i < length ks
-  flag-here = omega (arith, room .flags)
+    pub append-asks : 4 * length values ≤ length list → 4 * (len + min room (length values)) ≤ length lanes → len + min room (length values) ≤ length coeffs
+        → AdmitRoom len (length values) list kept lanes × (len + flagged (take (length values) kept) ≤ length coeffs)
+    append-asks h i j =
+        let n = kept-count in
+        (record { listed = h; flags = omega (arith, long); places = omega (arith, n, i) }, omega (arith, n, j))
 
-  pub grown-skip : eqb (getD ks i 0) 0 ≡ true → Grown len list ks l₀ l at (i + 1)
-  grown-skip e = record {
-    place = g .place ∙ ap (λ (n : ℕ). len + n) (sym (flagged-skips ks i flag-here e));
-    front = g .front ∙ ap (λ (t : List Word). take len (words l₀) ++ t) (sym (pick-skips ks (words list) i flag-here e));
-    back = g .back;
-    long = g .long;
-  }
+    pub appended-are : (r : ℕ) (lanes′ : List ℕ) (coeffs′ : List Float) → Admits len (length values) list kept lanes coeffs r lanes′ coeffs′
+        → Admits len (length values) list flags lanes coeffs r lanes′ coeffs′ × (length flags ≡ length values)
+    appended-are r lanes′ coeffs′ h =
+        (subst (λ (k : List ℕ). Admits len (length values) list k lanes coeffs r lanes′ coeffs′) kept-are h, ap length (sym kept-are) ∙ long)
 
-  -- there is a place for the next
-  pub grown-room : eqb (getD ks i 0) 0 ≡ false → 4 * at + 4 ≤ length l
-  grown-room e = omega (arith, room .places, g .place, g .long, flagged-below ks i count h flag-here e)
+-- ---- how many come in
+pub admit-count : (len : ℕ) (values : List Float) (limit : ℕ) → flagged (admitFlags len values limit) ≡ min (limit - len) (length values)
+unfolding admitFlags
+admit-count len values limit = chosen-unfixed (length values) (byMagnitude values) (magnitude-once values) (limit - len)
 
-  pub grown-put : (w : Word) (l′ : List ℕ) → eqb (getD ks i 0) 0 ≡ false → w ≡ getD (words list) i identity → LaysWord l at w l′ → length l′ ≡ length l → Grown len list ks l₀ l′ (at + 1) (i + 1)
-  grown-put w l′ e f s same = record {
-    place = omega (arith, g .place, flagged-takes ks i flag-here e);
-    front =
-        rw (s .list, add-one at)
-        (take-suc-set (words l) at w (omega (arith, grown-room e, words-high l))
-        ∙ ap (λ (t : List Word). t ++ (w ∷ [])) (g .front)
-        ∙ append-assoc (take len (words l₀)) (picked i ks list) (w ∷ [])
-        ∙ ap (λ (t : List Word). take len (words l₀) ++ t)
-        (ap (λ (v : Word). picked i ks list ++ (v ∷ [])) f ∙ sym (pick-takes ks (words list) i identity flag-here (omega (arith, room .listed, words-high list)) e)));
-    back =
-        let z : at * 4 + 4 ≡ (at + 1) * 4 = omega arith in
-        ap (drop ((at + 1) * 4)) (s .lanes)
-        ∙ lay-drop l at w ((at + 1) * 4) (omega arith)
-        ∙ ap (λ (n : ℕ). drop n l) (sym z) ∙ sym (drop-drop 4 (at * 4) l) ∙ ap (drop 4) (g .back) ∙ drop-drop 4 (at * 4) l₀ ∙ ap (λ (n : ℕ). drop n l₀) z;
-    long = same ∙ g .long;
-  }
+flags-are : (len : ℕ) (values : List Float) (limit room : ℕ) → room ≡ limit - len → chosen (byMagnitude values) (replicate (length values) 0) room ≡ admitFlags len values limit
+unfolding admitFlags
+flags-are len values limit room e = rw e
 
-module _ (len count : ℕ) (list ks l₀ : List ℕ) (room : AdmitRoom len count list ks l₀) where
-  -- as many words as flags
-  pub picked-length : length (picked count ks list) ≡ flagged (take count ks)
-  picked-length =
-      let n : length (take count (words list)) ≡ count = length-take-le count (words list) (omega (arith, room .listed, words-high list)) in
-      pick-length ks (take count (words list)) (omega (arith, n, room .flags)) ∙ ap (λ (k : ℕ). flagged (take k ks)) n
+-- zeros in a table whose first places were lent and kept their number
+pub cleared : (t : List ℕ) (k : ℕ) (l part : List ℕ) → k ≤ length l → length part ≡ length (take k l) → t ≡ replicate (length (part ++ drop k l)) 0 → t ≡ replicate (length l) 0
+cleared t k l part h e z =
+    let same : length (part ++ drop k l) ≡ length l = omega (arith, length-append part (drop k l), e, h, length-take-le k l h, length-drop k l) in
+    z ∙ ap (λ (j : ℕ). replicate j 0) same
 
-  pub grown-done : (l : List ℕ) (at i : ℕ) → Grown len list ks l₀ l at i → i ≡ count → l ≡ appendedLanes len (picked count ks list) l₀
-  grown-done l at i g all =
-      let ws : List Word = picked count ks list in
-      let front : take at (words l) ≡ take len (words l₀) ++ ws = g .front ∙ ap (λ (j : ℕ). take len (words l₀) ++ picked j ks list) all in
-      let place : at ≡ len + flagged (take count ks) = g .place ∙ ap (λ (j : ℕ). len + flagged (take j ks)) all in
-      let end : at * 4 ≡ 4 * (len + length ws) = omega (arith, place, picked-length) in
-      let start : len * 4 ≡ 4 * len = omega arith in
-      sym (take-append-drop (at * 4) l)
-      ∙ ap₂ (λ (s t : List ℕ). s ++ t)
-      (lanes-front l at (at * 4) refl (omega (arith, place, room .places, g .long))
-      ∙ ap flatLanes front
-      ∙ lanes-append (take len (words l₀)) ws
-      ∙ ap (λ (t : List ℕ). t ++ flatLanes ws) (sym (lanes-front l₀ len (len * 4) refl (omega (arith, room .places))) ∙ ap (λ (n : ℕ). take n l₀) start))
-      (g .back ∙ ap (λ (n : ℕ). drop n l₀) end)
-      ∙ append-assoc (take (4 * len) l₀) (flatLanes ws) (drop (4 * (len + length ws)) l₀)
+-- ---- the answers
+module _ (len : ℕ) (lanes : List ℕ) (coeffs : List Float) (list : List ℕ) (values : List Float) (order work kept : List ℕ) (n limit : ℕ) where
+  pub admit-refused : (r : Refusal) → admitTests len lanes coeffs list values order work kept n limit ≡ Tests.Refused r
+      → record { answer = Refused r; lanes = lanes; coeffs = coeffs; order = order; work = work; kept = kept } ≡ admit len lanes coeffs list values order work kept n limit
+  unfolding admit
+  admit-refused r e = rw e
 
--- the numbers, filled from len up to the new length
-pub zeros-done : (len n end : ℕ) (numbers y : List Float) → end ≡ len + n → len + n ≤ length numbers
-    → y ≡ replicate (length (take (end - len) (drop len numbers))) float0 → putMid len (end - len) numbers y ≡ appendedZeros len n numbers
-zeros-done len n end numbers y e h f =
-    let k : end - len ≡ n = omega arith in
-    part-filled float0 len numbers y (end - len) (omega arith) f
-    ∙ ap (λ (m : ℕ). take len numbers ++ (replicate m float0 ++ drop (len + m) numbers)) k
+  module _ (ok : admitTests len lanes coeffs list values order work kept n limit ≡ Tests.Accepted) (places room more : ℕ)
+      (is-places : places ≡ min (length lanes / 4) (length coeffs)) (is-room : room ≡ limit - len) (is-more : more ≡ min room (length values)) (order′ work′ kept′ : List ℕ)
+      (eo : order′ ≡ replicate (length order) 0) (ew : work′ ≡ replicate (length work) 0) (ek : kept′ ≡ replicate (length kept) 0) where
+    abbrev all-flags : List ℕ
+    all-flags = admitFlags len values limit
 
--- the words of the basis: the first len, those appended, and what stood past them
-appended-words : (len : ℕ) (ws : List Word) (lanes : List ℕ) → Whole ws → 4 * (len + length ws) ≤ length lanes
-    → words (appendedLanes len ws lanes) ≡ take len (words lanes) ++ (ws ++ drop (len + length ws) (words lanes))
-appended-words len ws lanes h room =
-    let start : 4 * len ≡ len * 4 = omega arith in
-    ap (λ (t : List ℕ). words (t ++ (flatLanes ws ++ drop (4 * (len + length ws)) lanes))) (lanes-front lanes len (4 * len) start (omega arith))
-    ∙ words-lanes (take len (words lanes)) (flatLanes ws ++ drop (4 * (len + length ws)) lanes) (whole-take len (words lanes) (whole-words lanes))
-    ∙ ap (λ (t : List Word). take len (words lanes) ++ t) (words-lanes ws (drop (4 * (len + length ws)) lanes) h ∙ ap (λ (t : List Word). ws ++ t) (words-drop lanes (len + length ws) (4 * (len + length ws)) refl))
+    pub admit-full : places < len + more
+        → record { answer = Refused (TableFull 3 places); lanes = lanes; coeffs = coeffs; order = order′; work = work′; kept = kept′ } ≡ admit len lanes coeffs list values order work kept n limit
+    unfolding admit
+    admit-full l =
+        let c = admit-count len values limit in
+        let t : ltb (min (length lanes / 4) (length coeffs)) (len + flagged all-flags) ≡ true = lt-ltb (min (length lanes / 4) (length coeffs)) (len + flagged all-flags) (omega (arith, c, l, is-places, is-room, is-more)) in
+        rw (ok, t, is-places, eo, ew, ek)
 
-pub admitted-words : (len count : ℕ) (list kept lanes : List ℕ) → AdmitRoom len count list kept lanes
-    → words (appendedLanes len (picked count kept list) lanes) ≡ take len (words lanes) ++ (picked count kept list ++ drop (len + flagged (take count kept)) (words lanes))
-admitted-words len count list kept lanes room =
-    let n = picked-length len count list kept lanes room in
-    appended-words len (picked count kept list) lanes (whole-pick kept (take count (words list)) (whole-take count (words list) (whole-words list))) (omega (arith, n, room .places))
-    ∙ ap (λ (k : ℕ). take len (words lanes) ++ (picked count kept list ++ drop (len + k) (words lanes))) n
+    pub admit-done : len + more ≤ places → (r : ℕ) (lanes′ : List ℕ) (coeffs′ : List Float)
+        → Admits len (length values) list (chosen (byMagnitude values) (replicate (length values) 0) room) lanes coeffs r lanes′ coeffs′
+        × (length (chosen (byMagnitude values) (replicate (length values) 0) room) ≡ length values)
+        → record { answer = Entries r; lanes = lanes′; coeffs = coeffs′; order = order′; work = work′; kept = kept′ } ≡ admit len lanes coeffs list values order work kept n limit
+    unfolding admit
+    admit-done l r lanes′ coeffs′ h =
+        let c = admit-count len values limit in
+        let e = flags-are len values limit room is-room in
+        let a : Admits len (length values) list all-flags lanes coeffs r lanes′ coeffs′ = subst (λ (k : List ℕ). Admits len (length values) list k lanes coeffs r lanes′ coeffs′) e (h .0) in
+        let long : length all-flags ≡ length values = ap length (sym e) ∙ h .1 in
+        let all : take (length values) all-flags ≡ all-flags = take-all (length values) all-flags (omega (arith, long)) in
+        let er : r ≡ len + flagged all-flags = a .answers ∙ ap (λ (k : List ℕ). len + flagged k) all in
+        let en : coeffs′ ≡ appendedZeros len (flagged all-flags) coeffs = a .numbers-left ∙ ap (λ (k : List ℕ). appendedZeros len (flagged k) coeffs) all in
+        let t : ltb (min (length lanes / 4) (length coeffs)) (len + flagged all-flags) ≡ false = le-ltb (min (length lanes / 4) (length coeffs)) (len + flagged all-flags) (omega (arith, c, l, is-places, is-room, is-more)) in
+        rw (ok, t, er, a .words-left, en, eo, ew, ek)

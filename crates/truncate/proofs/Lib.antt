@@ -2,20 +2,12 @@
 -- SPDX-License-Identifier: Apache-2.0
 
 -- Laws of this crate.
-pub mod PickLaws
-pub mod MoveLaws
-pub mod LaneLaws
-pub mod FillLaws
-pub mod RetainLaws
-pub mod WriteLaws
-pub mod WalkLaws
-pub mod FlagLaws
-pub mod Listed
-pub mod ChosenLaws
-pub mod AdmitLaws
-pub mod PruneLaws
 pub mod OrderOnce
-pub mod UnflaggedLaws
-pub mod NthLaws
-pub mod SameFlags
-pub mod LargestLaws
+pub mod ThresholdLaws
+pub mod AdmitTests
+pub mod AdmitLaws
+pub mod AdmissionLaws
+pub mod ChecksLaws
+pub mod ProtectLaws
+pub mod PruneLaws
+pub mod CapLaws

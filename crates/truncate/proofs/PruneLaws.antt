@@ -1,73 +1,117 @@
 -- SPDX-FileCopyrightText: 2026 The PPVM Authors
 -- SPDX-License-Identifier: Apache-2.0
 
--- The flags of a prune, entry by entry, and that a lower tolerance keeps at least the same. Assumes nothing.
-use mathlib.Core.Path.{_≡_, refl, ap, sym, _∙_}
+-- Prune, answer by answer; and what is left where entries are kept by flags. Assumes nothing.
+use mathlib.Core.Path.{_≡_, sym, _∙_}
 use mathlib.Core.Bool.{Bool, true, false, not, cond}
-use mathlib.Core.List.{List, [], _∷_}
-use Prim.Native.Nat.{ℕ, zero, suc, _≤_, _<_}
+use mathlib.Core.List.{List, _++_}
+use Prim.Native.Nat.{ℕ, _/_, _≤_, _<_}
 use native.Mathlib.Omega.{arith}
-use lib.Dec.{T, eqb}
-use lib.Ieee.{Float, nan, binary64, le, fits, isNan}
-use lib.ListN.{length, getD, take}
-use lib.Seq.{length-take-le, getD-take}
-use borrow.Author.Tests.{leb-true, le-leb}
-use Rattle.number.specs.Floats.{magnitude}
-use Rattle.number.specs.Key.{nonneg, key}
-use Rattle.number.proofs.KeyLaws.{le-key, magnitude-nonneg, magnitude-fits}
-use Rattle.truncate.specs.Pruned.{largeFlag, largeFlags}
-use Rattle.truncate.proofs.FlagLaws.{Kept}
+use borrow.Author.Tests.{lt-ltb, le-ltb, not-true, not-false}
+use lib.Dec.{ltb}
+use lib.Ieee.{Float, le}
+use lib.ListN.{length, take, drop, replicate, length-append, length-take, length-drop}
+use lib.Seq.{take-at, take-all, length-take-le}
+use Rattle.refusal.specs.declared.Refusal.{Refusal}
+use Rattle.refusal.specs.declared.Refusal.the-variants.{TooManyQubits, CountAboveLimit, NumberOutOfRange}
+use Rattle.refusal.specs.declared.Answer.{Answer}
+use Rattle.refusal.specs.declared.Answer.the-variants.{Accepted, Refused}
+use Rattle.word.specs.Word.{maxQubits}
+use Rattle.number.specs.Floats.{float0, isFinite}
+use Rattle.keep.specs.Retained.{Retains}
+use Rattle.model.proofs.BuildLaws.{passed, both, counted-passed}
+use Rattle.action.specs.Counts.{maxWords}
+use Rattle.truncate.specs.Tests.{finiteThreshold}
+use Rattle.truncate.specs.Prunes.{pruneFlags, unchanged, left, retained, lengthTests, entryTests, pruneTests, prune}
+use Rattle.truncate.specs.declared.kept.Kept.the-variants.{Entries}
+use Rattle.truncate.proofs.ChecksLaws.{Room, lengths-then, lengths-room, entries-then}
 
-module _ (tol : Float) where
-  pub large-length : (xs : List Float) (ks : List ℕ) → length (largeFlags tol xs ks) ≡ length ks
-  unfolding largeFlags
-  large-length [] ks = refl
-  large-length (x ∷ xs) [] = refl
-  large-length (x ∷ xs) (k ∷ ks) = ap suc (large-length xs ks)
+-- ---- entries kept by flags
+-- the front of a table that was lent, and the table's length
+pub lent-front : (len : ℕ) (table ys : List ℕ) → len ≤ length table → length ys ≡ length (take len table) → take len (ys ++ drop len table) ≡ ys
+lent-front len table ys h e = take-at ys (drop len table) len (e ∙ length-take-le len table h)
 
-  large-at : (xs : List Float) (ks : List ℕ) (i : ℕ) → i < length xs → i < length ks → getD (largeFlags tol xs ks) i 0 ≡ largeFlag tol (getD xs i nan) (getD ks i 0)
-  unfolding largeFlags
-  large-at [] ks i h g = absurd (omega arith)
-  large-at (x ∷ xs) [] i h g = absurd (omega arith)
-  large-at (x ∷ xs) (k ∷ ks) zero h g = refl
-  large-at (x ∷ xs) (k ∷ ks) (suc i) h g = large-at xs ks i (omega arith) (omega arith)
+pub lent-long : (k : ℕ) (table ys : List ℕ) → length ys ≡ length (take k table) → length (ys ++ drop k table) ≡ length table
+lent-long k table ys e = omega (arith, e, length-append ys (drop k table), length-take k table, length-drop k table)
 
-  -- the same of the first len numbers
-  pub large-first : (xs : List Float) (ks : List ℕ) (len i : ℕ) → i < len → len ≤ length xs → len ≤ length ks
-      → getD (largeFlags tol (take len xs) ks) i 0 ≡ largeFlag tol (getD xs i nan) (getD ks i 0)
-  large-first xs ks len i h g k =
-      large-at (take len xs) ks i (omega (arith, h, length-take-le len xs g)) (omega arith)
-      ∙ ap (λ (x : Float). largeFlag tol x (getD ks i 0)) (getD-take len xs i nan h)
+pub retained-is : (len : ℕ) (lanes : List ℕ) (coeffs : List Float) (flags given : List ℕ) → given ≡ flags → length flags ≡ len
+    → (r : ℕ) (lanes′ : List ℕ) (coeffs′ : List Float) → Retains len given lanes coeffs r lanes′ coeffs′
+    → (o w f k : List ℕ) → left len lanes coeffs o w f k r lanes′ coeffs′ ≡ retained len lanes coeffs o w f k flags
+retained-is len lanes coeffs flags given same long r lanes′ coeffs′ R o w f k =
+    let t : take len flags ≡ flags = take-all len flags (omega (arith, long)) in
+    rw (R .answers, R .words-left, R .numbers-left, same, t)
 
--- a number of the code that is no NaN
-pub record Number (x : Float) : Type 0 where
-  pub fits-f64 : T (fits binary64 x)
-  pub no-nan : T (not (isNan x))
+-- ---- the tests
+module _ (len : ℕ) (lanes : List ℕ) (coeffs : List Float) (order work fixed kept : List ℕ) (n : ℕ) (protected : List ℕ) (tol : Float) where
+  abbrev tests : Answer
+  tests = pruneTests len lanes coeffs order work fixed kept n protected tol
 
--- two tolerances that are not below 0, the first not above the second
-module _ (tol tol′ : Float) (F : T (fits binary64 tol)) (G : T (fits binary64 tol′)) (h : T (nonneg tol)) (k : T (nonneg tol′)) (lower : le tol tol′ ≡ true) where
-  large-more : (x : Float) → Number x → le tol′ (magnitude x) ≡ true → le tol (magnitude x) ≡ true
-  large-more x n e =
-      let f = magnitude-fits binary64 x (n .fits-f64) in
-      let g = magnitude-nonneg x (n .no-nan) in
-      let a = leb-true (key binary64 tol) (key binary64 tol′) (sym (le-key binary64 tol tol′ F G h k) ∙ lower) in
-      let b = leb-true (key binary64 tol′) (key binary64 (magnitude x)) (sym (le-key binary64 tol′ (magnitude x) G f k g) ∙ e) in
-      le-key binary64 tol (magnitude x) F f h g ∙ le-leb (key binary64 tol) (key binary64 (magnitude x)) (omega (arith, a, b))
+  abbrev count : ℕ
+  count = length protected / 4
 
-  flag-more : (x : Float) (f : ℕ) → Number x → (largeFlag tol′ x f ≡ 0 → ⊥) → largeFlag tol x f ≡ 0 → ⊥
-  unfolding largeFlag
-  flag-more x f n = go (eqb f 0) (le tol′ (magnitude x)) (le tol (magnitude x)) (large-more x n)
-    where
-      go : (a b c : Bool) → (b ≡ true → c ≡ true) → (_≡_ {A = ℕ} (cond a (cond b 1 0) 1) 0 → ⊥) → _≡_ {A = ℕ} (cond a (cond c 1 0) 1) 0 → ⊥
-      go false b c m x y = omega arith
-      go true false c m x y = x refl
-      go true true true m x y = omega arith
-      go true true false m x y = x (ap (λ (d : Bool). cond {A = ℕ} d 1 0) (sym (m refl)) ∙ y)
+  abbrev lengths : Answer → Answer
+  lengths = lengthTests len lanes coeffs order work fixed kept n protected
 
-  -- the lower tolerance keeps at least the same
-  pub prune-more : (xs : List Float) (ks : List ℕ) → ((i : ℕ) → i < length xs → Number (getD xs i nan)) → (p : ℕ) → Kept (largeFlags tol′ xs ks) p → Kept (largeFlags tol xs ks) p
-  unfolding largeFlags
-  prune-more [] ks n p l = l
-  prune-more (x ∷ xs) [] n p l = l
-  prune-more (x ∷ xs) (f ∷ ks) n zero l = flag-more x f (n 0 (omega arith)) l
-  prune-more (x ∷ xs) (f ∷ ks) n (suc p) l = prune-more xs ks (λ i m. n (suc i) (omega arith)) p l
+  abbrev entries : Answer → Answer
+  entries = entryTests len lanes coeffs order work fixed kept n protected
+
+  pub qubits-many : maxQubits < n → Refused (TooManyQubits n maxQubits) ≡ tests
+  unfolding pruneTests
+  qubits-many l = rw (lt-ltb maxQubits n l)
+
+  module _ (h1 : n ≤ maxQubits) where
+    pub entries-many : maxWords < len → Refused (CountAboveLimit len) ≡ tests
+    unfolding pruneTests
+    entries-many l = rw (le-ltb maxQubits n h1, lt-ltb maxWords len l)
+
+    module _ (h2 : len ≤ maxWords) where
+      pub protected-many : maxWords < count → Refused (CountAboveLimit count) ≡ tests
+      unfolding pruneTests
+      protected-many l = rw (le-ltb maxQubits n h1, le-ltb maxWords len h2, lt-ltb maxWords count l)
+
+      module _ (h3 : count ≤ maxWords) where
+        after-counts : lengths (entries (finiteThreshold len tol Accepted)) ≡ tests
+        unfolding pruneTests
+        after-counts = rw (le-ltb maxQubits n h1, le-ltb maxWords len h2, le-ltb maxWords count h3)
+
+        pub lengths-refused : (r : Refusal) → lengths Accepted ≡ Refused r → Refused r ≡ tests
+        lengths-refused r e = sym (lengths-then len lanes coeffs order work fixed kept n protected (entries (finiteThreshold len tol Accepted)) ∙ rw e) ∙ after-counts
+
+        module _ (h4 : lengths Accepted ≡ Accepted) where
+          after-lengths : entries (finiteThreshold len tol Accepted) ≡ tests
+          after-lengths = sym (lengths-then len lanes coeffs order work fixed kept n protected (entries (finiteThreshold len tol Accepted)) ∙ rw h4) ∙ after-counts
+
+          pub entries-refused : (r : Refusal) → entries Accepted ≡ Refused r → Refused r ≡ tests
+          entries-refused r e = sym (entries-then len lanes coeffs n protected (finiteThreshold len tol Accepted) ∙ rw e) ∙ after-lengths
+
+          module _ (h5 : entries Accepted ≡ Accepted) (b : Bool) (is : b ≡ isFinite tol) where
+            after-entries : finiteThreshold len tol Accepted ≡ tests
+            after-entries = sym (entries-then len lanes coeffs n protected (finiteThreshold len tol Accepted) ∙ rw h5) ∙ after-lengths
+
+            pub threshold-bad : not b ≡ true → Refused (NumberOutOfRange len) ≡ tests
+            threshold-bad e = (rw (sym is, not-true b e)) ∙ after-entries
+
+            pub prune-accepted : not b ≡ false → Accepted ≡ tests
+            prune-accepted e = (rw (sym is, not-false b e)) ∙ after-entries
+
+  -- ---- the call
+  pub prune-refused : (r : Refusal) → tests ≡ Refused r → unchanged len lanes coeffs order work fixed kept r ≡ prune len lanes coeffs order work fixed kept n protected tol
+  unfolding prune
+  prune-refused r e = rw e
+
+  module _ (ok : tests ≡ Accepted) where
+    pub prune-room : Room len lanes coeffs order work fixed kept n protected
+    unfolding pruneTests
+    prune-room =
+        let e1 = passed (ltb maxQubits n) (TooManyQubits n maxQubits) _ ok in
+        let e2 = counted-passed maxWords len _ (e1 .1) in
+        let e3 = counted-passed maxWords count _ (e2 .1) in
+        let e4 = both (lengths Accepted) (entries (finiteThreshold len tol Accepted)) (sym (lengths-then len lanes coeffs order work fixed kept n protected (entries (finiteThreshold len tol Accepted))) ∙ e3 .1) in
+        lengths-room len lanes coeffs order work fixed kept n protected (e4 .0)
+
+    pub prune-answered : (r : ℕ) (lanes′ : List ℕ) (coeffs′ : List Float) (order′ work′ fixed′ kept′ : List ℕ)
+        → ((o w f k : List ℕ) → left len lanes coeffs o w f k r lanes′ coeffs′ ≡ cond (le tol float0) (left len lanes coeffs o w f k len lanes coeffs) (retained len lanes coeffs o w f k (pruneFlags len lanes coeffs protected tol)))
+        → order′ ≡ replicate (length order) 0 → work′ ≡ replicate (length work) 0 → fixed′ ≡ replicate (length fixed) 0 → kept′ ≡ replicate (length kept) 0
+        → record { answer = Entries r; lanes = lanes′; coeffs = coeffs′; order = order′; work = work′; fixed = fixed′; kept = kept′ } ≡ prune len lanes coeffs order work fixed kept n protected tol
+    unfolding prune
+    prune-answered r lanes′ coeffs′ order′ work′ fixed′ kept′ d eo ew ef ek = rw (ok, eo, ew, ef, ek) (d order work fixed kept)

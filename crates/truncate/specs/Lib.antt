@@ -1,9 +1,8 @@
 -- SPDX-FileCopyrightText: 2026 The PPVM Authors
 -- SPDX-License-Identifier: Apache-2.0
 
--- Entries that are kept, the positions chosen, and entries that come in.
-pub mod Retained
-pub mod Chosen
-pub mod Largest
-pub mod Admitted
-pub mod Pruned
+-- Calls on a lent basis: what is answered, refused and left in the lent tables.
+pub mod Tests
+pub mod Prunes
+pub mod Marks
+pub mod Admissions

@@ -1,10 +1,11 @@
 // SPDX-FileCopyrightText: 2026 The PPVM Authors
 // SPDX-License-Identifier: Apache-2.0
 
-// What a basis forgets and takes in: entries kept in their order, by flags.
+// What a run may forget, and what it takes in: prune, cap and admission on a lent basis.
 pub mod admit;
-pub mod choose;
-pub mod flags;
-pub mod largest;
-pub mod nth;
-pub mod retain;
+pub mod cap;
+pub mod checks;
+pub mod kept;
+pub mod protect;
+pub mod prune;
+pub mod tests;

@@ -3,7 +3,7 @@
 
 -- `count::count_action_terms` meets its contract. Assumes nothing.
 use mathlib.Core.Path.{sym, _∙_}
-use Rattle.model.specs.Stored.{Tables, tables}
+use Rattle.model.specs.Stored.{ModelTables, tables}
 use Rattle.action.proofs.CountLaws.{count-refused}
 use borrow.Author.Needs.{needs}
 use Rattle.action.proofs.count.count_action_terms.Statement.{statement}
@@ -15,7 +15,7 @@ count-tested-requires c κs = sym (c .before .before .before .before .before .be
 returns-2 : tie.Need-returns-2
 returns-2 c =
     let a = c .before .before .before .before .before .before .before .before .before .before .before .before .before .before .before .before .args in
-    let t : Tables = tables (a .h-words .now) (a .h-coeffs .now) (a .jumps .now) (a .rates .now) (a .t-words .now) (a .t-numbers .now) in
+    let t : ModelTables = tables (a .h-words .now) (a .h-coeffs .now) (a .jumps .now) (a .rates .now) (a .t-words .now) (a .t-numbers .now) in
     count-refused (a .h-index .now) (a .j-index .now) (a .mask .now) (a .work-words .now) (a .work-sums .now) (a .m) t (a .list .now) _ (sym (c .before .before .before .check-words .ensures) ∙ c .before .answer .given .1)
 
 pub count-action-terms-spec : {M : Type 1} → statement M

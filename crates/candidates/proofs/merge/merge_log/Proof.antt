@@ -8,7 +8,7 @@ use lib.ListN.{length, length-set}
 use Rattle.word.specs.Flat.{words}
 use Rattle.word.proofs.FlatLaws.{words-low}
 use Rattle.order.proofs.PlaceLaws.{lane-asks}
-use Rattle.candidates.specs.Log.{rows, table, putRows}
+use Rattle.candidates.specs.Log.{rows, candidateRows, putRows}
 use Rattle.candidates.proofs.LogLaws.{word-sorted}
 use Rattle.candidates.proofs.RowLaws.{beside-false}
 use Rattle.candidates.proofs.MergeLaws.{Goes, goes-first, goes-end, goes-sum, goes-full, goes-fresh, goes-held}
@@ -24,7 +24,7 @@ Inv-loop held kept n log values order out₀ sums₀ i₀ j₀ k₀ out sums i j
     × (k ≤ length sums)
     × (length out ≡ length out₀)
     × (length sums ≡ length sums₀)
-    × Goes held kept n (words log) values order (putRows (rows (words log) values) (table n held kept)) out sums i j k
+    × Goes held kept n (words log) values order (putRows (rows (words log) values) (candidateRows n held kept)) out sums i j k
 
 abbrev μ-loop : tie.MeasureT-loop
 μ-loop held kept n log values order out₀ sums₀ i₀ j₀ k₀ out sums i j k = (n - i) + (length order - j)

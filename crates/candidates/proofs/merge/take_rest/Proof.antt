@@ -7,7 +7,7 @@ use mathlib.Core.List.{_++_}
 use Prim.Native.Nat.{_≤_, _-_}
 use lib.ListN.{length, take, drop}
 use Rattle.word.specs.Flat.{words}
-use Rattle.candidates.specs.Log.{rows, table}
+use Rattle.candidates.specs.Log.{rows, candidateRows}
 use Rattle.candidates.proofs.MergeLaws.{rest-turn, rest-full, rest-end}
 use native.Mathlib.Omega.{arith}
 use borrow.Author.Needs.{needs}
@@ -20,7 +20,7 @@ Inv-loop held kept n from out₀ sums₀ written i₀ k₀ out sums i k =
     × (k ≤ length sums)
     × (length out ≡ length out₀)
     × (length sums ≡ length sums₀)
-    × (take k (rows (words out) sums) ++ drop i (table n held kept) ≡ table written out₀ sums₀ ++ drop from (table n held kept))
+    × (take k (rows (words out) sums) ++ drop i (candidateRows n held kept) ≡ candidateRows written out₀ sums₀ ++ drop from (candidateRows n held kept))
 
 abbrev μ-loop : tie.MeasureT-loop
 μ-loop held kept n from out₀ sums₀ written i₀ k₀ out sums i k = n - i

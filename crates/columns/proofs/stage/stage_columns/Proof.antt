@@ -8,7 +8,7 @@ use Prim.Native.Nat.{_-_, _<_}
 use native.Mathlib.Omega.{arith}
 use lib.ListN.{length}
 use Rattle.word.specs.Flat.{words}
-use Rattle.model.specs.Stored.{Tables, tables}
+use Rattle.model.specs.Stored.{ModelTables, tables}
 use Rattle.action.specs.Acts.{actionOf}
 use Rattle.action.specs.Counts.{touchedBy}
 use Rattle.action.proofs.ActLaws.{empty-room, sums-full, sums-held, listed-are, sums-inside}
@@ -30,7 +30,7 @@ abbrev μ-loop : tie.MeasureT-loop
 loop-holds : tie.Need-loop-holds Inv-loop μ-loop
 loop-holds c =
     let a = c .before .before .before .before .before .before .before .before .before .before .before .before .before .before .before .before .before .args in
-    let t : Tables = tables (a .h-words .now) (a .h-coeffs .now) (a .jumps .now) (a .rates .now) (a .t-words .now) (a .t-numbers .now) in
+    let t : ModelTables = tables (a .h-words .now) (a .h-coeffs .now) (a .jumps .now) (a .rates .now) (a .t-words .now) (a .t-numbers .now) in
     (column-start (touchedBy (a .m) t) (actionOf (a .m) t) (words (a .basis .now)) (a .sum-room) (a .entry-room) (a .rows .now) (a .columns .now) (a .values .now), refl, refl, refl, refl, refl, refl)
 
 word-at-requires : tie.Need-word-at-requires Inv-loop μ-loop
@@ -53,7 +53,7 @@ put-rules-near-requires c κs =
 returns : tie.Need-returns Inv-loop μ-loop
 returns c =
     let a = c .before .before .before .before .before .before .before .before .before .before .before .before .before .before .before .before .before .before .before .before .before .before .before .before .before .before .before .before .before .before .before .before .args in
-    let t : Tables = tables (a .h-words .now) (a .h-coeffs .now) (a .jumps .now) (a .rates .now) (a .t-words .now) (a .t-numbers .now) in
+    let t : ModelTables = tables (a .h-words .now) (a .h-coeffs .now) (a .jumps .now) (a .rates .now) (a .t-words .now) (a .t-numbers .now) in
     let l = c .before .before .before .before .before .before .before .before .before .before .before .before .before .before .loop in
     let n = words-count (a .basis .now) in
     stages-are (a .m) t (words (a .basis .now)) (a .sum-room) (a .entry-room) (l .rows) (l .columns) (l .values) _
@@ -63,7 +63,7 @@ returns c =
 stage-terms-requires : tie.Need-stage-terms-requires Inv-loop μ-loop
 stage-terms-requires c κs =
     let a = c .before .before .before .before .before .before .before .before .before .before .before .before .before .before .before .before .before .before .before .before .before .before .before .before .before .before .before .before .before .before .before .before .before .before .before .before .before .before .args in
-    let t : Tables = tables (a .h-words .now) (a .h-coeffs .now) (a .jumps .now) (a .rates .now) (a .t-words .now) (a .t-numbers .now) in
+    let t : ModelTables = tables (a .h-words .now) (a .h-coeffs .now) (a .jumps .now) (a .rates .now) (a .t-words .now) (a .t-numbers .now) in
     let l = c .before .before .before .before .before .before .before .before .before .before .before .before .before .before .before .before .before .before .before .before .loop in
     let n = words-count (a .basis .now) in
     let q = c .before .before .before .before .before .before .before .before .before .before .before .before .before .before .put-rules-near in
@@ -76,7 +76,7 @@ stage-terms-requires c κs =
 returns-2 : tie.Need-returns-2 Inv-loop μ-loop
 returns-2 c =
     let a = c .before .before .before .before .before .before .before .before .before .before .before .before .before .before .before .before .before .before .before .before .before .before .before .before .before .before .before .before .before .before .before .before .before .before .before .before .before .before .before .before .before .before .before .before .before .before .before .args in
-    let t : Tables = tables (a .h-words .now) (a .h-coeffs .now) (a .jumps .now) (a .rates .now) (a .t-words .now) (a .t-numbers .now) in
+    let t : ModelTables = tables (a .h-words .now) (a .h-coeffs .now) (a .jumps .now) (a .rates .now) (a .t-words .now) (a .t-numbers .now) in
     let l = c .before .before .before .before .before .before .before .before .before .before .before .before .before .before .before .before .before .before .before .before .before .before .before .before .before .before .before .before .before .loop in
     let n = words-count (a .basis .now) in
     let q = c .before .before .before .before .before .before .before .before .before .before .before .before .before .before .before .before .before .before .before .before .before .before .before .put-rules-near in
@@ -93,7 +93,7 @@ add-c c = let n = words-count (c .before .before .before .before .before .before
 loop-again : tie.Need-loop-again Inv-loop μ-loop
 loop-again c =
     let a = c .before .before .before .before .before .before .before .before .before .before .before .before .before .before .before .before .before .before .before .before .before .before .before .before .before .before .before .before .before .before .before .before .before .before .before .before .before .before .before .before .before .before .before .before .before .before .before .before .args in
-    let t : Tables = tables (a .h-words .now) (a .h-coeffs .now) (a .jumps .now) (a .rates .now) (a .t-words .now) (a .t-numbers .now) in
+    let t : ModelTables = tables (a .h-words .now) (a .h-coeffs .now) (a .jumps .now) (a .rates .now) (a .t-words .now) (a .t-numbers .now) in
     let l = c .before .before .before .before .before .before .before .before .before .before .before .before .before .before .before .before .before .before .before .before .before .before .before .before .before .before .before .before .before .before .loop in
     let n = words-count (a .basis .now) in
     let q = c .before .before .before .before .before .before .before .before .before .before .before .before .before .before .before .before .before .before .before .before .before .before .before .before .put-rules-near in
@@ -167,7 +167,7 @@ same-length-18 c = c .before .loop .inv .6
 returns-3 : tie.Need-returns-3 Inv-loop μ-loop
 returns-3 c =
     let a = c .before .before .before .before .before .before .before .before .before .before .before .before .before .before .before .before .before .before .before .args in
-    let t : Tables = tables (a .h-words .now) (a .h-coeffs .now) (a .jumps .now) (a .rates .now) (a .t-words .now) (a .t-numbers .now) in
+    let t : ModelTables = tables (a .h-words .now) (a .h-coeffs .now) (a .jumps .now) (a .rates .now) (a .t-words .now) (a .t-numbers .now) in
     let l = c .before .loop in
     let n = words-count (a .basis .now) in
     stages-are (a .m) t (words (a .basis .now)) (a .sum-room) (a .entry-room) (l .rows) (l .columns) (l .values) _

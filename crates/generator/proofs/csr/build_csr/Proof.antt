@@ -7,7 +7,7 @@ use Prim.Native.Nat.{_*_, _≤_}
 use native.Mathlib.Omega.{arith}
 use lib.ListN.{length}
 use lib.Seq.{length-take-le}
-use Rattle.model.specs.Stored.{Tables, tables}
+use Rattle.model.specs.Stored.{ModelTables, tables}
 use Rattle.generator.specs.Lent.{Work, workOf}
 use Rattle.generator.proofs.CheckLaws.{tables-passed, inside-passed}
 use Rattle.generator.proofs.LentLaws.{model-lent, basis-words, basis-lent}
@@ -19,7 +19,7 @@ use Rattle.generator.proofs.csr.build_csr.Tie as tie
 mul-csr-tested : tie.Need-mul-csr-tested
 mul-csr-tested c =
     let a = c .before .before .before .before .before .before .before .before .before .before .before .before .before .before .before .before .before .before .before .before .before .before .before .args in
-    let t : Tables = tables (a .h-words .now) (a .h-coeffs .now) (a .jumps .now) (a .rates .now) (a .t-words .now) (a .t-numbers .now) in
+    let t : ModelTables = tables (a .h-words .now) (a .h-coeffs .now) (a .jumps .now) (a .rates .now) (a .t-words .now) (a .t-numbers .now) in
     let w : Work = workOf (a .h-index .now) (a .j-index .now) (a .mask .now) (a .heads .now) (a .nexts .now) (a .work-words .now) (a .work-sums .now) (a .stage-rows .now) (a .stage-columns .now) (a .stage-values .now) in
     let k = build-checked (a .offsets .now) (a .columns .now) (a .values .now) w (a .m) t (a .words .now) (a .len) (sym (c .before .before .check-csr .ensures) ∙ c .enum-told .given .1) in
     let p = tables-passed (a .m) t (a .words .now) (a .len) (length (a .h-index .now)) (length (a .j-index .now)) (length (a .mask .now)) (length (a .heads .now)) (length (a .nexts .now)) (k .tables) in
@@ -29,7 +29,7 @@ mul-csr-tested c =
 slice-aggregate-csr-tested : tie.Need-slice-aggregate-csr-tested
 slice-aggregate-csr-tested c =
     let a = c .before .before .before .before .before .before .before .before .before .before .before .before .before .before .before .before .before .before .before .before .before .before .before .before .args in
-    let t : Tables = tables (a .h-words .now) (a .h-coeffs .now) (a .jumps .now) (a .rates .now) (a .t-words .now) (a .t-numbers .now) in
+    let t : ModelTables = tables (a .h-words .now) (a .h-coeffs .now) (a .jumps .now) (a .rates .now) (a .t-words .now) (a .t-numbers .now) in
     let w : Work = workOf (a .h-index .now) (a .j-index .now) (a .mask .now) (a .heads .now) (a .nexts .now) (a .work-words .now) (a .work-sums .now) (a .stage-rows .now) (a .stage-columns .now) (a .stage-values .now) in
     let k = build-checked (a .offsets .now) (a .columns .now) (a .values .now) w (a .m) t (a .words .now) (a .len) (sym (c .before .before .before .check-csr .ensures) ∙ c .before .enum-told .given .1) in
     let p = tables-passed (a .m) t (a .words .now) (a .len) (length (a .h-index .now)) (length (a .j-index .now)) (length (a .mask .now)) (length (a .heads .now)) (length (a .nexts .now)) (k .tables) in
@@ -38,7 +38,7 @@ slice-aggregate-csr-tested c =
 csr-tested-requires : tie.Need-csr-tested-requires
 csr-tested-requires c κs =
     let a = c .before .before .before .before .before .before .before .before .before .before .before .before .before .before .before .before .before .before .before .before .before .before .before .before .before .before .before .before .before .before .before .before .before .before .before .before .before .args in
-    let t : Tables = tables (a .h-words .now) (a .h-coeffs .now) (a .jumps .now) (a .rates .now) (a .t-words .now) (a .t-numbers .now) in
+    let t : ModelTables = tables (a .h-words .now) (a .h-coeffs .now) (a .jumps .now) (a .rates .now) (a .t-words .now) (a .t-numbers .now) in
     let w : Work = workOf (a .h-index .now) (a .j-index .now) (a .mask .now) (a .heads .now) (a .nexts .now) (a .work-words .now) (a .work-sums .now) (a .stage-rows .now) (a .stage-columns .now) (a .stage-values .now) in
     let k = build-checked (a .offsets .now) (a .columns .now) (a .values .now) w (a .m) t (a .words .now) (a .len) (sym (c .before .before .before .before .before .before .before .before .before .before .before .before .before .before .before .before .check-csr .ensures) ∙ c .before .before .before .before .before .before .before .before .before .before .before .before .before .before .enum-told .given .1) in
     let p = tables-passed (a .m) t (a .words .now) (a .len) (length (a .h-index .now)) (length (a .j-index .now)) (length (a .mask .now)) (length (a .heads .now)) (length (a .nexts .now)) (k .tables) in
@@ -86,7 +86,7 @@ same-length-13 c = c .before .before .before .before .before .before .before .be
 returns : tie.Need-returns
 returns c =
     let a = c .before .before .before .before .before .before .before .before .before .before .before .before .before .before .before .before .before .before .before .before .before .before .before .before .before .before .before .before .before .before .before .before .before .before .before .before .before .before .before .before .before .before .before .before .before .before .before .before .before .before .before .before .before .before .before .before .before .before .before .before .before .before .before .before .args in
-    let t : Tables = tables (a .h-words .now) (a .h-coeffs .now) (a .jumps .now) (a .rates .now) (a .t-words .now) (a .t-numbers .now) in
+    let t : ModelTables = tables (a .h-words .now) (a .h-coeffs .now) (a .jumps .now) (a .rates .now) (a .t-words .now) (a .t-numbers .now) in
     let w : Work = workOf (a .h-index .now) (a .j-index .now) (a .mask .now) (a .heads .now) (a .nexts .now) (a .work-words .now) (a .work-sums .now) (a .stage-rows .now) (a .stage-columns .now) (a .stage-values .now) in
     let k = build-checked (a .offsets .now) (a .columns .now) (a .values .now) w (a .m) t (a .words .now) (a .len) (sym (c .before .before .before .before .before .before .before .before .before .before .before .before .before .before .before .before .before .before .before .before .before .before .before .before .before .before .before .before .before .before .before .before .before .before .before .before .before .before .before .before .before .before .before .check-csr .ensures) ∙ c .before .before .before .before .before .before .before .before .before .before .before .before .before .before .before .before .before .before .before .before .before .before .before .before .before .before .before .before .before .before .before .before .before .before .before .before .before .before .before .before .before .enum-told .given .1) in
     let p = tables-passed (a .m) t (a .words .now) (a .len) (length (a .h-index .now)) (length (a .j-index .now)) (length (a .mask .now)) (length (a .heads .now)) (length (a .nexts .now)) (k .tables) in
@@ -95,7 +95,7 @@ returns c =
 returns-2 : tie.Need-returns-2
 returns-2 c =
     let a = c .before .before .before .before .before .before .before .before .before .before .before .before .before .before .before .before .before .before .before .before .before .before .before .before .args in
-    let t : Tables = tables (a .h-words .now) (a .h-coeffs .now) (a .jumps .now) (a .rates .now) (a .t-words .now) (a .t-numbers .now) in
+    let t : ModelTables = tables (a .h-words .now) (a .h-coeffs .now) (a .jumps .now) (a .rates .now) (a .t-words .now) (a .t-numbers .now) in
     let w : Work = workOf (a .h-index .now) (a .j-index .now) (a .mask .now) (a .heads .now) (a .nexts .now) (a .work-words .now) (a .work-sums .now) (a .stage-rows .now) (a .stage-columns .now) (a .stage-values .now) in
     build-refused (a .offsets .now) (a .columns .now) (a .values .now) w (a .m) t (a .words .now) (a .len) _ (sym (c .before .before .before .check-csr .ensures) ∙ c .before .answer .given .1)
 

@@ -8,7 +8,7 @@ use native.Mathlib.Omega.{arith}
 use lib.ListN.{length}
 use lib.Seq.{length-take-le}
 use Rattle.refusal.specs.declared.Answer.the-variants.{Accepted}
-use Rattle.model.specs.Stored.{Tables, tables}
+use Rattle.model.specs.Stored.{ModelTables, tables}
 use Rattle.model.proofs.BuildLaws.{both}
 use Rattle.action.specs.Counts.{insideTo}
 use Rattle.generator.specs.Lent.{Work, workOf, lentTests}
@@ -22,7 +22,7 @@ use Rattle.generator.proofs.generator.generator.Tie as tie
 mul-generator-tested : tie.Need-mul-generator-tested
 mul-generator-tested c =
     let a = c .before .before .before .before .before .before .before .before .before .before .before .before .before .before .before .before .before .before .before .before .before .before .before .args in
-    let t : Tables = tables (a .h-words .now) (a .h-coeffs .now) (a .jumps .now) (a .rates .now) (a .t-words .now) (a .t-numbers .now) in
+    let t : ModelTables = tables (a .h-words .now) (a .h-coeffs .now) (a .jumps .now) (a .rates .now) (a .t-words .now) (a .t-numbers .now) in
     let w : Work = workOf (a .h-index .now) (a .j-index .now) (a .mask .now) (a .heads .now) (a .nexts .now) (a .work-words .now) (a .work-sums .now) (a .stage-rows .now) (a .stage-columns .now) (a .stage-values .now) in
     let k = both (lentTests (a .m) t (a .words .now) (a .len) w) (insideTo (a .len) (a .words .now) (a .m .qubits) Accepted) (sym (c .before .before .check-generator .ensures) ∙ c .enum-told .given .1) in
     let p = tables-passed (a .m) t (a .words .now) (a .len) (length (a .h-index .now)) (length (a .j-index .now)) (length (a .mask .now)) (length (a .heads .now)) (length (a .nexts .now)) (k .0) in
@@ -32,7 +32,7 @@ mul-generator-tested c =
 slice-aggregate-generator-tested : tie.Need-slice-aggregate-generator-tested
 slice-aggregate-generator-tested c =
     let a = c .before .before .before .before .before .before .before .before .before .before .before .before .before .before .before .before .before .before .before .before .before .before .before .before .args in
-    let t : Tables = tables (a .h-words .now) (a .h-coeffs .now) (a .jumps .now) (a .rates .now) (a .t-words .now) (a .t-numbers .now) in
+    let t : ModelTables = tables (a .h-words .now) (a .h-coeffs .now) (a .jumps .now) (a .rates .now) (a .t-words .now) (a .t-numbers .now) in
     let w : Work = workOf (a .h-index .now) (a .j-index .now) (a .mask .now) (a .heads .now) (a .nexts .now) (a .work-words .now) (a .work-sums .now) (a .stage-rows .now) (a .stage-columns .now) (a .stage-values .now) in
     let k = both (lentTests (a .m) t (a .words .now) (a .len) w) (insideTo (a .len) (a .words .now) (a .m .qubits) Accepted) (sym (c .before .before .before .check-generator .ensures) ∙ c .before .enum-told .given .1) in
     let p = tables-passed (a .m) t (a .words .now) (a .len) (length (a .h-index .now)) (length (a .j-index .now)) (length (a .mask .now)) (length (a .heads .now)) (length (a .nexts .now)) (k .0) in
@@ -41,7 +41,7 @@ slice-aggregate-generator-tested c =
 generator-tested-requires : tie.Need-generator-tested-requires
 generator-tested-requires c κs =
     let a = c .before .before .before .before .before .before .before .before .before .before .before .before .before .before .before .before .before .before .before .before .before .before .before .before .before .before .before .before .before .before .before .before .before .before .before .before .before .args in
-    let t : Tables = tables (a .h-words .now) (a .h-coeffs .now) (a .jumps .now) (a .rates .now) (a .t-words .now) (a .t-numbers .now) in
+    let t : ModelTables = tables (a .h-words .now) (a .h-coeffs .now) (a .jumps .now) (a .rates .now) (a .t-words .now) (a .t-numbers .now) in
     let w : Work = workOf (a .h-index .now) (a .j-index .now) (a .mask .now) (a .heads .now) (a .nexts .now) (a .work-words .now) (a .work-sums .now) (a .stage-rows .now) (a .stage-columns .now) (a .stage-values .now) in
     let k = both (lentTests (a .m) t (a .words .now) (a .len) w) (insideTo (a .len) (a .words .now) (a .m .qubits) Accepted) (sym (c .before .before .before .before .before .before .before .before .before .before .before .before .before .before .before .before .check-generator .ensures) ∙ c .before .before .before .before .before .before .before .before .before .before .before .before .before .before .enum-told .given .1) in
     let p = tables-passed (a .m) t (a .words .now) (a .len) (length (a .h-index .now)) (length (a .j-index .now)) (length (a .mask .now)) (length (a .heads .now)) (length (a .nexts .now)) (k .0) in
@@ -89,7 +89,7 @@ same-length-13 c = c .before .before .before .before .before .before .before .be
 returns : tie.Need-returns
 returns c =
     let a = c .before .before .before .before .before .before .before .before .before .before .before .before .before .before .before .before .before .before .before .before .before .before .before .before .before .before .before .before .before .before .before .before .before .before .before .before .before .before .before .before .before .before .before .before .before .before .before .before .before .before .before .before .before .before .before .before .before .before .before .before .before .before .before .before .args in
-    let t : Tables = tables (a .h-words .now) (a .h-coeffs .now) (a .jumps .now) (a .rates .now) (a .t-words .now) (a .t-numbers .now) in
+    let t : ModelTables = tables (a .h-words .now) (a .h-coeffs .now) (a .jumps .now) (a .rates .now) (a .t-words .now) (a .t-numbers .now) in
     let w : Work = workOf (a .h-index .now) (a .j-index .now) (a .mask .now) (a .heads .now) (a .nexts .now) (a .work-words .now) (a .work-sums .now) (a .stage-rows .now) (a .stage-columns .now) (a .stage-values .now) in
     let k = both (lentTests (a .m) t (a .words .now) (a .len) w) (insideTo (a .len) (a .words .now) (a .m .qubits) Accepted) (sym (c .before .before .before .before .before .before .before .before .before .before .before .before .before .before .before .before .before .before .before .before .before .before .before .before .before .before .before .before .before .before .before .before .before .before .before .before .before .before .before .before .before .before .before .check-generator .ensures) ∙ c .before .before .before .before .before .before .before .before .before .before .before .before .before .before .before .before .before .before .before .before .before .before .before .before .before .before .before .before .before .before .before .before .before .before .before .before .before .before .before .before .before .enum-told .given .1) in
     let p = tables-passed (a .m) t (a .words .now) (a .len) (length (a .h-index .now)) (length (a .j-index .now)) (length (a .mask .now)) (length (a .heads .now)) (length (a .nexts .now)) (k .0) in
@@ -98,7 +98,7 @@ returns c =
 returns-2 : tie.Need-returns-2
 returns-2 c =
     let a = c .before .before .before .before .before .before .before .before .before .before .before .before .before .before .before .before .before .before .before .before .before .before .before .before .args in
-    let t : Tables = tables (a .h-words .now) (a .h-coeffs .now) (a .jumps .now) (a .rates .now) (a .t-words .now) (a .t-numbers .now) in
+    let t : ModelTables = tables (a .h-words .now) (a .h-coeffs .now) (a .jumps .now) (a .rates .now) (a .t-words .now) (a .t-numbers .now) in
     let w : Work = workOf (a .h-index .now) (a .j-index .now) (a .mask .now) (a .heads .now) (a .nexts .now) (a .work-words .now) (a .work-sums .now) (a .stage-rows .now) (a .stage-columns .now) (a .stage-values .now) in
     generate-refused (a .rows .now) (a .columns .now) (a .values .now) w (a .m) t (a .words .now) (a .len) _ (sym (c .before .before .before .check-generator .ensures) ∙ c .before .answer .given .1)
 

@@ -8,7 +8,7 @@ use borrow.Author.Needs.{needs}
 use native.Mathlib.Omega.{arith}
 use lib.ListN.{length}
 use Rattle.refusal.specs.declared.Answer.the-variants.{Accepted}
-use Rattle.model.specs.Stored.{Tables}
+use Rattle.model.specs.Stored.{ModelTables}
 use Rattle.model.specs.Tested.{firstTo, testModel}
 use Rattle.model.specs.Fails.{numberFails}
 use Rattle.model.specs.Items.{answerOf}
@@ -25,7 +25,7 @@ input s =
     let a = s .args in
     record { texts = a .texts .now; lengths = a .lengths .now; counts = a .counts .now; numbers = a .numbers .now; k = a .k .now }
 
-abbrev tables : tie.Start → Tables
+abbrev tables : tie.Start → ModelTables
 tables s =
     let a = s .args in
     record { hWords = a .h-words .now; hCoeffs = a .h-coeffs .now; jumps = a .jumps .now; rates = a .rates .now; tWords = a .t-words .now; tNumbers = a .t-numbers .now }

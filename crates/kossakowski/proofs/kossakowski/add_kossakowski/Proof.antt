@@ -4,7 +4,7 @@
 -- `kossakowski::add_kossakowski` meets its contract. Assumes nothing.
 use mathlib.Core.Path.{sym, _∙_}
 use borrow.Author.Needs.{needs}
-use Rattle.model.specs.Stored.{Tables}
+use Rattle.model.specs.Stored.{ModelTables}
 use Rattle.kossakowski.specs.Added.{Input}
 use Rattle.kossakowski.proofs.MatrixAccepted.{matrix-refused}
 use Rattle.kossakowski.proofs.kossakowski.add_kossakowski.Statement.{statement}
@@ -13,7 +13,7 @@ use Rattle.kossakowski.proofs.kossakowski.add_kossakowski.Tie as tie
 abbrev input : tie.Start → Input
 input s = let a = s .args in record { texts = a .texts .now; lengths = a .lengths .now; counts = a .counts .now; numbers = a .numbers .now; k = a .k .now }
 
-abbrev tables : tie.Start → Tables
+abbrev tables : tie.Start → ModelTables
 tables s =
     let a = s .args in
     record { hWords = a .h-words .now; hCoeffs = a .h-coeffs .now; jumps = a .jumps .now; rates = a .rates .now; tWords = a .t-words .now; tNumbers = a .t-numbers .now }

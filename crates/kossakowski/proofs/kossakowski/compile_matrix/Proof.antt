@@ -10,7 +10,7 @@ use mir.Val.{Fits}
 use mir.Syntax.{w64}
 use borrow.Author.Needs.{needs}
 use Rattle.number.specs.Floats.{float0}
-use Rattle.model.specs.Stored.{Tables}
+use Rattle.model.specs.Stored.{ModelTables}
 use Rattle.kossakowski.specs.Added.{Input, operators}
 use Rattle.kossakowski.proofs.MatrixAccepted.{Accepts, matrix-accepted}
 use Rattle.kossakowski.proofs.CompiledLaws.{terms-inside, own-few, read-fits, read-room, square, work-room, store-room, pairs-room, compiled-none, compiled-full, compiled-model}
@@ -20,7 +20,7 @@ use Rattle.kossakowski.proofs.kossakowski.compile_matrix.Tie as tie
 abbrev input : tie.Start → Input
 input s = let a = s .args in record { texts = a .texts .now; lengths = a .lengths .now; counts = a .counts .now; numbers = a .numbers .now; k = a .k .now }
 
-abbrev tables : tie.Start → Tables
+abbrev tables : tie.Start → ModelTables
 tables s =
     let a = s .args in
     record { hWords = a .h-words .now; hCoeffs = a .h-coeffs .now; jumps = a .jumps .now; rates = a .rates .now; tWords = a .t-words .now; tNumbers = a .t-numbers .now }

@@ -9,7 +9,7 @@ use lib.Ieee.{Float}
 use native.Mathlib.Omega.{arith}
 use borrow.Author.Needs.{needs}
 use borrow.Author.Tests.{lt-ltb, le-ltb, eq-eqb, ne-eqb}
-use Rattle.model.specs.Stored.{Tables}
+use Rattle.model.specs.Stored.{ModelTables}
 use Rattle.kossakowski.specs.Added.{Input, lengthsAnswer}
 use Rattle.kossakowski.proofs.MatrixLaws.{places-few}
 use Rattle.kossakowski.proofs.MatrixLengths.{tablesAnswer, own-agree}
@@ -57,7 +57,7 @@ input s =
     let a = s .args in
     record { texts = a .texts .now; lengths = a .lengths .now; counts = a .counts .now; numbers = a .numbers .now; k = a .k .now }
 
-abbrev tables : tie.Start → List ℕ → List Float → List ℕ → List Float → Tables
+abbrev tables : tie.Start → List ℕ → List Float → List ℕ → List Float → ModelTables
 tables s hWords hCoeffs tWords tNumbers =
     let a = s .args in
     record { hWords = hWords; hCoeffs = hCoeffs; jumps = a .jumps .now; rates = a .rates .now; tWords = tWords; tNumbers = tNumbers }

@@ -9,7 +9,7 @@ use borrow.Author.Needs.{needs}
 use native.Mathlib.Omega.{arith}
 use lib.ListN.{length}
 use Rattle.number.specs.Floats.{floats}
-use Rattle.table.specs.Numbers.{complexes}
+use Rattle.sums.specs.Numbers.{complexes}
 use Rattle.kossakowski.specs.Matrix.{isPair, passing, pairPlaces}
 use Rattle.kossakowski.proofs.MatrixLaws.{places-few, passing-start, passing-yes, passing-no, passing-end}
 use Rattle.kossakowski.proofs.matrix.count_pairs.Statement.{statement}

@@ -8,7 +8,7 @@ use Prim.Native.Nat.{_-_, _*_, _≤_}
 use borrow.Author.Needs.{needs}
 use native.Mathlib.Omega.{arith}
 use Rattle.number.specs.Floats.{floats}
-use Rattle.table.specs.Numbers.{complexes}
+use Rattle.sums.specs.Numbers.{complexes}
 use Rattle.model.proofs.Firsts.{NoneBefore, none-start, none-more, stops-here, stops-last}
 use Rattle.kossakowski.specs.Matrix.{apartAt}
 use Rattle.kossakowski.proofs.MatrixLaws.{places-few, some-ops, row-below, column-below, apart-turned, apart-here}

@@ -8,7 +8,7 @@ use borrow.Author.Needs.{needs}
 use native.Mathlib.Omega.{arith}
 use Rattle.number.specs.Numbers.{largestOver}
 use Rattle.number.specs.Floats.{floats}
-use Rattle.table.specs.Numbers.{complexes}
+use Rattle.sums.specs.Numbers.{complexes}
 use Rattle.kossakowski.proofs.MatrixLaws.{largestLeft, largest-turn, largest-end}
 use Rattle.kossakowski.proofs.matrix.largest_square.Statement.{statement}
 use Rattle.kossakowski.proofs.matrix.largest_square.Tie as tie

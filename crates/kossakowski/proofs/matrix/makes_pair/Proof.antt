@@ -5,7 +5,7 @@
 use mathlib.Core.Path.{sym}
 use borrow.Author.Needs.{needs}
 use native.Mathlib.Omega.{arith}
-use Rattle.table.specs.Numbers.{complexes}
+use Rattle.sums.specs.Numbers.{complexes}
 use Rattle.kossakowski.proofs.MatrixLaws.{some-ops, pair-turned, pair-told}
 use Rattle.kossakowski.proofs.matrix.makes_pair.Statement.{statement}
 use Rattle.kossakowski.proofs.matrix.makes_pair.Tie as tie

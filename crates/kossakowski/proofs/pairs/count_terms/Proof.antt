@@ -7,7 +7,7 @@ use Prim.Native.Nat.{_-_}
 use lib.ListN.{length}
 use mir.Val.{Fits}
 use mir.Syntax.{w64}
-use Rattle.table.specs.Numbers.{complexes}
+use Rattle.sums.specs.Numbers.{complexes}
 use Rattle.kossakowski.proofs.MatrixLaws.{places-few, some-ops, row-below, column-below}
 use Rattle.kossakowski.proofs.PairsLaws.{standing-room, CountState, count-start, count-skips, count-next, count-done}
 use borrow.Author.Needs.{needs}

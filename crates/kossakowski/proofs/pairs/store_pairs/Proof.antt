@@ -5,7 +5,7 @@
 use mathlib.Core.Path.{sym, _∙_}
 use Prim.Native.Nat.{_-_}
 use Rattle.number.specs.Floats.{cx}
-use Rattle.table.specs.Numbers.{complexes}
+use Rattle.sums.specs.Numbers.{complexes}
 use Rattle.model.proofs.Parts.{length-complexes}
 use Rattle.kossakowski.proofs.MatrixLaws.{places-few, some-ops, row-below, column-below}
 use Rattle.kossakowski.proofs.PairsLaws.{standing-room, StoreState, store-start, store-skips, store-room, store-next, store-done}

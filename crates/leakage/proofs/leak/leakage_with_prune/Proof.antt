@@ -9,7 +9,7 @@ use native.Mathlib.Omega.{arith}
 use lib.ListN.{length, take, replicate}
 use lib.Seq.{length-take-le}
 use Rattle.number.specs.Floats.{float0}
-use Rattle.model.specs.Stored.{Tables, tables}
+use Rattle.model.specs.Stored.{ModelTables, tables}
 use Rattle.model_laws.proofs.StandsLaws.{tested-stands}
 use Rattle.passes.specs.Leaks.{Took}
 use Rattle.leakage.specs.Leakages.{Basis, basisOf, Work, workOf, candidatePlaces, leakTests, leakCourse}
@@ -22,7 +22,7 @@ use Rattle.leakage.proofs.leak.leakage_with_prune.Statement.{statement}
 use Rattle.leakage.proofs.leak.leakage_with_prune.Tie as tie
 
 -- ---- what is lent, as the definitions name it
-abbrev stored : tie.Start → Tables
+abbrev stored : tie.Start → ModelTables
 stored s = let a = s .args in tables (a .h-words .now) (a .h-coeffs .now) (a .jumps .now) (a .rates .now) (a .t-words .now) (a .t-numbers .now)
 
 abbrev lent : tie.Start → Basis

@@ -12,7 +12,7 @@ use Prim.Native.Nat.{ℕ}
 use lib.Ieee.{Float}
 use borrow.Author.Needs.{needs}
 use native.Mathlib.Omega.{arith}
-use Rattle.model.specs.Stored.{Tables}
+use Rattle.model.specs.Stored.{ModelTables}
 use Rattle.model.specs.Built.{Input}
 use Rattle.model.proofs.BuildLaws.{LengthsFit, lengths-fit}
 use Rattle.model.proofs.CheckLaws.{own-each, own-hold, rest-fit, reals-answer, jumps-answer, qubits-above, reals-above, jumps-above, lengths-refused, reals-refused, jumps-last}
@@ -24,7 +24,7 @@ input s =
     let a = s .args in
     record { texts = a .texts .now; lengths = a .lengths .now; hNumbers = a .h-numbers .now; rates = a .rates .now; counts = a .counts .now; numbers = a .numbers .now }
 
-abbrev tables : tie.Start → List ℕ → List Float → Tables
+abbrev tables : tie.Start → List ℕ → List Float → ModelTables
 tables s tWords tNumbers =
     let a = s .args in
     record { hWords = a .h-words .now; hCoeffs = a .h-coeffs .now; jumps = a .jumps .now; rates = a .rate-places .now; tWords = tWords; tNumbers = tNumbers }

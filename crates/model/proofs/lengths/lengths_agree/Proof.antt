@@ -8,7 +8,7 @@ use Prim.Native.Nat.{ℕ}
 use lib.Ieee.{Float}
 use borrow.Author.Needs.{needs}
 use borrow.Author.Tests.{lt-ltb, le-ltb, eq-eqb, ne-eqb}
-use Rattle.model.specs.Stored.{Tables}
+use Rattle.model.specs.Stored.{ModelTables}
 use Rattle.model.specs.Built.{Input, lengthsAnswer}
 use Rattle.model.proofs.LengthLaws.{tablesAnswer, own-agree}
 use Rattle.model.proofs.lengths.lengths_agree.Statement.{statement}
@@ -48,7 +48,7 @@ input s =
     let a = s .args in
     record { texts = a .texts .now; lengths = a .lengths .now; hNumbers = a .h-numbers .now; rates = a .rates .now; counts = a .counts .now; numbers = a .numbers .now }
 
-abbrev tables : tie.Start → List ℕ → List Float → Tables
+abbrev tables : tie.Start → List ℕ → List Float → ModelTables
 tables s tWords tNumbers =
     let a = s .args in
     record { hWords = a .h-words .now; hCoeffs = a .h-coeffs .now; jumps = a .jumps .now; rates = a .rate-places .now; tWords = tWords; tNumbers = tNumbers }

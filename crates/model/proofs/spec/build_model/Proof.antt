@@ -3,7 +3,7 @@
 
 -- `spec::build_model` meets its contract. Assumes nothing.
 use mathlib.Core.Path.{sym, _∙_}
-use Rattle.model.specs.Stored.{Tables}
+use Rattle.model.specs.Stored.{ModelTables}
 use Rattle.model.specs.Built.{Input}
 use Rattle.model.proofs.BuildLaws.{build-refused}
 use borrow.Author.Needs.{needs}
@@ -15,7 +15,7 @@ input s =
     let a = s .args in
     record { texts = a .texts .now; lengths = a .lengths .now; hNumbers = a .h-numbers .now; rates = a .given .now; counts = a .counts .now; numbers = a .numbers .now }
 
-abbrev tables : tie.Start → Tables
+abbrev tables : tie.Start → ModelTables
 tables s =
     let a = s .args in
     record { hWords = a .h-words .now; hCoeffs = a .h-coeffs .now; jumps = a .jumps .now; rates = a .rates .now; tWords = a .t-words .now; tNumbers = a .t-numbers .now }

@@ -7,7 +7,7 @@ use lib.ListN.{length, replicate}
 use mir.Val.{Fits}
 use mir.Syntax.{w64}
 use Rattle.number.specs.Floats.{float0}
-use Rattle.model.specs.Stored.{Tables}
+use Rattle.model.specs.Stored.{ModelTables}
 use Rattle.model.specs.Built.{Input}
 use Prim.Native.Nat.{ℕ}
 use Rattle.model.proofs.BuildLaws.{Accepts, build-accepted}
@@ -24,7 +24,7 @@ input s =
     let a = s .args in
     record { texts = a .texts .now; lengths = a .lengths .now; hNumbers = a .h-numbers .now; rates = a .given .now; counts = a .counts .now; numbers = a .numbers .now }
 
-abbrev tables : tie.Start → Tables
+abbrev tables : tie.Start → ModelTables
 tables s =
     let a = s .args in
     record { hWords = a .h-words .now; hCoeffs = a .h-coeffs .now; jumps = a .jumps .now; rates = a .rates .now; tWords = a .t-words .now; tNumbers = a .t-numbers .now }

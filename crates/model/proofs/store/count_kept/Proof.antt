@@ -7,7 +7,7 @@ use Prim.Native.Nat.{ℕ, _-_, _≤_}
 use lib.ListN.{length}
 use Rattle.number.specs.Floats.{floats}
 use Rattle.gksl.specs.Table.{withoutOver}
-use Rattle.table.specs.Sums.{table}
+use Rattle.sums.specs.Sums.{sumRows}
 use Rattle.model.specs.Product.{onto}
 use Rattle.model.specs.Thinned.{thinned}
 use Rattle.model.proofs.StoreLaws.{count-drops, count-keeps}
@@ -17,7 +17,7 @@ use Rattle.model.proofs.store.count_kept.Statement.{statement}
 use Rattle.model.proofs.store.count_kept.Tie as tie
 
 abbrev Inv-loop : tie.InvT-loop
-Inv-loop words numbers len kept₀ i₀ kept i = (i ≤ len) × (kept ≤ i) × (kept ≡ length (thinned (table i words numbers)))
+Inv-loop words numbers len kept₀ i₀ kept i = (i ≤ len) × (kept ≤ i) × (kept ≡ length (thinned (sumRows i words numbers)))
 
 abbrev μ-loop : tie.MeasureT-loop
 μ-loop words numbers len kept₀ i₀ kept i = len - i
@@ -43,7 +43,7 @@ returns c =
     let a = c .before .before .before .before .args in
     let l = c .before .loop in
     let e : l .i ≡ a .len = omega arith in
-    l .inv .2 ∙ ap (λ (k : ℕ). length (thinned (table k (a .words .now) (a .numbers .now)))) e
+    l .inv .2 ∙ ap (λ (k : ℕ). length (thinned (sumRows k (a .words .now) (a .numbers .now)))) e
 
 pub count-kept-spec : {M : Type 1} → statement M
 count-kept-spec =

@@ -6,7 +6,7 @@ use mathlib.Core.Path.{_≡_, ap, ap₂, _∙_}
 use Prim.Native.Nat.{ℕ, _-_, _≤_, min}
 use Rattle.model.specs.Tested.{firstTo}
 use Rattle.model.specs.Fails.{failsOf, givenFails}
-use Rattle.model.specs.declared.tables.Jump.{Jump}
+use Rattle.model.specs.declared.stored.Jump.{Jump}
 use Rattle.model.proofs.GivenTerms.{given-none, given-more}
 use borrow.Author.Needs.{needs}
 use native.Mathlib.Omega.{arith}

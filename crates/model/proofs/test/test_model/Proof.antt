@@ -6,9 +6,9 @@ use mathlib.Core.Path.{_≡_, _∙_}
 use borrow.Author.Needs.{needs}
 use Rattle.refusal.specs.declared.Answer.{Answer}
 use Rattle.refusal.specs.declared.Answer.the-variants.{Accepted}
-use Rattle.model.specs.Stored.{Tables, tables}
+use Rattle.model.specs.Stored.{ModelTables, tables}
 use Rattle.model.specs.Tested.{firstTo, badReal, badEntry, badTerm, testModel}
-use Rattle.model.specs.declared.tables.Model.{Model}
+use Rattle.model.specs.declared.stored.Model.{Model}
 use Rattle.model.proofs.ModelTests.{real-first, entry-first, term-first}
 use Rattle.model.proofs.TestOrder.{counted-above, counted-within, lent-short, lent-enough, entries-refused, entries-passed, terms-on, jumps-on, hamiltonian-on, term-numbers-on, term-words-on, rates-on, jump-numbers-on, coefficients-on, words-on, jump-count-on, count-on, qubits-above, qubits-within}
 use Rattle.model.proofs.test.test_model.Statement.{statement}
@@ -18,11 +18,11 @@ use Rattle.model.proofs.test.test_model.Tie as tie
 abbrev model : tie.Start → Model
 model c = c .args .m
 
-abbrev slices : tie.Start → Tables
+abbrev slices : tie.Start → ModelTables
 slices c = tables (c .args .h-words .now) (c .args .h-coeffs .now) (c .args .jumps .now) (c .args .rates .now) (c .args .t-words .now) (c .args .t-numbers .now)
 
 -- a passed test leaves the tests from here on
-abbrev Leaves : (Model → Tables → Answer) → tie.Start → Type 0
+abbrev Leaves : (Model → ModelTables → Answer) → tie.Start → Type 0
 Leaves on c = on (model c) (slices c) ≡ testModel (model c) (slices c)
 
 -- where each test began

@@ -7,7 +7,7 @@ use Prim.Native.Nat.{_-_, _<_}
 use native.Mathlib.Omega.{arith}
 use lib.ListN.{length, take, length-set}
 use Rattle.word.specs.Flat.{words}
-use Rattle.model.specs.Stored.{Tables, tables}
+use Rattle.model.specs.Stored.{ModelTables, tables}
 use Rattle.action.specs.Counts.{touchedBy}
 use Rattle.action.proofs.ActLaws.{empty-room, sums-full, sums-held, listed-are, sums-inside}
 use Rattle.norm.specs.Columns.{rawOf, diagOf, rawBy, diagBy}
@@ -27,7 +27,7 @@ abbrev μ-loop : tie.MeasureT-loop
 loop-holds : tie.Need-loop-holds Inv-loop μ-loop
 loop-holds c =
     let a = c .before .before .before .before .before .before .before .before .before .before .before .before .before .before .args in
-    let t : Tables = tables (a .h-words .now) (a .h-coeffs .now) (a .jumps .now) (a .rates .now) (a .t-words .now) (a .t-numbers .now) in
+    let t : ModelTables = tables (a .h-words .now) (a .h-coeffs .now) (a .jumps .now) (a .rates .now) (a .t-words .now) (a .t-numbers .now) in
     (fill-start (touchedBy (a .m) t) (rawBy (a .m) t) (diagBy (a .m) t) (take (a .len) (words (a .words .now))) (a .room) (a .raws .now) (a .diags .now), refl, refl, refl, refl, refl)
 
 word-at-requires : tie.Need-word-at-requires Inv-loop μ-loop
@@ -53,7 +53,7 @@ returns : tie.Need-returns Inv-loop μ-loop
 returns c =
     let s = c .before .before .before .before .before .before .before .before .before .before .before .before .before .before .before .before .before .before .before .before .before .before .before .before .before .before .before .before .before in
     let a = c .before .before .before .before .before .before .before .before .before .before .before .before .before .before .before .before .before .before .before .before .before .before .before .before .before .before .before .before .before .args in
-    let t : Tables = tables (a .h-words .now) (a .h-coeffs .now) (a .jumps .now) (a .rates .now) (a .t-words .now) (a .t-numbers .now) in
+    let t : ModelTables = tables (a .h-words .now) (a .h-coeffs .now) (a .jumps .now) (a .rates .now) (a .t-words .now) (a .t-numbers .now) in
     let l = c .before .before .before .before .before .before .before .before .before .before .before .before .before .before .loop in
     let w = c .before .before .before .before .before .before .before .before .before .before .before .before .word-at in
     let q = c .before .before .before .before .before .before .before .before .put-rules-near in
@@ -65,7 +65,7 @@ raw-of-requires : tie.Need-raw-of-requires Inv-loop μ-loop
 raw-of-requires c κs =
     let s = c .before .before .before .before .before .before .before .before .before .before .before .before .before .before .before .before .before .before .before .before .before .before .before .before .before .before .before .before .before .before .before .before in
     let a = c .before .before .before .before .before .before .before .before .before .before .before .before .before .before .before .before .before .before .before .before .before .before .before .before .before .before .before .before .before .before .before .before .args in
-    let t : Tables = tables (a .h-words .now) (a .h-coeffs .now) (a .jumps .now) (a .rates .now) (a .t-words .now) (a .t-numbers .now) in
+    let t : ModelTables = tables (a .h-words .now) (a .h-coeffs .now) (a .jumps .now) (a .rates .now) (a .t-words .now) (a .t-numbers .now) in
     let l = c .before .before .before .before .before .before .before .before .before .before .before .before .before .before .before .before .before .loop in
     let q = c .before .before .before .before .before .before .before .before .before .before .before .put-rules-near in
     let h = s .pre in
@@ -75,7 +75,7 @@ diagonal-of-requires : tie.Need-diagonal-of-requires Inv-loop μ-loop
 diagonal-of-requires c κs =
     let s = c .before .before .before .before .before .before .before .before .before .before .before .before .before .before .before .before .before .before .before .before .before .before .before .before .before .before .before .before .before .before .before .before .before .before .before in
     let a = c .before .before .before .before .before .before .before .before .before .before .before .before .before .before .before .before .before .before .before .before .before .before .before .before .before .before .before .before .before .before .before .before .before .before .before .args in
-    let t : Tables = tables (a .h-words .now) (a .h-coeffs .now) (a .jumps .now) (a .rates .now) (a .t-words .now) (a .t-numbers .now) in
+    let t : ModelTables = tables (a .h-words .now) (a .h-coeffs .now) (a .jumps .now) (a .rates .now) (a .t-words .now) (a .t-numbers .now) in
     let l = c .before .before .before .before .before .before .before .before .before .before .before .before .before .before .before .before .before .before .before .before .loop in
     let q = c .before .before .before .before .before .before .before .before .before .before .before .before .before .before .put-rules-near in
     let h = s .pre in
@@ -103,7 +103,7 @@ loop-again : tie.Need-loop-again Inv-loop μ-loop
 loop-again c =
     let s = c .before .before .before .before .before .before .before .before .before .before .before .before .before .before .before .before .before .before .before .before .before .before .before .before .before .before .before .before .before .before .before .before .before .before .before .before in
     let a = c .before .before .before .before .before .before .before .before .before .before .before .before .before .before .before .before .before .before .before .before .before .before .before .before .before .before .before .before .before .before .before .before .before .before .before .before .args in
-    let t : Tables = tables (a .h-words .now) (a .h-coeffs .now) (a .jumps .now) (a .rates .now) (a .t-words .now) (a .t-numbers .now) in
+    let t : ModelTables = tables (a .h-words .now) (a .h-coeffs .now) (a .jumps .now) (a .rates .now) (a .t-words .now) (a .t-numbers .now) in
     let l = c .before .before .before .before .before .before .before .before .before .before .before .before .before .before .before .before .before .before .before .before .before .loop in
     let w = c .before .before .before .before .before .before .before .before .before .before .before .before .before .before .before .before .before .before .before .word-at in
     let q = c .before .before .before .before .before .before .before .before .before .before .before .before .before .before .before .put-rules-near in
@@ -124,7 +124,7 @@ returns-2 : tie.Need-returns-2 Inv-loop μ-loop
 returns-2 c =
     let s = c .before .before .before .before .before .before .before .before .before .before .before .before .before .before .before .before in
     let a = c .before .before .before .before .before .before .before .before .before .before .before .before .before .before .before .before .args in
-    let t : Tables = tables (a .h-words .now) (a .h-coeffs .now) (a .jumps .now) (a .rates .now) (a .t-words .now) (a .t-numbers .now) in
+    let t : ModelTables = tables (a .h-words .now) (a .h-coeffs .now) (a .jumps .now) (a .rates .now) (a .t-words .now) (a .t-numbers .now) in
     let l = c .before .loop in
     let n = words-are (a .words .now) (a .len) (s .pre .lanes-long) in
     fill-done (a .m) t (take (a .len) (words (a .words .now))) (a .room) (a .len) (l .raws) (l .diags) (l .k) (l .inv .0) n (omega (arith, n, c .loop-test .left))

@@ -5,7 +5,7 @@
 use mathlib.Core.Path.{_≡_, refl}
 use Prim.Native.Nat.{_≤_, _-_}
 use lib.ListN.{length, length-set}
-use Rattle.candidates.specs.Log.{table}
+use Rattle.candidates.specs.Log.{candidateRows}
 use Rattle.passes.proofs.FlushLaws.{copied}
 use native.Mathlib.Omega.{arith}
 use borrow.Author.Needs.{needs}
@@ -14,7 +14,7 @@ use Rattle.passes.proofs.flush.copy_rows.Tie as tie
 
 abbrev Inv-loop : tie.InvT-loop
 Inv-loop from sums n to₀ copies₀ i₀ to copies i =
-    (i ≤ n) × (length to ≡ length to₀) × (length copies ≡ length copies₀) × (table i to copies ≡ table i from sums)
+    (i ≤ n) × (length to ≡ length to₀) × (length copies ≡ length copies₀) × (candidateRows i to copies ≡ candidateRows i from sums)
 
 abbrev μ-loop : tie.MeasureT-loop
 μ-loop from sums n to₀ copies₀ i₀ to copies i = n - i

@@ -9,7 +9,7 @@ use native.Mathlib.Omega.{arith}
 use lib.ListN.{length, drop}
 use Rattle.word.specs.Flat.{words as wordsIn}
 use Rattle.order.proofs.Members.{all-take, all-drop}
-use Rattle.candidates.specs.Log.{table}
+use Rattle.candidates.specs.Log.{candidateRows}
 use Rattle.model.specs.Stored.{tables}
 use Rattle.passes.specs.Leaks.{passes, passCount, touchedAt, leaksAt}
 use Rattle.passes.proofs.PassesLaws.{ready-still, action-room-still, holding-still, rest, rest-start, pass-refused, end-refused, end-held, passes-end}
@@ -19,7 +19,7 @@ use Rattle.passes.proofs.passes.run_passes.Tie as tie
 
 abbrev Inv-loop : tie.InvT-loop
 Inv-loop m h-words h-coeffs jumps rates t-words t-numbers h-index j-index mask₀ work-words₀ work-sums₀ sum-room basis coeffs heads nexts protected fixed-heads fixed-nexts positions log-words₀ log-values₀ words₀ sums₀ candidate-room room order₀ work₀ kept₀ next-words₀ next-sums₀ held₀ from₀ mask work-words work-sums log-words log-values words sums order work kept next-words next-sums held from =
-    (rest (touchedAt m (tables h-words h-coeffs jumps rates t-words t-numbers) (wordsIn basis) coeffs (wordsIn protected)) (leaksAt m (tables h-words h-coeffs jumps rates t-words t-numbers) (wordsIn basis) coeffs (wordsIn protected)) sum-room candidate-room room positions from (table held words sums)
+    (rest (touchedAt m (tables h-words h-coeffs jumps rates t-words t-numbers) (wordsIn basis) coeffs (wordsIn protected)) (leaksAt m (tables h-words h-coeffs jumps rates t-words t-numbers) (wordsIn basis) coeffs (wordsIn protected)) sum-room candidate-room room positions from (candidateRows held words sums)
     ≡ passes (touchedAt m (tables h-words h-coeffs jumps rates t-words t-numbers) (wordsIn basis) coeffs (wordsIn protected)) (leaksAt m (tables h-words h-coeffs jumps rates t-words t-numbers) (wordsIn basis) coeffs (wordsIn protected)) sum-room candidate-room room (passCount (length positions)) positions [])
     × (held ≤ candidate-room)
     × (length mask ≡ length mask₀)

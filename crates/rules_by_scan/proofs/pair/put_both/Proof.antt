@@ -1,0 +1,108 @@
+-- SPDX-FileCopyrightText: 2026 The PPVM Authors
+-- SPDX-License-Identifier: Apache-2.0
+
+-- `pair::put_both` meets its contract: after each turn what the words so far add is put. Assumes nothing.
+use mathlib.Core.Path.{ap, _∙_}
+use Prim.Native.Nat.{_-_}
+use lib.ListN.{length}
+use mir.Val.{Fits}
+use mir.Syntax.{w64}
+use Rattle.model.specs.Stored.{range}
+use Rattle.rules_by_scan.specs.Adds.{bothSides}
+use Rattle.rules_by_scan.proofs.GatherLaws.{GatherState, gather-start, gather-room, gather-term, gather-next, gather-full, gather-done}
+use borrow.Author.Needs.{needs}
+use native.Mathlib.Omega.{arith}
+use Rattle.rules_by_scan.proofs.pair.put_both.Statement.{statement}
+use Rattle.rules_by_scan.proofs.pair.put_both.Tie as tie
+
+abbrev Inv-loop : tie.InvT-loop
+Inv-loop lanes₀ sums₀ room len t-words t-numbers p end count₀ j₀ lanes sums count j = GatherState (bothSides p) (range j₀ end) room len t-words t-numbers lanes₀ sums₀ lanes sums count j
+
+abbrev μ-loop : tie.MeasureT-loop
+μ-loop lanes₀ sums₀ room len t-words t-numbers p end count₀ j₀ lanes sums count j = end - j
+
+loop-holds : tie.Need-loop-holds Inv-loop μ-loop
+loop-holds c =
+    let s = c .before .before .before .before in
+    let a = s .args in
+    gather-start (bothSides (a .p)) (a .product) (a .room) (a .len) (a .t-words .now) (a .t-numbers .now) (a .lanes .now) (a .sums .now) (s .pre .0) (s .pre .1)
+
+term-at-requires : tie.Need-term-at-requires Inv-loop μ-loop
+term-at-requires c κs =
+    let s = c .before .before .before .before .before .before in
+    let a = s .args in
+    let l = c .before .loop in
+    gather-term (bothSides (a .p)) (a .product) (a .room) (a .len) (a .t-words .now) (a .t-numbers .now) (a .lanes .now) (a .sums .now) (s .pre .0) (s .pre .1) (l .lanes) (l .sums) (l .count) (l .j) (l .inv) (c .loop-test .taken)
+
+put-both-term-requires : tie.Need-put-both-term-requires Inv-loop μ-loop
+put-both-term-requires c κs =
+    let s = c .before .before .before .before .before .before .before .before .before in
+    let a = s .args in
+    let l = c .before .before .before .before .loop in
+    gather-room (bothSides (a .p)) (a .product) (a .room) (a .len) (a .t-words .now) (a .t-numbers .now) (a .lanes .now) (a .sums .now) (s .pre .0) (s .pre .1) (l .lanes) (l .sums) (l .count) (l .j) (l .inv)
+
+same-length : tie.Need-same-length Inv-loop μ-loop
+same-length c = c .before .before .before .before .before .before .put-both-term .kept .0 ∙ c .before .before .before .before .before .before .before .before .before .before .before .loop .inv .lanes-same
+
+same-length-2 : tie.Need-same-length-2 Inv-loop μ-loop
+same-length-2 c = c .before .before .before .before .before .before .put-both-term .kept .1 .0 ∙ c .before .before .before .before .before .before .before .before .before .before .before .loop .inv .sums-same
+
+returns : tie.Need-returns Inv-loop μ-loop
+returns c =
+    let s = c .before .before .before .before .before .before .before .before .before .before .before .before .before .before .before .before in
+    let a = s .args in
+    let l = c .before .before .before .before .before .before .before .before .before .before .before .loop in
+    let t = c .before .before .before .before .before .before .before .before .before .term-at in
+    let q = c .before .before .before .before .before .before .put-both-term in
+    gather-full (bothSides (a .p)) (a .product) (a .room) (a .len) (a .t-words .now) (a .t-numbers .now) (a .lanes .now) (a .sums .now) (s .pre .0) (s .pre .1) (l .lanes) (l .sums) (l .count) (l .j) (l .inv) (c .before .before .before .before .before .before .before .before .before .before .loop-test .taken)
+    _ (ap (bothSides (a .p)) (t .ensures)) _ _ (q .result) (q .ensures) (c .enum-told .given .1)
+
+add-j : tie.Need-add-j Inv-loop μ-loop
+add-j c =
+    let s = c .before .before .before .before .before .before .before .before .before .before .before .before .before .before .before .before .before in
+    let f : Fits w64 (length (s .args .t-words .now)) = search (s .good, needs) in
+    omega (arith, s .pre .1 .lanes-long, c .before .before .before .before .before .before .before .before .before .before .before .loop-test .taken, f .fits)
+
+loop-again : tie.Need-loop-again Inv-loop μ-loop
+loop-again c =
+    let s = c .before .before .before .before .before .before .before .before .before .before .before .before .before .before .before .before .before in
+    let a = s .args in
+    let l = c .before .before .before .before .before .before .before .before .before .before .before .before .loop in
+    let t = c .before .before .before .before .before .before .before .before .before .before .term-at in
+    let q = c .before .before .before .before .before .before .before .put-both-term in
+    gather-next (bothSides (a .p)) (a .product) (a .room) (a .len) (a .t-words .now) (a .t-numbers .now) (a .lanes .now) (a .sums .now) (s .pre .0) (s .pre .1) (l .lanes) (l .sums) (l .count) (l .j) (l .inv) (c .before .before .before .before .before .before .before .before .before .before .before .loop-test .taken)
+    _ (ap (bothSides (a .p)) (t .ensures)) _ _ (q .result) (q .ensures) _ (c .before .added .given .1) (q .kept .0) (q .kept .1 .0)
+
+same-length-3 : tie.Need-same-length-3 Inv-loop μ-loop
+same-length-3 c = c .before .loop .inv .lanes-same
+
+same-length-4 : tie.Need-same-length-4 Inv-loop μ-loop
+same-length-4 c = c .before .loop .inv .sums-same
+
+returns-2 : tie.Need-returns-2 Inv-loop μ-loop
+returns-2 c =
+    let s = c .before .before .before .before .before .before in
+    let a = s .args in
+    let l = c .before .loop in
+    gather-done (bothSides (a .p)) (a .product) (a .room) (a .len) (a .t-words .now) (a .t-numbers .now) (a .lanes .now) (a .sums .now) (s .pre .0) (s .pre .1) (l .lanes) (l .sums) (l .count) (l .j) (l .inv) (c .loop-test .left)
+
+pub put-both-spec : {M : Type 1} → statement M
+put-both-spec =
+    tie.close
+    (tie.spec
+    Inv-loop
+    μ-loop
+    loop-holds
+    term-at-requires
+    put-both-term-requires
+    (λ c. search needs)
+    (λ c. search needs)
+    same-length
+    same-length-2
+    returns
+    add-j
+    (λ c. search needs)
+    loop-again
+    same-length-3
+    same-length-4
+    returns-2)

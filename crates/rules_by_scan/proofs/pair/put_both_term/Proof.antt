@@ -1,0 +1,55 @@
+-- SPDX-FileCopyrightText: 2026 The PPVM Authors
+-- SPDX-License-Identifier: Apache-2.0
+
+-- `pair::put_both_term` meets its contract: nothing, or one term. Assumes nothing.
+use mathlib.Core.Path.{refl, sym, _∙_}
+use Rattle.model.specs.Product.{onto}
+use Rattle.rules_by_scan.proofs.PairAdds.{both-slight, both-none, both-one}
+use Rattle.rules_by_scan.proofs.PutsLaws.{puts-nothing, puts-single}
+use borrow.Author.Needs.{needs}
+use Rattle.rules_by_scan.proofs.pair.put_both_term.Statement.{statement}
+use Rattle.rules_by_scan.proofs.pair.put_both_term.Tie as tie
+
+returns : tie.Need-returns
+returns c =
+    let s = c .before .before .before .before .before in
+    let a = s .args in
+    puts-nothing (a .room) (a .len) (a .lanes .now) (a .sums .now) (s .pre) _ (both-slight (a .p) (onto (a .c)) (sym (c .before .slight .ensures) ∙ c .if1 .taken))
+
+returns-2 : tie.Need-returns-2
+returns-2 c =
+    let s = c .before .before .before .before .before .before .before .before in
+    let a = s .args in
+    let k = c .before .before .pauli-mul in
+    let u = c .before .phase-factor in
+    puts-nothing (a .room) (a .len) (a .lanes .now) (a .sums .now) (s .pre) _
+    (both-none (a .p) (onto (a .c)) (k .result) (u .result) (k .ensures) (u .ensures) (sym (c .before .before .before .before .slight .ensures) ∙ c .before .before .before .if1 .left) (c .if2 .taken))
+
+put-requires : tie.Need-put-requires
+put-requires c κs = let h = c .before .before .before .before .before .before .before .before .before .before .before .before .pre in (h .lanes-long, h .sums-long, h .inside, h .rises)
+
+returns-3 : tie.Need-returns-3
+returns-3 c =
+    let s = c .before .before .before .before .before .before .before .before .before .before .before .before .before .before .before .before .before in
+    let a = s .args in
+    let k = c .before .before .before .before .before .before .before .before .before .before .before .pauli-mul in
+    let u = c .before .before .before .before .before .before .before .before .before .before .phase-factor in
+    let z = c .before .before .before .before .before .real in
+    puts-single (a .room) (a .len) (a .lanes .now) (a .sums .now) (s .pre) _ _ _ _ _ _
+    (both-one (a .p) (onto (a .c)) (k .result) (u .result) (k .ensures) (u .ensures) (sym (c .before .before .before .before .before .before .before .before .before .before .before .before .before .slight .ensures) ∙ c .before .before .before .before .before .before .before .before .before .before .before .before .if1 .left) (c .before .before .before .before .before .before .before .before .before .if2 .left) (z .result) (z .ensures)) refl
+    (c .before .before .before .before .put .ensures)
+
+pub put-both-term-spec : {M : Type 1} → statement M
+put-both-term-spec =
+    tie.close
+    (tie.spec
+    (λ c κs. search needs)
+    returns
+    (λ c κs. search needs)
+    (λ c κs. search needs)
+    returns-2
+    (λ c κs. search needs)
+    put-requires
+    (λ c. search needs)
+    (λ c. search needs)
+    returns-3)

@@ -1,0 +1,50 @@
+-- SPDX-FileCopyrightText: 2026 The PPVM Authors
+-- SPDX-License-Identifier: Apache-2.0
+
+-- `pair::put_diagonal_term` meets its contract: nothing, or one term. Assumes nothing.
+use mathlib.Core.Path.{refl}
+use Rattle.model.specs.Product.{onto}
+use Rattle.rules_by_scan.proofs.PairAdds.{diagonal-none, diagonal-one}
+use Rattle.rules_by_scan.proofs.PutsLaws.{puts-nothing, puts-single}
+use borrow.Author.Needs.{needs}
+use Rattle.rules_by_scan.proofs.pair.put_diagonal_term.Statement.{statement}
+use Rattle.rules_by_scan.proofs.pair.put_diagonal_term.Tie as tie
+
+returns : tie.Need-returns
+returns c =
+    let s = c .before .before .before .before .before .before in
+    let a = s .args in
+    let k = c .before .before .pauli-mul in
+    let u = c .before .phase-factor in
+    puts-nothing (a .room) (a .len) (a .lanes .now) (a .sums .now) (s .pre) _ (diagonal-none (a .p) (onto (a .c)) (k .result) (u .result) (k .ensures) (u .ensures) (c .if1 .taken))
+
+put-requires : tie.Need-put-requires
+put-requires c κs = let h = c .before .before .before .before .before .before .before .before .before .before .before .before .pre in (h .lanes-long, h .sums-long, h .inside, h .rises)
+
+returns-2 : tie.Need-returns-2
+returns-2 c =
+    let s = c .before .before .before .before .before .before .before .before .before .before .before .before .before .before .before .before .before in
+    let a = s .args in
+    let k = c .before .before .before .before .before .before .before .before .before .before .before .before .before .pauli-mul in
+    let u = c .before .before .before .before .before .before .before .before .before .before .before .before .phase-factor in
+    let x = c .before .before .before .before .before .before .before .before .before .real in
+    let y = c .before .before .before .before .before .before .before .before .mul in
+    let z = c .before .before .before .before .before .before .before .neg in
+    puts-single (a .room) (a .len) (a .lanes .now) (a .sums .now) (s .pre) _ _ _ _ _ _
+    (diagonal-one (a .p) (onto (a .c)) (k .result) (u .result) (k .ensures) (u .ensures) (c .before .before .before .before .before .before .before .before .before .before .before .if1 .left) (x .result) (y .result) (z .result) (x .ensures) (y .ensures) (z .ensures)) refl
+    (c .before .before .before .before .put .ensures)
+
+pub put-diagonal-term-spec : {M : Type 1} → statement M
+put-diagonal-term-spec =
+    tie.close
+    (tie.spec
+    (λ c κs. search needs)
+    (λ c κs. search needs)
+    returns
+    (λ c κs. search needs)
+    (λ c κs. search needs)
+    (λ c κs. search needs)
+    put-requires
+    (λ c. search needs)
+    (λ c. search needs)
+    returns-2)
