@@ -35,9 +35,16 @@ def is_tree() -> bool:
 def sources() -> str:
     """A line for each crate of the library: a checksum, as `find CRATE -type f -print0 | LC_ALL=C sort -z |
     xargs -0 sha256sum | sha256sum` gives it, and the crate."""
-    crates = (ROOT / "crates.txt").read_text().splitlines()
-    below = next(line for line in crates if line.startswith("pebblelinen:"))
-    return "".join(_crate(f"crates/{name}") for name in below.replace(":", "").split())
+    lines = (line.partition("#")[0].partition(":") for line in (ROOT / "crates.txt").read_text().splitlines())
+    needs = {name.strip(): needed.split() for name, colon, needed in lines if colon}
+    below: list[str] = []
+    left = ["pebblelinen"]
+    while left:
+        name = left.pop(0)
+        if name not in below:
+            below.append(name)
+            left += needs.get(name, [])
+    return "".join(_crate(f"crates/{name}") for name in below)
 
 
 def _crate(crate: str) -> str:

@@ -12,7 +12,7 @@ use Rattle.word.specs.Flat.{words}
 use Rattle.word.specs.declared.word.Word.{Word}
 use Rattle.order.specs.Places.{isAmong}
 use Rattle.candidates.specs.Log.{Rows}
-use Rattle.model.specs.Given.{Term}
+use Rattle.model.specs.Terms.{Term}
 use Rattle.model.specs.Stored.{ModelTables}
 use Rattle.model.specs.declared.stored.Model.{Model}
 use Rattle.action.specs.Acts.{actionOf}

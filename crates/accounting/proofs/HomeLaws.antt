@@ -15,14 +15,13 @@ use Rattle.word.specs.Word.{identity}
 use Rattle.word.specs.declared.word.Word.{Word}
 use Rattle.order.specs.Places.{isAmong}
 use Rattle.model.specs.Stored.{ModelTables}
-use Rattle.model.specs.Given.{Term}
+use Rattle.model.specs.Terms.{Term}
 use Rattle.model.specs.declared.stored.Model.{Model}
 use Rattle.action.specs.Acts.{actionOf}
-use Rattle.columns.specs.Members.{Member}
+use Rattle.order.specs.Members.{Member}
 use Rattle.passes.specs.Leaks.{outside, wordsOf}
 use Rattle.candidates.specs.Log.{Rows}
 use Rattle.leakage.specs.Leakages.{Basis}
-use Rattle.leakage_laws.specs.Members.{Has}
 use Rattle.leakage_laws.specs.Calls as Leak
 use Rattle.generator_laws.specs.Matrices.{HasRow, Reached}
 use Rattle.accounting.specs.Homes.{AtMostOne, ProtectedOutside, OnlyReached, Accounted, AccountedWithoutRoom}
@@ -33,13 +32,13 @@ record TermOf (w : Word) (L : List Term) : Type 0 where
   pub listed : Member term L
   pub word-is : term .word ≡ w
 
-term-of : (w : Word) (L : List Term) → Has w (map (λ (c : Term). c .word) L) → TermOf w L
-unfolding Has Member
+term-of : (w : Word) (L : List Term) → Member w (map (λ (c : Term). c .word) L) → TermOf w L
+unfolding Member
 term-of w (c ∷ L) (inl e) = record { term = c; listed = inl refl; word-is = sym e }
 term-of w (c ∷ L) (inr h) = let r = term-of w L h in record { term = r .term; listed = inr (r .listed); word-is = r .word-is }
 
-has-term : (w : Word) (L : List Term) (c : Term) → Member c L → c .word ≡ w → Has w (map (λ (x : Term). x .word) L)
-unfolding Has Member
+has-term : (w : Word) (L : List Term) (c : Term) → Member c L → c .word ≡ w → Member w (map (λ (x : Term). x .word) L)
+unfolding Member
 has-term w (x ∷ L) c (inl h) e = inl (sym e ∙ ap (λ (y : Term). y .word) h)
 has-term w (x ∷ L) c (inr h) e = inr (has-term w L c h e)
 
@@ -58,12 +57,12 @@ module _ (m : Model) (t : ModelTables) (b : Basis) (each : length (Leak.basisWor
   unfolding outside
   outside-is w e f = rw (e, f) refl
 
-  leaked-reached : (w : Word) → Leak.Reached m t b w → Reached (actionOf m t) (Leak.basisWords b) w
+  leaked-reached : (w : Word) → Leak.ReachedOutside m t b w → Reached (actionOf m t) (Leak.basisWords b) w
   leaked-reached w r =
       let s = term-of w (actionOf m t (getD (Leak.basisWords b) (r .position) identity)) (r .by-action) in
       record { column = r .position; low = rw each (r .in-basis); term = s .term; listed = s .listed; word-is = s .word-is }
 
-  reached-leaked : (w : Word) → isAmong w (Leak.basisWords b) ≡ false → isAmong w (words (b .protected)) ≡ false → Reached (actionOf m t) (Leak.basisWords b) w → Leak.Reached m t b w
+  reached-leaked : (w : Word) → isAmong w (Leak.basisWords b) ≡ false → isAmong w (words (b .protected)) ≡ false → Reached (actionOf m t) (Leak.basisWords b) w → Leak.ReachedOutside m t b w
   reached-leaked w e f r = record {
     is-outside = outside-is w e f;
     position = r .column;
@@ -75,15 +74,15 @@ module _ (m : Model) (t : ModelTables) (b : Basis) (each : length (Leak.basisWor
   module _ (has : ℕ → ℕ → Float → Type 0)
       (row-reached : (w : Word) → HasRow (Leak.basisWords b) has w → (isAmong w (Leak.basisWords b) ≡ true) × Reached (actionOf m t) (Leak.basisWords b) w)
       (reached-row : (w : Word) → isAmong w (Leak.basisWords b) ≡ true → Reached (actionOf m t) (Leak.basisWords b) w → HasRow (Leak.basisWords b) has w) (R : Rows) where
-    only-reached : ((w : Word) → Has w (wordsOf R) → Leak.Reached m t b w) → OnlyReached (actionOf m t) (Leak.basisWords b) (words (b .protected)) has (wordsOf R)
+    only-reached : ((w : Word) → Member w (wordsOf R) → Leak.ReachedOutside m t b w) → OnlyReached (actionOf m t) (Leak.basisWords b) (words (b .protected)) has (wordsOf R)
     only-reached every = record {
       rows-reached = λ w h. row-reached w h .1;
       entries-reached = λ w h. leaked-reached w (every w h);
     }
 
     -- ---- whatever the limits
-    module _ (every : (w : Word) → Has w (wordsOf R) → Leak.Reached m t b w) where
-      never-two : (w : Word) → AtMostOne (HasRow (Leak.basisWords b) has w) (ProtectedOutside (Leak.basisWords b) (words (b .protected)) w) (Has w (wordsOf R))
+    module _ (every : (w : Word) → Member w (wordsOf R) → Leak.ReachedOutside m t b w) where
+      never-two : (w : Word) → AtMostOne (HasRow (Leak.basisWords b) has w) (ProtectedOutside (Leak.basisWords b) (words (b .protected)) w) (Member w (wordsOf R))
       never-two w = record {
         not-both = λ h p. false≢true (sym (p .0) ∙ row-reached w h .0);
         not-first-last = λ h e. false≢true (sym (outside-parts w (every w e .is-outside) .0) ∙ row-reached w h .0);
@@ -91,7 +90,7 @@ module _ (m : Model) (t : ModelTables) (b : Basis) (each : length (Leak.basisWor
       }
 
       homeless : (w : Word) → Reached (actionOf m t) (Leak.basisWords b) w
-          → (HasRow (Leak.basisWords b) has w ⊎ (ProtectedOutside (Leak.basisWords b) (words (b .protected)) w ⊎ Has w (wordsOf R)) → ⊥)
+          → (HasRow (Leak.basisWords b) has w ⊎ (ProtectedOutside (Leak.basisWords b) (words (b .protected)) w ⊎ Member w (wordsOf R)) → ⊥)
           → (a c : Bool) → isAmong w (Leak.basisWords b) ≡ a → isAmong w (words (b .protected)) ≡ c → (a ≡ false) × (c ≡ false)
       homeless w r h true c e f = absurd (h (inl (reached-row w e r)))
       homeless w r h false true e f = absurd (h (inr (inl (e, f))))
@@ -109,7 +108,7 @@ module _ (m : Model) (t : ModelTables) (b : Basis) (each : length (Leak.basisWor
     -- ---- where leakage lists all that it reaches
     module _ (l : Leak.ListsReached m t b R) where
       stands : (w : Word) → Reached (actionOf m t) (Leak.basisWords b) w → (a c : Bool) → isAmong w (Leak.basisWords b) ≡ a → isAmong w (words (b .protected)) ≡ c
-          → HasRow (Leak.basisWords b) has w ⊎ (ProtectedOutside (Leak.basisWords b) (words (b .protected)) w ⊎ Has w (wordsOf R))
+          → HasRow (Leak.basisWords b) has w ⊎ (ProtectedOutside (Leak.basisWords b) (words (b .protected)) w ⊎ Member w (wordsOf R))
       stands w r true c e f = inl (reached-row w e r)
       stands w r false true e f = inr (inl (e, f))
       stands w r false false e f = inr (inr (l .all w (reached-leaked w e f r)))

@@ -11,8 +11,8 @@ use mathlib.Core.Logic.{_⊎_}
 use lib.Ieee.{Float}
 use Rattle.word.specs.declared.word.Word.{Word}
 use Rattle.order.specs.Places.{isAmong}
-use Rattle.model.specs.Given.{Term}
-use Rattle.leakage_laws.specs.Members.{Has}
+use Rattle.model.specs.Terms.{Term}
+use Rattle.order.specs.Members.{Member}
 use Rattle.generator_laws.specs.Matrices.{HasRow, Reached}
 
 -- at most one of three
@@ -38,18 +38,18 @@ ProtectedOutside bs protected w = (isAmong w bs ≡ false) × (isAmong w protect
 module _ (act : Word → List Term) (bs protected : List Word) (has : ℕ → ℕ → Float → Type 0) (listed : List Word) where
   pub record OnlyReached : Type 0 where
     pub rows-reached : (w : Word) → HasRow bs has w → Reached act bs w
-    pub entries-reached : (w : Word) → Has w listed → Reached act bs w
+    pub entries-reached : (w : Word) → Member w listed → Reached act bs w
 
   -- given room for all
   pub record Accounted : Type 0 where
-    pub home : (w : Word) → Reached act bs w → ExactlyOne (HasRow bs has w) (ProtectedOutside bs protected w) (Has w listed)
+    pub home : (w : Word) → Reached act bs w → ExactlyOne (HasRow bs has w) (ProtectedOutside bs protected w) (Member w listed)
     pub only : OnlyReached
 
   -- whatever the limits: a reached word of the basis, or one that is protected outside it, has its one home, no word has two, and only
   -- a reached word outside the basis and unprotected may have none
   pub record AccountedWithoutRoom : Type 0 where
-    pub basis-word : (w : Word) → Reached act bs w → isAmong w bs ≡ true → NothingElse (HasRow bs has w) (ProtectedOutside bs protected w) (Has w listed)
-    pub protected-word : (w : Word) → Reached act bs w → ProtectedOutside bs protected w → NothingElse (ProtectedOutside bs protected w) (HasRow bs has w) (Has w listed)
-    pub never-two : (w : Word) → AtMostOne (HasRow bs has w) (ProtectedOutside bs protected w) (Has w listed)
-    pub none : (w : Word) → Reached act bs w → (HasRow bs has w ⊎ (ProtectedOutside bs protected w ⊎ Has w listed) → ⊥) → (isAmong w bs ≡ false) × (isAmong w protected ≡ false)
+    pub basis-word : (w : Word) → Reached act bs w → isAmong w bs ≡ true → NothingElse (HasRow bs has w) (ProtectedOutside bs protected w) (Member w listed)
+    pub protected-word : (w : Word) → Reached act bs w → ProtectedOutside bs protected w → NothingElse (ProtectedOutside bs protected w) (HasRow bs has w) (Member w listed)
+    pub never-two : (w : Word) → AtMostOne (HasRow bs has w) (ProtectedOutside bs protected w) (Member w listed)
+    pub none : (w : Word) → Reached act bs w → (HasRow bs has w ⊎ (ProtectedOutside bs protected w ⊎ Member w listed) → ⊥) → (isAmong w bs ≡ false) × (isAmong w protected ≡ false)
     pub only : OnlyReached

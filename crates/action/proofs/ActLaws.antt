@@ -15,26 +15,29 @@ use Rattle.refusal.specs.declared.Refusal.{Refusal}
 use Rattle.refusal.specs.declared.Refusal.the-variants.{WordOutsideRegister, TableFull}
 use Rattle.refusal.specs.declared.Answer.{Answer}
 use Rattle.refusal.specs.declared.Answer.the-variants as Tests
+use Rattle.word.specs.Flat.{wordLanes}
 use Rattle.word.specs.Register.{reaches}
 use Rattle.word.specs.declared.word.Word.{Word}
 use Rattle.number.specs.Floats.{floats, float0}
 use Rattle.gksl.specs.Table.{putAllOver}
 use Rattle.gksl.specs.Words.{pauli}
-use Rattle.sums.specs.Sums.{sumRows, answer}
+use Rattle.sums.specs.Sums.{sumRows}
 use Rattle.sums.specs.declared.sums.Added.{Added}
 use Rattle.sums.specs.declared.sums.Added.the-variants.{Held, Full}
 use Rattle.sums.proofs.SumLaws.{rising-empty, answer-held, answer-full}
 use Rattle.model.specs.Stored.{ModelTables}
 use Rattle.model.specs.Tested.{testModel}
-use Rattle.model.specs.Given.{Term}
+use Rattle.model.specs.Terms.{Term}
 use Rattle.model.specs.declared.stored.Model.{Model}
-use Rattle.rules_by_scan.specs.Adds.{rulesStored}
-use Rattle.rules_by_scan.specs.Sums.{SumsRoom, PutsAll}
+use Rattle.rule_terms.specs.Adds.{rulesStored}
+use Rattle.rule_terms.specs.Sums.{SumsRoom, PutsAll}
 use Rattle.action.specs.declared.act.Acted.the-variants.{Listed, Refused}
-use Rattle.action.specs.Acts.{listed, sumsOf, actionOf, sumPlaces, listPlaces, Lists, ListRoom, Acting, tested, act}
+use Rattle.action.specs.Acts.{listed, sumsOf, actionOf, sumPlaces, listPlaces, Acting, tested, act}
+use Rattle.action.specs.Between.{Lists, ListRoom}
+use Rattle.sums.specs.Between.{answer}
 
 -- ---- the sums: an empty table at first, and all of them where there is room
-pub empty-room : (room : ℕ) (words : List ℕ) (sums : List Float) → 4 * room ≤ length words → 2 * room ≤ length sums → SumsRoom room 0 words sums
+pub empty-room : (room : ℕ) (words : List ℕ) (sums : List Float) → wordLanes * room ≤ length words → 2 * room ≤ length sums → SumsRoom room 0 words sums
 empty-room room words sums l k = record { lanes-long = l; sums-long = k; inside = omega arith; rises = rising-empty words sums }
 
 module _ (m : Model) (t : ModelTables) (p : Word) (room : ℕ) (words : List ℕ) (sums : List Float) (words′ : List ℕ) (sums′ : List Float) (r : Added)
@@ -56,8 +59,8 @@ module _ (m : Model) (t : ModelTables) (p : Word) (room : ℕ) (words : List ℕ
     unfolding actionOf
     listed-are = ap listed sums-are
 
-    module _ (el : length words′ ≡ length words) (es : length sums′ ≡ length sums) (rl : 4 * room ≤ length words) (rs : 2 * room ≤ length sums) where
-      pub sums-inside : (4 * len ≤ length words′) × (2 * len ≤ length sums′)
+    module _ (el : length words′ ≡ length words) (es : length sums′ ≡ length sums) (rl : wordLanes * room ≤ length words) (rs : 2 * room ≤ length sums) where
+      pub sums-inside : (wordLanes * len ≤ length words′) × (2 * len ≤ length sums′)
       sums-inside = let h = sums-held in (omega (arith, h .0, h .1, el), omega (arith, h .0, h .1, es))
 
       pub list-room : (outWords : List ℕ) (outValues : List Float) (count places : ℕ) → count ≡ length (listed (sumRows len words′ sums′)) → places ≡ listPlaces outWords outValues → count ≤ places
@@ -124,7 +127,7 @@ module _ (outWords : List ℕ) (outValues : List Float) (words words′ : List �
       → Alike (act outWords outValues words sums m t p) (act outWords outValues words′ sums′ m t p)
   unfolding act
   act-independent ew es m t p =
-      let e : sumPlaces words sums ≡ sumPlaces words′ sums′ = ap₂ (λ (a b : ℕ). min (a / 4) (b / 2)) ew es in
+      let e : sumPlaces words sums ≡ sumPlaces words′ sums′ = ap₂ (λ (a b : ℕ). min (a / wordLanes) (b / 2)) ew es in
       rw (sym e)
       (by-test (testModel m t)
       (by-cond (reaches p (m .qubits)) (record { answers = refl; out-words = refl; out-values = refl })

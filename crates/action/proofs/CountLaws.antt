@@ -3,7 +3,6 @@
 
 -- The largest count over a list of words, word by word; and what counting answers. Assumes nothing.
 use mathlib.Core.Path.{_≡_, sym, ap, _∙_}
-use mathlib.Core.Bool.{false}
 use mathlib.Core.List.{List}
 use Prim.Native.Nat.{ℕ, suc, _+_, _/_, _≤_, _<_, max}
 use native.Mathlib.Numerals.{add-one}
@@ -16,15 +15,14 @@ use Rattle.refusal.specs.declared.Refusal.{Refusal}
 use Rattle.refusal.specs.declared.Refusal.the-variants.{TableFull}
 use Rattle.refusal.specs.declared.Answer.the-variants as Tests
 use Rattle.word.specs.Word.{identity}
-use Rattle.word.specs.Flat.{words}
-use Rattle.word.specs.Register.{reaches}
+use Rattle.word.specs.Flat.{words, wordLanes}
 use Rattle.word.specs.declared.word.Word.{Word}
 use Rattle.word.proofs.FlatLaws.{words-high, words-low}
 use Rattle.number.specs.Floats.{float0}
 use Rattle.model.specs.Stored.{ModelTables}
 use Rattle.model.specs.declared.stored.Model.{Model}
 use Rattle.action.specs.Acts.{sumPlaces}
-use Rattle.action.specs.Counts.{most, touchedBy, listedBy, mostPlaces, outsideAt, wordsTests, AllInside, countPlaces}
+use Rattle.action.specs.Counts.{most, touchedBy, listedBy, mostPlaces, wordsTests, countPlaces}
 use Rattle.action.specs.declared.count.Counted.{Counted}
 use Rattle.action.specs.declared.count.Counted.the-variants.{Places, Refused}
 
@@ -69,12 +67,6 @@ module _ (touch list : Word → ℕ) (ps : List Word) (room : ℕ) where
         rw (sym t, sym l, le-ltb room touched (s .fits))
 
 -- ---- the words of a list that was tested
-pub words-count : (lanes : List ℕ) → length (words lanes) ≡ length lanes / 4
-words-count lanes = let l = words-low lanes in let h = words-high lanes in omega (arith, l, h)
-
-pub word-inside : (lanes : List ℕ) (n : ℕ) → AllInside lanes n → (k : ℕ) → k < length lanes / 4 → {w : Word} → w ≡ getD (words lanes) k identity → reaches w n ≡ false
-unfolding outsideAt
-word-inside lanes n a k h e = ap (λ (v : Word). reaches v n) e ∙ a k h
 
 -- ---- the answers
 module _ (hIndex jIndex mask workWords : List ℕ) (workSums : List Float) (m : Model) (t : ModelTables) (lanes : List ℕ) where

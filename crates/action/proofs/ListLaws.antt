@@ -11,7 +11,7 @@ use native.Mathlib.Omega.{arith}
 use lib.Ieee.{Float}
 use lib.ListN.{length, drop, set, drop-of-length-le}
 use lib.Seq.{drop-cons, getD-take}
-use Rattle.word.specs.Flat.{words, layWord}
+use Rattle.word.specs.Flat.{words, layWord, wordLanes}
 use Rattle.word.proofs.FlatLaws.{words-high}
 use Rattle.number.specs.Floats.{floats}
 use Rattle.gksl.specs.Table.{withoutOver}
@@ -19,17 +19,17 @@ use Rattle.sums.specs.Numbers.{complexes}
 use Rattle.sums.specs.Sums.{rows, sumRows}
 use Rattle.sums.proofs.NumberLaws.{complexes-high}
 use Rattle.sums.proofs.SumLaws.{table-long}
-use Rattle.model.specs.Given.{Term}
-use Rattle.model.specs.Laid.{laid}
-use Rattle.model.specs.Product.{termAt}
-use Rattle.model.proofs.WorkLaws.{rows-at}
-use Rattle.action.specs.Acts.{listed, Lists, ListRoom}
+use Rattle.model.specs.Terms.{Term, termAt}
+use Rattle.lent.specs.Laid.{laid}
+use Rattle.model.proofs.TermLaws.{rows-at}
+use Rattle.action.specs.Acts.{listed}
+use Rattle.action.specs.Between.{Lists, ListRoom}
 
 -- what is left to list from place i on
 abbrev pub left : ℕ → List ℕ → List Float → ℕ → List Term
 left len lanes sums i = listed (drop i (sumRows len lanes sums))
 
-module _ (len : ℕ) (lanes : List ℕ) (sums : List Float) (hl : 4 * len ≤ length lanes) (hs : 2 * len ≤ length sums) where
+module _ (len : ℕ) (lanes : List ℕ) (sums : List Float) (hl : wordLanes * len ≤ length lanes) (hs : 2 * len ≤ length sums) where
   pub left-none : (i : ℕ) → len ≤ i → left len lanes sums i ≡ []
   unfolding withoutOver
   left-none i h =
@@ -64,7 +64,7 @@ pub record CountState (len : ℕ) (lanes : List ℕ) (sums : List Float) (count 
   pub few : count ≤ i
   pub counted : count + length (left len lanes sums i) ≡ length (listed (sumRows len lanes sums))
 
-module _ (len : ℕ) (lanes : List ℕ) (sums : List Float) (hl : 4 * len ≤ length lanes) (hs : 2 * len ≤ length sums) (count i : ℕ) (s : CountState len lanes sums count i) where
+module _ (len : ℕ) (lanes : List ℕ) (sums : List Float) (hl : wordLanes * len ≤ length lanes) (hs : 2 * len ≤ length sums) (count i : ℕ) (s : CountState len lanes sums count i) where
   module _ (h : i < len) (t : Term) (e : t ≡ termAt lanes sums i) where
     pub count-passes : floats .isZero (t .num .re) ≡ true → CountState len lanes sums count (i + 1)
     count-passes f = record { high = omega arith; few = omega (arith, s .few); counted = subst (λ (L : List Term). count + length L ≡ length (listed (sumRows len lanes sums))) (left-passed len lanes sums hl hs i h t e f) (s .counted) }
@@ -112,7 +112,7 @@ module _ (len : ℕ) (lanes : List ℕ) (sums : List Float) (outWords₀ : List 
         one = left-listed len lanes sums (room .lanes-long) (room .sums-long) i h t e f
 
         -- there is a place for it
-        pub list-place : (4 * place + 4 ≤ length outWords) × (place < length outValues)
+        pub list-place : (wordLanes * place + wordLanes ≤ length outWords) × (place < length outValues)
         list-place =
             let n = s .count in
             let k = ap length one in

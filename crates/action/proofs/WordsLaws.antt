@@ -2,36 +2,37 @@
 -- SPDX-License-Identifier: Apache-2.0
 
 -- The tests of a lent list of words, answer by answer. Assumes nothing.
-use mathlib.Core.Path.{_≡_, sym, ap, _∙_}
-use mathlib.Core.Bool.{Bool, true, false}
+use mathlib.Core.Path.{_≡_, sym, _∙_}
+use mathlib.Core.Bool.{true, false}
 use mathlib.Core.List.{List}
 use Prim.Native.Nat.{ℕ, _*_, _/_, _≤_, _<_}
 use native.Mathlib.Omega.{arith}
 use borrow.Author.Tests.{lt-ltb, le-ltb, ltb-false}
 use lib.Dec.{eqb, ltb}
-use lib.ListN.{length, getD}
+use lib.ListN.{length}
 use Rattle.refusal.specs.declared.Refusal.{Refusal}
 use Rattle.refusal.specs.declared.Refusal.the-variants.{CountAboveLimit, LengthMismatch, WordOutsideRegister}
 use Rattle.refusal.specs.declared.Answer.{Answer}
 use Rattle.refusal.specs.declared.Answer.the-variants.{Accepted, Refused}
-use Rattle.word.specs.Word.{identity}
+use Rattle.word.specs.Flat.{wordLanes}
 use Rattle.word.specs.Flat as Flat
-use Rattle.word.specs.Register.{reaches}
-use Rattle.word.specs.declared.word.Word.{Word}
 use Rattle.model.specs.Stored.{ModelTables}
-use Rattle.model.specs.Tested.{whereAny, firstTo, testModel}
+use Rattle.model.specs.Tested.{testModel}
 use Rattle.model.specs.declared.stored.Model.{Model}
-use Rattle.model.proofs.NeedLaws.{need-some}
-use Rattle.model.proofs.Firsts.{first-before}
-use Rattle.model.proofs.BuildLaws.{passed, both, equal-passed, lent-passed, counted-passed}
-use Rattle.action.specs.Counts.{maxWords, rowLanes, outsideAt, insideTo, wordsTests, AllInside}
+use Rattle.lent.specs.Tests.{whereAny, firstTo}
+use Rattle.lent.proofs.NeedLaws.{need-some}
+use Rattle.lent.proofs.Firsts.{first-before}
+use Rattle.lent.proofs.Passed.{passed, both, equal-passed, lent-passed, counted-passed}
+use Rattle.lent.specs.Words.{maxWords, outsideAt, insideTo}
+use Rattle.action.specs.Counts.{rowLanes, wordsTests}
+use Rattle.lent.specs.Between.{AllInside}
 
 module _ (m : Model) (t : ModelTables) (lanes : List ℕ) (h j k : ℕ) where
   abbrev tests : Answer
   tests = wordsTests m t lanes h j k
 
   abbrev words : ℕ
-  words = length lanes / 4
+  words = length lanes / wordLanes
 
   pub model-refused : (r : Refusal) → testModel m t ≡ Refused r → Refused r ≡ tests
   unfolding wordsTests
@@ -43,11 +44,11 @@ module _ (m : Model) (t : ModelTables) (lanes : List ℕ) (h j k : ℕ) where
     words-many l = rw (ok, lt-ltb maxWords words l)
 
     module _ (few : words ≤ maxWords) where
-      pub lanes-over : eqb (length lanes) (words * 4) ≡ false → Refused (LengthMismatch (words * 4) (length lanes)) ≡ tests
+      pub lanes-over : eqb (length lanes) (words * wordLanes) ≡ false → Refused (LengthMismatch (words * wordLanes) (length lanes)) ≡ tests
       unfolding wordsTests
       lanes-over e = rw (ok, le-ltb maxWords words few, e)
 
-      module _ (four : eqb (length lanes) (words * 4) ≡ true) {rows row : ℕ} (rows-are : rows ≡ whereAny words (rowLanes * m .qubits)) (row-is : row ≡ whereAny words rowLanes) where
+      module _ (four : eqb (length lanes) (words * wordLanes) ≡ true) {rows row : ℕ} (rows-are : rows ≡ whereAny words (rowLanes * m .qubits)) (row-is : row ≡ whereAny words rowLanes) where
         pub h-index-short : h < rows → Refused (LengthMismatch rows h) ≡ tests
         unfolding wordsTests
         h-index-short l = rw (ok, le-ltb maxWords words few, four, ← rows-are, lt-ltb h rows l)
@@ -75,27 +76,22 @@ module _ (m : Model) (t : ModelTables) (lanes : List ℕ) (h j k : ℕ) where
               unfolding insideTo
               words-accepted l = (rw (sym is, le-ltb first words l)) ∙ reached
 
--- a word that was read and tested
-pub outside-at : (lanes : List ℕ) (n k : ℕ) {w : Word} {b : Bool} → w ≡ getD (Flat.words lanes) k identity → b ≡ reaches w n → b ≡ outsideAt lanes n k
-unfolding outsideAt
-outside-at lanes n k e f = f ∙ ap (λ (v : Word). reaches v n) e
-
 -- ---- what is known where all tests are passed
 pub record Passed (m : Model) (t : ModelTables) (lanes : List ℕ) (h j k : ℕ) : Type 0 where
   pub model : testModel m t ≡ Accepted
-  pub h-long : 0 < length lanes / 4 → rowLanes * m .qubits ≤ h
-  pub j-long : 0 < length lanes / 4 → rowLanes * m .qubits ≤ j
-  pub mask-long : 0 < length lanes / 4 → rowLanes ≤ k
+  pub h-long : 0 < length lanes / wordLanes → rowLanes * m .qubits ≤ h
+  pub j-long : 0 < length lanes / wordLanes → rowLanes * m .qubits ≤ j
+  pub mask-long : 0 < length lanes / wordLanes → rowLanes ≤ k
   pub inside : AllInside lanes (m .qubits)
 
 pub words-passed : (m : Model) (t : ModelTables) (lanes : List ℕ) (h j k : ℕ) → wordsTests m t lanes h j k ≡ Accepted → Passed m t lanes h j k
 unfolding wordsTests insideTo
 words-passed m t lanes h j k e =
-    let words : ℕ = length lanes / 4 in
+    let words : ℕ = length lanes / wordLanes in
     let first : ℕ = firstTo words (outsideAt lanes (m .qubits)) in
     let e0 = both (testModel m t) _ e in
     let e1 = counted-passed maxWords words _ (e0 .1) in
-    let e2 = equal-passed (words * 4) (length lanes) _ (e1 .1) in
+    let e2 = equal-passed (words * wordLanes) (length lanes) _ (e1 .1) in
     let rows : ℕ = rowLanes * m .qubits in
     let e3 = lent-passed (whereAny words rows) h _ (e2 .1) in
     let e4 = lent-passed (whereAny words rows) j _ (e3 .1) in

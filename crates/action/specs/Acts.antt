@@ -2,8 +2,7 @@
 -- SPDX-License-Identifier: Apache-2.0
 
 -- The action of a lent model on a word: the model's refusals, 11, 13; what is listed, and every lent table afterwards.
-use Prim.Native.Nat.{ℕ, _*_, _/_, _≤_, min}
-use mathlib.Core.Path.{_≡_}
+use Prim.Native.Nat.{ℕ, _/_, min}
 use mathlib.Core.Bool.{cond}
 use mathlib.Core.List.{List, [], map}
 use lib.Dec.{ltb}
@@ -13,7 +12,7 @@ use Rattle.refusal.specs.declared.Refusal.{Refusal}
 use Rattle.refusal.specs.declared.Refusal.the-variants.{WordOutsideRegister, TableFull}
 use Rattle.refusal.specs.declared.Answer.{Answer}
 use Rattle.refusal.specs.declared.Answer.the-variants as Tests
-use Rattle.word.specs.Flat.{layWord}
+use Rattle.word.specs.Flat.{layWord, wordLanes}
 use Rattle.word.specs.Register.{reaches}
 use Rattle.word.specs.declared.word.Word.{Word}
 use Rattle.number.specs.Floats.{floats, float0}
@@ -22,10 +21,10 @@ use Rattle.gksl.specs.Words.{pauli}
 use Rattle.sums.specs.Sums.{sumRows}
 use Rattle.model.specs.Stored.{ModelTables}
 use Rattle.model.specs.Tested.{testModel}
-use Rattle.model.specs.Given.{Term}
-use Rattle.model.specs.Laid.{laid}
+use Rattle.model.specs.Terms.{Term}
+use Rattle.lent.specs.Laid.{laid}
 use Rattle.model.specs.declared.stored.Model.{Model}
-use Rattle.rules_by_scan.specs.Adds.{rulesStored}
+use Rattle.rule_terms.specs.Adds.{rulesStored}
 use Rattle.action.specs.declared.act.Acted.{Acted}
 use Rattle.action.specs.declared.act.Acted.the-variants.{Listed, Refused}
 
@@ -43,22 +42,12 @@ actionOf m t p = listed (sumsOf m t p)
 
 -- ---- the places of table 1, words touched by one action, and of table 3, entries listed
 abbrev pub sumPlaces : List ℕ → List Float → ℕ
-sumPlaces words sums = min (length words / 4) (length sums / 2)
+sumPlaces words sums = min (length words / wordLanes) (length sums / 2)
 
 abbrev pub listPlaces : List ℕ → List Float → ℕ
-listPlaces words values = min (length words / 4) (length values)
+listPlaces words values = min (length words / wordLanes) (length values)
 
 -- ---- a list, laid: words and real parts one after another
-pub record Lists (L : List Term) (outWords : List ℕ) (outValues : List Float) (outWords′ : List ℕ) (outValues′ : List Float) : Type 0 where
-  pub words-are : outWords′ ≡ laid layWord 0 (map (λ c. c .word) L) outWords
-  pub values-are : outValues′ ≡ laid set 0 (map (λ c. c .num .re) L) outValues
-
--- room for those of the first sums that are listed
-pub record ListRoom (len : ℕ) (lanes : List ℕ) (sums : List Float) (outWords : List ℕ) (outValues : List Float) : Type 0 where
-  pub lanes-long : 4 * len ≤ length lanes
-  pub sums-long : 2 * len ≤ length sums
-  pub words-room : 4 * length (listed (sumRows len lanes sums)) ≤ length outWords
-  pub values-room : length (listed (sumRows len lanes sums)) ≤ length outValues
 
 -- ---- what the call answers, and the lent tables afterwards
 pub record Acting : Type 0 where

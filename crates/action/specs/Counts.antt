@@ -3,25 +3,23 @@
 
 -- How many places the actions of a lent model on many words need: the model's refusals, 8, 9, 11, 13; the answer, and every lent
 -- table afterwards.
-use Prim.Native.Nat.{ℕ, _*_, _/_, _<_, max}
-use mathlib.Core.Path.{_≡_}
-use mathlib.Core.Bool.{Bool, false, cond}
+use Prim.Native.Nat.{ℕ, _*_, _/_, max}
+use mathlib.Core.Bool.{cond}
 use mathlib.Core.List.{List, [], _∷_}
 use lib.Dec.{ltb}
 use lib.Ieee.{Float}
-use lib.ListN.{length, getD, replicate}
+use lib.ListN.{length, replicate}
 use Rattle.refusal.specs.declared.Refusal.{Refusal}
-use Rattle.refusal.specs.declared.Refusal.the-variants.{WordOutsideRegister, TableFull}
+use Rattle.refusal.specs.declared.Refusal.the-variants.{TableFull}
 use Rattle.refusal.specs.declared.Answer.{Answer}
 use Rattle.refusal.specs.declared.Answer.the-variants as Tests
-use Rattle.word.specs.Word.{identity}
-use Rattle.word.specs.Flat.{words}
-use Rattle.word.specs.Register.{reaches}
+use Rattle.word.specs.Flat.{words, wordLanes}
 use Rattle.word.specs.declared.word.Word.{Word}
 use Rattle.number.specs.Floats.{float0}
+use Rattle.lent.specs.Words.{insideTo, maxWords}
 use Rattle.model.specs.Stored.{ModelTables}
-use Rattle.model.specs.Tested.{counted, lent, whereAny, firstTo, testModel}
-use Rattle.model.specs.Built.{andThen, equal}
+use Rattle.model.specs.Tested.{testModel}
+use Rattle.lent.specs.Tests.{counted, lent, whereAny, andThen, equal, inTurn}
 use Rattle.model.specs.declared.stored.Model.{Model}
 use Rattle.action.specs.Acts.{sumsOf, actionOf, sumPlaces}
 use Rattle.action.specs.declared.count.Counted.{Counted}
@@ -43,33 +41,22 @@ listedBy m t p = length (actionOf m t p)
 unfoldable pub mostPlaces : ℕ → (Word → ℕ) → (Word → ℕ) → List Word → Counted
 mostPlaces room touched listed ps = cond (ltb room (most touched ps)) (Refused (TableFull 1 room)) (Places (most touched ps) (most listed ps))
 
--- Limit: 65,536 words
-abbrev pub maxWords : ℕ
-maxWords = 65536
-
 -- the lanes of an index for each qubit, and of a mask
 abbrev pub rowLanes : ℕ
 rowLanes = 64
 
--- is the word at a position outside the register
-unfoldable pub outsideAt : List ℕ → ℕ → ℕ → Bool
-outsideAt lanes n k = reaches (getD (words lanes) k identity) n
-
--- 11 at the first of so many words that has a bit at or above n: its place in its own list
-unfoldable pub insideTo : ℕ → List ℕ → ℕ → Answer → Answer
-insideTo count lanes n after = cond (ltb (firstTo count (outsideAt lanes n)) count) (Tests.Refused (WordOutsideRegister (firstTo count (outsideAt lanes n)))) after
-
 -- the model, 8, 9, 11; no words ask for no place
 unfoldable pub wordsTests : Model → ModelTables → List ℕ → ℕ → ℕ → ℕ → Answer
 wordsTests m t lanes hIndex jIndex mask =
+    inTurn (
     andThen (testModel m t)
-    (counted maxWords (length lanes / 4)
-    (equal (length lanes / 4 * 4) (length lanes)
-    (lent (whereAny (length lanes / 4) (rowLanes * m .qubits)) hIndex
-    (lent (whereAny (length lanes / 4) (rowLanes * m .qubits)) jIndex
-    (lent (whereAny (length lanes / 4) rowLanes) mask
-    (insideTo (length lanes / 4) lanes (m .qubits)
-    Tests.Accepted))))))
+    ∷ counted maxWords (length lanes / wordLanes)
+    ∷ equal (length lanes / wordLanes * wordLanes) (length lanes)
+    ∷ lent (whereAny (length lanes / wordLanes) (rowLanes * m .qubits)) hIndex
+    ∷ lent (whereAny (length lanes / wordLanes) (rowLanes * m .qubits)) jIndex
+    ∷ lent (whereAny (length lanes / wordLanes) rowLanes) mask
+    ∷ insideTo (length lanes / wordLanes) lanes (m .qubits)
+    ∷ []) Tests.Accepted
 
 -- ---- what the call answers, and the lent tables afterwards
 pub record Counting : Type 0 where
@@ -104,7 +91,3 @@ module _ (hIndex jIndex mask workWords : List ℕ) (workSums : List Float) where
   countPlaces m t lanes =
       testedWords (wordsTests m t lanes (length hIndex) (length jIndex) (length mask))
       (zeroed (mostPlaces (sumPlaces workWords workSums) (touchedBy m t) (listedBy m t) (words lanes)))
-
--- every word has its letters below n
-abbrev pub AllInside : List ℕ → ℕ → Type 0
-AllInside lanes n = (k : ℕ) → k < length lanes / 4 → outsideAt lanes n k ≡ false

@@ -5,28 +5,25 @@
 // the words whose real part is not 0 are listed.
 ghost use mathlib.Core.Path.{_≡_};
 ghost use Rattle.refusal.specs.declared.Answer.the-variants.{Accepted};
-ghost use Rattle.model.specs.Stored.{tables};
+ghost use Rattle.model.specs.Between.{modelTables};
 ghost use Rattle.model.specs.Tested.{testModel};
 ghost use Rattle.action.specs.Acts.{act};
 use crate::list::count_listed;
 use crate::list::list_sums;
+use lent::clear::clear_lanes;
+use lent::clear::clear_numbers;
+use lent::sizes::LIST_TABLE;
+use lent::sizes::SUMS_TABLE;
+use lent::sizes::smaller;
 use model::stored::Model;
-use model::test::smaller;
 use model::test::test_model;
 use refusal::Answer;
 use refusal::Refusal;
 use rules_by_scan::rules::put_rules;
-use sums::clear::clear_lanes;
-use sums::clear::clear_numbers;
 use sums::sums::Added;
 use word::flat::WORD_LANES;
 use word::word::Word;
 use word::word::reaches_beyond;
-
-// The numbers of the tables that 13 names: words touched by one action, and entries listed.
-pub const SUMS_TABLE: usize = 1;
-
-pub const LIST_TABLE: usize = 3;
 
 // How many words are listed.
 pub enum Acted {
@@ -49,8 +46,8 @@ fn act_tested(
     out_words: &mut [u64],
     out_values: &mut [f64],
 ) -> Acted
-    requires { ⌜ testModel m (tables (now «h_words») (now «h_coeffs») (now jumps) (now rates) (now «t_words») (now «t_numbers»)) ≡ Accepted ⌝ }
-    ensures { λ r. ⌜ record { answer = r; outWords = now («out_words» .exit); outValues = now («out_values» .exit); workWords = now («work_words» .exit); workSums = now («work_sums» .exit) } ≡ act (now («out_words» .entry)) (now («out_values» .entry)) (now («work_words» .entry)) (now («work_sums» .entry)) m (tables (now («h_words» .entry)) (now («h_coeffs» .entry)) (now (jumps .entry)) (now (rates .entry)) (now («t_words» .entry)) (now («t_numbers» .entry))) p ⌝ }
+    requires { ⌜ testModel m (modelTables (now «h_words») (now «h_coeffs») (now jumps) (now rates) (now «t_words») (now «t_numbers»)) ≡ Accepted ⌝ }
+    ensures { λ r. ⌜ record { answer = r; outWords = now («out_words» .exit); outValues = now («out_values» .exit); workWords = now («work_words» .exit); workSums = now («work_sums» .exit) } ≡ act (now («out_words» .entry)) (now («out_values» .entry)) (now («work_words» .entry)) (now («work_sums» .entry)) m (modelTables (now («h_words» .entry)) (now («h_coeffs» .entry)) (now (jumps .entry)) (now (rates .entry)) (now («t_words» .entry)) (now («t_numbers» .entry))) p ⌝ }
 {
     let n = m.qubits;
     if reaches_beyond(p, n) {
@@ -108,7 +105,7 @@ pub fn compute_action_terms(
     out_words: &mut [u64],
     out_values: &mut [f64],
 ) -> Acted
-    ensures { λ r. ⌜ record { answer = r; outWords = now («out_words» .exit); outValues = now («out_values» .exit); workWords = now («work_words» .exit); workSums = now («work_sums» .exit) } ≡ act (now («out_words» .entry)) (now («out_values» .entry)) (now («work_words» .entry)) (now («work_sums» .entry)) m (tables (now («h_words» .entry)) (now («h_coeffs» .entry)) (now (jumps .entry)) (now (rates .entry)) (now («t_words» .entry)) (now («t_numbers» .entry))) p ⌝ }
+    ensures { λ r. ⌜ record { answer = r; outWords = now («out_words» .exit); outValues = now («out_values» .exit); workWords = now («work_words» .exit); workSums = now («work_sums» .exit) } ≡ act (now («out_words» .entry)) (now («out_values» .entry)) (now («work_words» .entry)) (now («work_sums» .entry)) m (modelTables (now («h_words» .entry)) (now («h_coeffs» .entry)) (now (jumps .entry)) (now (rates .entry)) (now («t_words» .entry)) (now («t_numbers» .entry))) p ⌝ }
 {
     let answer = test_model(m, h_words, h_coeffs, jumps, rates, t_words, t_numbers);
     let Answer::Refused(refusal) = answer else {

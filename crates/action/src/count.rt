@@ -4,27 +4,27 @@
 // How many places the actions of a lent model on many words need. The model is tested once and its index
 // built once; each action then visits only the items that share a qubit with its word.
 ghost use mathlib.Core.Path.{_≡_};
-ghost use mathlib.Core.Bool.{cond};
-ghost use Prim.Native.Nat.{_*_, _/_, _≤_, _<_, max};
-ghost use lib.Dec.{ltb};
+ghost use Prim.Native.Nat.{_*_, _/_, _≤_, _<_};
 ghost use lib.ListN.{length};
 ghost use Rattle.refusal.specs.declared.Answer.the-variants.{Accepted};
-ghost use Rattle.word.specs.Flat.{words};
-ghost use Rattle.model.specs.Stored.{tables};
+ghost use Rattle.word.specs.Flat.{words, wordLanes};
+ghost use Rattle.model.specs.Between.{modelTables};
+ghost use Rattle.lent.specs.Between.{AllInside};
 ghost use Rattle.model.specs.Tested.{testModel};
 ghost use Rattle.rules_by_index.specs.Near.{ModelIndexed};
-ghost use Rattle.action.specs.Counts.{most, touchedBy, listedBy, wordsTests, countPlaces, AllInside, mostPlaces};
-use crate::act::SUMS_TABLE;
+ghost use Rattle.action.specs.Counts.{touchedBy, listedBy, wordsTests, countPlaces, mostPlaces};
 use crate::list::count_listed;
 use crate::words::check_words;
-use rules_by_index::indexed::index_model;
-use rules_by_index::near::put_rules_near;
+use lent::clear::clear_lanes;
+use lent::clear::clear_numbers;
+use lent::sizes::SUMS_TABLE;
+use lent::sizes::larger;
+use lent::sizes::smaller;
 use model::stored::Model;
-use model::test::smaller;
 use refusal::Answer;
 use refusal::Refusal;
-use sums::clear::clear_lanes;
-use sums::clear::clear_numbers;
+use rules_by_index::indexed::index_model;
+use rules_by_index::near::put_rules_near;
 use sums::sums::Added;
 use word::flat::WORD_LANES;
 use word::flat::word_at;
@@ -33,15 +33,6 @@ use word::flat::word_at;
 pub enum Counted {
     Places { touched: usize, listed: usize },
     Refused(Refusal),
-}
-
-pub fn larger_count(a: usize, b: usize) -> usize
-    ensures { λ r. ⌜ r ≡ max a b ⌝ }
-{
-    if a < b {
-        return b;
-    }
-    a
 }
 
 // The same of a model that passed its test, with its index where there is a word, and a table of sums of
@@ -62,8 +53,8 @@ fn most_places(
     work_sums: &mut [f64],
     room: usize,
 ) -> Counted
-    requires { ⌜ (testModel m (tables (now «h_words») (now «h_coeffs») (now jumps) (now rates) (now «t_words») (now «t_numbers»)) ≡ Accepted) × (0 < length (now list) / 4 → ModelIndexed m (tables (now «h_words») (now «h_coeffs») (now jumps) (now rates) (now «t_words») (now «t_numbers»)) (now «h_index») (now «j_index») × (64 * m .qubits ≤ length (now «h_index»)) × (64 * m .qubits ≤ length (now «j_index»)) × (64 ≤ length (now mask))) × (4 * room ≤ length (now «work_words»)) × (2 * room ≤ length (now «work_sums»)) × AllInside (now list) (m .qubits) ⌝ }
-    ensures { λ r. ⌜ r ≡ mostPlaces room (touchedBy m (tables (now («h_words» .entry)) (now («h_coeffs» .entry)) (now (jumps .entry)) (now (rates .entry)) (now («t_words» .entry)) (now («t_numbers» .entry)))) (listedBy m (tables (now («h_words» .entry)) (now («h_coeffs» .entry)) (now (jumps .entry)) (now (rates .entry)) (now («t_words» .entry)) (now («t_numbers» .entry)))) (words (now (list .entry))) ⌝ }
+    requires { ⌜ (testModel m (modelTables (now «h_words») (now «h_coeffs») (now jumps) (now rates) (now «t_words») (now «t_numbers»)) ≡ Accepted) × (0 < length (now list) / wordLanes → ModelIndexed m (modelTables (now «h_words») (now «h_coeffs») (now jumps) (now rates) (now «t_words») (now «t_numbers»)) (now «h_index») (now «j_index») × (64 * m .qubits ≤ length (now «h_index»)) × (64 * m .qubits ≤ length (now «j_index»)) × (64 ≤ length (now mask))) × (wordLanes * room ≤ length (now «work_words»)) × (2 * room ≤ length (now «work_sums»)) × AllInside (now list) (m .qubits) ⌝ }
+    ensures { λ r. ⌜ r ≡ mostPlaces room (touchedBy m (modelTables (now («h_words» .entry)) (now («h_coeffs» .entry)) (now (jumps .entry)) (now (rates .entry)) (now («t_words» .entry)) (now («t_numbers» .entry)))) (listedBy m (modelTables (now («h_words» .entry)) (now («h_coeffs» .entry)) (now (jumps .entry)) (now (rates .entry)) (now («t_words» .entry)) (now («t_numbers» .entry)))) (words (now (list .entry))) ⌝ }
 {
     let count = list.len() / WORD_LANES;
     let mut touched = 0;
@@ -94,8 +85,8 @@ fn most_places(
             });
         };
         let entries = count_listed(work_words, work_sums, len);
-        touched = larger_count(touched, len);
-        listed = larger_count(listed, entries);
+        touched = larger(touched, len);
+        listed = larger(listed, entries);
         k += 1;
     }
     Counted::Places { touched, listed }
@@ -117,8 +108,8 @@ fn count_tested(
     work_words: &mut [u64],
     work_sums: &mut [f64],
 ) -> Counted
-    requires { ⌜ wordsTests m (tables (now «h_words») (now «h_coeffs») (now jumps) (now rates) (now «t_words») (now «t_numbers»)) (now list) (length (now «h_index»)) (length (now «j_index»)) (length (now mask)) ≡ Accepted ⌝ }
-    ensures { λ r. ⌜ record { answer = r; hIndex = now («h_index» .exit); jIndex = now («j_index» .exit); mask = now (mask .exit); workWords = now («work_words» .exit); workSums = now («work_sums» .exit) } ≡ countPlaces (now («h_index» .entry)) (now («j_index» .entry)) (now (mask .entry)) (now («work_words» .entry)) (now («work_sums» .entry)) m (tables (now («h_words» .entry)) (now («h_coeffs» .entry)) (now (jumps .entry)) (now (rates .entry)) (now («t_words» .entry)) (now («t_numbers» .entry))) (now (list .entry)) ⌝ }
+    requires { ⌜ wordsTests m (modelTables (now «h_words») (now «h_coeffs») (now jumps) (now rates) (now «t_words») (now «t_numbers»)) (now list) (length (now «h_index»)) (length (now «j_index»)) (length (now mask)) ≡ Accepted ⌝ }
+    ensures { λ r. ⌜ record { answer = r; hIndex = now («h_index» .exit); jIndex = now («j_index» .exit); mask = now (mask .exit); workWords = now («work_words» .exit); workSums = now («work_sums» .exit) } ≡ countPlaces (now («h_index» .entry)) (now («j_index» .entry)) (now (mask .entry)) (now («work_words» .entry)) (now («work_sums» .entry)) m (modelTables (now («h_words» .entry)) (now («h_coeffs» .entry)) (now (jumps .entry)) (now (rates .entry)) (now («t_words» .entry)) (now («t_numbers» .entry))) (now (list .entry)) ⌝ }
 {
     let count = list.len() / WORD_LANES;
     index_model(h_index, j_index, m, h_words, jumps, rates, t_words, count);
@@ -162,7 +153,7 @@ pub fn count_action_terms(
     work_words: &mut [u64],
     work_sums: &mut [f64],
 ) -> Counted
-    ensures { λ r. ⌜ record { answer = r; hIndex = now («h_index» .exit); jIndex = now («j_index» .exit); mask = now (mask .exit); workWords = now («work_words» .exit); workSums = now («work_sums» .exit) } ≡ countPlaces (now («h_index» .entry)) (now («j_index» .entry)) (now (mask .entry)) (now («work_words» .entry)) (now («work_sums» .entry)) m (tables (now («h_words» .entry)) (now («h_coeffs» .entry)) (now (jumps .entry)) (now (rates .entry)) (now («t_words» .entry)) (now («t_numbers» .entry))) (now (list .entry)) ⌝ }
+    ensures { λ r. ⌜ record { answer = r; hIndex = now («h_index» .exit); jIndex = now («j_index» .exit); mask = now (mask .exit); workWords = now («work_words» .exit); workSums = now («work_sums» .exit) } ≡ countPlaces (now («h_index» .entry)) (now («j_index» .entry)) (now (mask .entry)) (now («work_words» .entry)) (now («work_sums» .entry)) m (modelTables (now («h_words» .entry)) (now («h_coeffs» .entry)) (now (jumps .entry)) (now (rates .entry)) (now («t_words» .entry)) (now («t_numbers» .entry))) (now (list .entry)) ⌝ }
 {
     let answer = check_words(
         m,

@@ -5,15 +5,17 @@
 ghost use mathlib.Core.Path.{_≡_};
 ghost use Prim.Native.Nat.{_*_, _≤_};
 ghost use lib.ListN.{length};
+ghost use Rattle.word.specs.Flat.{wordLanes};
 ghost use Rattle.sums.specs.Sums.{sumRows};
-ghost use Rattle.action.specs.Acts.{listed, ListRoom, Lists};
-use model::product::term_at;
+ghost use Rattle.action.specs.Acts.{listed};
+use model::term::term_at;
 use number::scalar::is_zero;
 use word::flat::set_word;
+ghost use Rattle.action.specs.Between.{ListRoom, Lists};
 
 // How many of the first `len` sums are listed.
 pub fn count_listed(words: &[u64], sums: &[f64], len: usize) -> usize
-    requires { ⌜ (4 * len ≤ length (now words)) × (2 * len ≤ length (now sums)) ⌝ }
+    requires { ⌜ (wordLanes * len ≤ length (now words)) × (2 * len ≤ length (now sums)) ⌝ }
     ensures { λ r. ⌜ r ≡ length (listed (sumRows len (now (words .entry)) (now (sums .entry)))) ⌝ }
 {
     let mut count = 0;

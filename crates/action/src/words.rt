@@ -3,42 +3,21 @@
 
 // A lent list of words beside a lent model and its index: the model, 8, 9, 11.
 ghost use mathlib.Core.Path.{_≡_};
-ghost use Prim.Native.Nat.{_*_, _≤_};
-ghost use lib.ListN.{length};
-ghost use Rattle.model.specs.Stored.{tables};
-ghost use Rattle.model.specs.Tested.{firstTo};
-ghost use Rattle.action.specs.Counts.{outsideAt, wordsTests};
-use model::lengths::mismatch;
-use model::lengths::where_any;
+ghost use Prim.Native.Nat.{_*_};
+ghost use Rattle.model.specs.Between.{modelTables};
+ghost use Rattle.action.specs.Counts.{wordsTests};
+use lent::tests::mismatch;
+use lent::tests::where_any;
+use lent::words::MAX_WORDS;
+use lent::words::first_outside;
 use model::stored::Model;
 use model::test::test_model;
 use refusal::Answer;
 use refusal::Refusal;
 use word::flat::WORD_LANES;
-use word::flat::word_at;
-use word::word::reaches_beyond;
-
-pub const MAX_WORDS: usize = 65_536;
 
 // The lanes of an index for each qubit, and of a mask.
 pub const ROW_LANES: usize = 64;
-
-// The first of so many positions whose word has a bit at or above qubit n; their number where there is
-// none.
-pub fn first_outside(words: &[u64], count: usize, n: usize) -> usize
-    requires { ⌜ 4 * count ≤ length (now words) ⌝ }
-    ensures { λ r. ⌜ r ≡ firstTo count (outsideAt (now (words .entry)) n) ⌝ }
-{
-    let mut k = 0;
-    while k < count {
-        let w = word_at(words, k);
-        if reaches_beyond(w, n) {
-            return k;
-        }
-        k += 1;
-    }
-    count
-}
 
 pub fn check_words(
     m: Model,
@@ -53,7 +32,7 @@ pub fn check_words(
     j_index: usize,
     mask: usize,
 ) -> Answer
-    ensures { λ r. ⌜ r ≡ wordsTests m (tables (now («h_words» .entry)) (now («h_coeffs» .entry)) (now (jumps .entry)) (now (rates .entry)) (now («t_words» .entry)) (now («t_numbers» .entry))) (now (words .entry)) «h_index» «j_index» mask ⌝ }
+    ensures { λ r. ⌜ r ≡ wordsTests m (modelTables (now («h_words» .entry)) (now («h_coeffs» .entry)) (now (jumps .entry)) (now (rates .entry)) (now («t_words» .entry)) (now («t_numbers» .entry))) (now (words .entry)) «h_index» «j_index» mask ⌝ }
 {
     let model = test_model(m, h_words, h_coeffs, jumps, rates, t_words, t_numbers);
     let Answer::Accepted = model else {

@@ -30,13 +30,13 @@ use Rattle.gksl.specs.Model.{ModelOver}
 use Rattle.gksl.specs.Words.{pauli}
 use Rattle.sums.specs.Sums.{row, rows, AllAfter, Rising}
 use Rattle.model.specs.Stored.{ModelTables}
-use Rattle.model.specs.Given.{Term}
+use Rattle.model.specs.Terms.{Term}
+use Rattle.lent.specs.Laid.{laid}
+use Rattle.model.proofs.TermLaws.{rows-length}
 use Rattle.model.specs.Tested.{testModel}
-use Rattle.model.specs.Laid.{laid}
 use Rattle.model.specs.declared.stored.Model.{Model}
-use Rattle.model.proofs.WorkLaws.{rows-length}
-use Rattle.model_laws.specs.Every.{Every}
-use Rattle.model_laws.proofs.Lists.{every-map}
+use Rattle.lent.specs.Every.{Every}
+use Rattle.lent.proofs.Lists.{every-map}
 use Rattle.action.specs.Acts.{sumsOf, actionOf, sumPlaces, listPlaces, Acting, refusal, full, listing, tested, act}
 use Rattle.action.specs.declared.act.Acted.the-variants.{Listed, Refused}
 use Rattle.action_laws.specs.Made.{Made}

@@ -10,28 +10,29 @@ use native.Mathlib.Omega.{arith}
 use lib.Ieee.{Float, nan}
 use lib.ListN.{length, getD, length-map, List·getD-map}
 use Rattle.word.specs.Word.{identity, Sound}
-use Rattle.word.specs.Flat.{words}
+use Rattle.word.specs.Flat.{words, wordLanes}
 use Rattle.word.specs.declared.word.Word.{Word}
 use Rattle.number.specs.Floats.{floats}
 use Rattle.gksl.specs.Model.{RealTerm}
 use Rattle.gksl.specs.Words.{pauli}
 use Rattle.model.specs.Stored.{ModelTables, jumpAt}
-use Rattle.model.specs.Given.{Term}
-use Rattle.model.specs.Product.{termsIn}
-use Rattle.model.specs.Compiled.{Compiled}
-use Rattle.model.specs.Built.{entriesFrom, ratesOf}
+use Rattle.model.specs.Terms.{Term, termsIn}
+use Rattle.model.specs.Stands.{Stands}
+use Rattle.model_build.specs.Compiled.{Compiled}
+use Rattle.model_build.specs.Built.{entriesFrom, ratesOf}
 use Rattle.model.specs.declared.stored.Model.{Model}
 use Rattle.model.specs.declared.stored.Jump.{Jump}
 use Rattle.model.specs.declared.stored.Jump.the-variants.{Pauli}
-use Rattle.model_laws.specs.Every.{Every}
-use Rattle.model_laws.specs.Stands.{Stands}
+use Rattle.lent.specs.Every.{Every}
+use Rattle.lent.proofs.Lists.{every-map}
+use Rattle.lent.proofs.LaidLaws.{set-other, set-here}
 use Rattle.model_laws.specs.Extended.{Additions, larger, extended}
-use Rattle.model_laws.proofs.Lists.{every-map}
-use Rattle.model_laws.proofs.LaidLaws.{set-other, set-here, words-other, words-here, entries-other, entries-here, jump-same}
+use Rattle.model_laws.proofs.LaidLaws.{words-other, words-here, entries-other, entries-here, jump-same}
 use Rattle.model_laws.proofs.CompiledLaws.{entries-length}
-use Rattle.rules_by_scan.specs.Adds.{upTo, realAt, realsIn, jumpsIn, jumpAdds, pairAdds, gatherJumps}
+use Rattle.rule_terms.specs.Adds.{realAt, realsIn, jumpsIn, jumpAdds, pairAdds, gatherJumps}
 use Rattle.in_use.proofs.KeptItems.{read-same, jumps-kept, pairs-kept}
 use Rattle.action_laws.proofs.LaidTerms.{terms-kept, word-kept}
+use Rattle.word.specs.Count.{upTo}
 
 -- ---- a list by its places
 pub upTo-parted : (k a b : ℕ) → upTo k (a + b) ≡ upTo k a ++ upTo (k + a) b
@@ -86,11 +87,11 @@ pub record Laying (m : Model) (t : ModelTables) (a : Additions) : Type 0 where
   pub reals : Every (λ h. Sound (h .word)) (a .reals)
   pub eight : Every (λ e. length e ≡ 8) (a .entries)
   pub terms : Every (λ z. Sound (z .word)) (a .terms)
-  pub h-words-room : 4 * (m .hamiltonian + length (a .reals)) ≤ length (t .hWords)
+  pub h-words-room : wordLanes * (m .hamiltonian + length (a .reals)) ≤ length (t .hWords)
   pub h-coeffs-room : m .hamiltonian + length (a .reals) ≤ length (t .hCoeffs)
   pub jumps-room : 8 * (m .jumps + length (a .entries)) ≤ length (t .jumps)
   pub rates-room : m .jumps + length (a .entries) ≤ length (t .rates)
-  pub t-words-room : 4 * (m .terms + length (a .terms)) ≤ length (t .tWords)
+  pub t-words-room : wordLanes * (m .terms + length (a .terms)) ≤ length (t .tWords)
   pub t-numbers-room : 2 * (m .terms + length (a .terms)) ≤ length (t .tNumbers)
 
 module _ (m : Model) (t : ModelTables) (a : Additions) (x : Laying m t a) where
@@ -116,7 +117,7 @@ module _ (m : Model) (t : ModelTables) (a : Additions) (x : Laying m t a) where
       let words-many : length realWords ≡ length (a .reals) = length-map (a .reals) (λ (h : RealTerm floats pauli). h .word) in
       let numbers-many : length realNumbers ≡ length (a .reals) = length-map (a .reals) (λ (h : RealTerm floats pauli). h .num) in
       let sound : Every Sound realWords = every-map Sound (λ (h : RealTerm floats pauli). h .word) (a .reals) (x .reals) in
-      let word-room : 4 * (m .hamiltonian + length realWords) ≤ length (t .hWords) = omega (arith, x .h-words-room, words-many) in
+      let word-room : wordLanes * (m .hamiltonian + length realWords) ≤ length (t .hWords) = omega (arith, x .h-words-room, words-many) in
       let number-room : m .hamiltonian + length realNumbers ≤ length (t .hCoeffs) = omega (arith, x .h-coeffs-room, numbers-many) in
       read-both (realAt after) (realAt t) (m .hamiltonian) (length (a .reals)) (a .reals) noReal refl
       (λ i l. real-eq

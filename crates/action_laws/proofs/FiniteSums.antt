@@ -27,24 +27,24 @@ use Rattle.gksl.specs.Words.{pauli}
 use Rattle.sums.specs.Numbers.{complexes, noNumber}
 use Rattle.sums.specs.Sums.{rows}
 use Rattle.sums.proofs.NumberLaws.{complexes-at}
-use Rattle.model.specs.Given.{Term}
+use Rattle.model.specs.Terms.{Term, termsIn}
+use Rattle.model.specs.Stands.{numberAt, Stands}
+use Rattle.model.proofs.StandsLaws.{tested-stands}
 use Rattle.model.specs.Stored.{ModelTables, jumpAt, given}
-use Rattle.model.specs.Product.{termsIn}
 use Rattle.model.specs.Tested.{inside, width, badJump, testModel}
 use Rattle.model.specs.declared.stored.Model.{Model}
 use Rattle.model.specs.declared.stored.Range.{Range}
 use Rattle.model.specs.declared.stored.Jump.{Jump}
 use Rattle.model.specs.declared.stored.Jump.the-variants.{Pauli, General, Pair}
-use Rattle.model_laws.specs.Every.{Every}
-use Rattle.model_laws.specs.Stands.{numberAt, Stands}
-use Rattle.model_laws.proofs.Lists.{every-weaken, every-map}
+use Rattle.lent.specs.Every.{Every}
+use Rattle.lent.proofs.Lists.{every-weaken, every-map}
 use Rattle.model_laws.proofs.JumpTests.{both, together}
-use Rattle.model_laws.proofs.StandsLaws.{tested-stands}
 use Rattle.model_laws.proofs.TestedNumbers.{real-size, term-size, given-size, pauli-size, general-size}
 use Rattle.model_laws.proofs.ActionBounds.{sandwich-value, product-value, factor-value, twice-value, diagonal-value, both-value, sums-finite}
 use Rattle.model_laws.proofs.RuleBounds.{Small, Added, none, append, choose, pairs, gather, signed-small, factored-small, clash-small, terms-small}
-use Rattle.rules_by_scan.specs.Adds.{upTo, realAt, realsIn, jumpsIn, op, sandwich, dampen, folded, doubled, eachFactor, diagonal, bothSides, oneSide, jumpAdds, pairAdds, gatherJumps, rulesStored}
+use Rattle.rule_terms.specs.Adds.{realAt, realsIn, jumpsIn, op, sandwich, dampen, folded, doubled, eachFactor, diagonal, bothSides, oneSide, jumpAdds, pairAdds, gatherJumps, rulesStored}
 use Rattle.action_laws.proofs.Runs.{every-up, every-first, every-rest}
+use Rattle.word.specs.Count.{upTo}
 
 -- ---- lists of what is added
 jumps-small : (f : Jump → List Term) (J : List Jump) → Every (λ j. Added (f j)) J → Added (gatherJumps f J)

@@ -19,11 +19,11 @@ use Rattle.gksl.specs.Words.{pauli}
 use Rattle.sums.specs.Numbers.{complexes}
 use Rattle.sums.specs.Sums.{rows}
 use Rattle.model.specs.Stored.{ModelTables, jumpAt}
-use Rattle.model.specs.Given.{Term}
-use Rattle.model.specs.Compiled.{Compiled, compileJump, pauliJump, generalJump}
-use Rattle.model.specs.Built.{termsOf}
+use Rattle.model.specs.Terms.{Term}
+use Rattle.model_build.specs.Compiled.{Compiled, compileJump, pauliJump, generalJump}
+use Rattle.model_build.specs.Built.{termsOf}
 use Rattle.model.specs.declared.stored.Jump.{Jump}
-use Rattle.rules_by_scan.specs.Adds.{sandwich, dampen, jumpAdds, pairAdds, gatherJumps}
+use Rattle.rule_terms.specs.Adds.{sandwich, dampen, jumpAdds, pairAdds, gatherJumps}
 use Rattle.action_laws.proofs.LaidTerms.{Holds, holds-left, holds-right, holds-part, holds-word}
 use Rattle.action_laws.proofs.ExtendedItems.{jumpsFrom}
 

@@ -10,7 +10,7 @@ use lib.Ieee.{Float}
 use lib.ListN.{length, getD, take, drop, set, length-append, length-map}
 use lib.Seq.{take-append-seam, drop-append-seam, take-set-le, take-take, take-add, drop-drop}
 use Rattle.word.specs.Word.{identity, Sound}
-use Rattle.word.specs.Flat.{words, layWord}
+use Rattle.word.specs.Flat.{words, layWord, wordLanes}
 use Rattle.word.specs.declared.word.Word.{Word}
 use Rattle.word.proofs.FlatLaws.{words-high, words-set}
 use Rattle.number.specs.Numbers.{Cx}
@@ -18,12 +18,12 @@ use Rattle.number.specs.Floats.{floats}
 use Rattle.sums.specs.Numbers.{complexes, layNumber}
 use Rattle.sums.specs.Sums.{rows, row}
 use Rattle.sums.proofs.NumberLaws.{complexes-high, complexes-set}
-use Rattle.model.specs.Given.{Term}
-use Rattle.model.specs.Laid.{laid}
-use Rattle.model.proofs.Parts.{part-is}
-use Rattle.model.proofs.WorkLaws.{rows-length}
-use Rattle.model_laws.specs.Every.{Every}
-use Rattle.model_laws.proofs.Lists.{every-map}
+use Rattle.model.specs.Terms.{Term}
+use Rattle.lent.specs.Laid.{laid}
+use Rattle.model.proofs.TermLaws.{rows-length}
+use Rattle.model_build.proofs.Parts.{part-is}
+use Rattle.lent.specs.Every.{Every}
+use Rattle.lent.proofs.Lists.{every-map}
 use Rattle.model_laws.proofs.LaidLaws.{word-length, number-length}
 use Rattle.in_use.proofs.Firsts.{same-at, same-part}
 
@@ -51,7 +51,7 @@ module _ {A : Type 0} where
   laid-here (suc k) bs (a ∷ l) h = ap (λ (r : List A). take (length bs) (drop (suc k) r)) (laid-past k bs l a) ∙ laid-here k bs l (omega arith)
 
 -- ---- words, numbers, and the rows that they make
-pub words-laid : (k : ℕ) (ws : List Word) (l : List ℕ) → Every Sound ws → 4 * (k + length ws) ≤ length l → words (laid layWord k ws l) ≡ laid set k ws (words l)
+pub words-laid : (k : ℕ) (ws : List Word) (l : List ℕ) → Every Sound ws → wordLanes * (k + length ws) ≤ length l → words (laid layWord k ws l) ≡ laid set k ws (words l)
 unfolding laid
 words-laid k [] l s h = refl
 words-laid k (w ∷ ws) l s h =
@@ -113,7 +113,7 @@ holds-word (w ∷ ws) (z ∷ zs) (suc at) c h = holds-word ws zs at c h
 
 -- ---- the terms table with T laid from a place on
 module _ (k : ℕ) (T : List Term) (lanes : List ℕ) (numbers : List Float) (sound : Every (λ c. Sound (c .word)) T)
-    (lanes-room : 4 * (k + length T) ≤ length lanes) (numbers-room : 2 * (k + length T) ≤ length numbers) where
+    (lanes-room : wordLanes * (k + length T) ≤ length lanes) (numbers-room : 2 * (k + length T) ≤ length numbers) where
   abbrev laidWords : List ℕ
   laidWords = laid layWord k (map (λ (c : Term). c .word) T) lanes
 

@@ -22,17 +22,16 @@ use Rattle.gksl.specs.Model.{RealTerm}
 use Rattle.gksl.specs.Table.{putOver, putAllOver}
 use Rattle.gksl.specs.Rules.{pairsOver, gatherOver, signed, factored, overlapsOver, termsOver, clashOver}
 use Rattle.gksl.specs.Words.{pauli}
-use Rattle.model.specs.Given.{Term}
+use Rattle.model.specs.Terms.{Term, termsIn}
 use Rattle.model.specs.Stored.{ModelTables}
-use Rattle.model.specs.Product.{termsIn}
 use Rattle.model.specs.Tested.{width}
 use Rattle.model.specs.declared.stored.Model.{Model}
 use Rattle.model.specs.declared.stored.Jump.{Jump}
 use Rattle.model.specs.declared.stored.Jump.the-variants.{Pauli, General, Pair}
-use Rattle.model_laws.specs.Every.{Every}
-use Rattle.model_laws.proofs.Lists.{every-all, every-append, every-map, every-weaken}
+use Rattle.lent.specs.Every.{Every}
+use Rattle.lent.proofs.Lists.{every-all, every-append, every-map, every-weaken}
 use Rattle.model_laws.proofs.RuleBounds.{every-without}
-use Rattle.rules_by_scan.specs.Adds.{realsIn, jumpsIn, op, sandwich, dampen, folded, doubled, eachFactor, diagonal, bothSides, oneSide, jumpAdds, pairAdds, gatherJumps, rulesStored}
+use Rattle.rule_terms.specs.Adds.{realsIn, jumpsIn, op, sandwich, dampen, folded, doubled, eachFactor, diagonal, bothSides, oneSide, jumpAdds, pairAdds, gatherJumps, rulesStored}
 use Rattle.action.specs.Acts.{sumsOf, actionOf}
 
 module _ (p : Word) where

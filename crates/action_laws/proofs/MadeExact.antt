@@ -14,7 +14,7 @@ use Rattle.gksl.specs.Table.{putAllOver}
 use Rattle.gksl.specs.Rules.{actionOver}
 use Rattle.gksl.specs.Words.{pauli}
 use Rattle.model.specs.Stored.{ModelTables}
-use Rattle.model.specs.Given.{Term}
+use Rattle.model.specs.Terms.{Term}
 use Rattle.model.specs.declared.stored.Model.{Model}
 use Rattle.action.specs.Acts.{listed, sumsOf, actionOf}
 use Rattle.action_laws.specs.Made.{Made}

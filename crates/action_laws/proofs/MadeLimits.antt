@@ -13,18 +13,18 @@ use Rattle.number.specs.Floats.{floats}
 use Rattle.gksl.specs.Model.{MatrixOver, ModelOver, AllModerate}
 use Rattle.gksl.specs.Words.{pauli}
 use Rattle.model.specs.Stored.{ModelTables}
-use Rattle.model.specs.Given.{readJump}
-use Rattle.model.specs.Compiled.{compileJump}
-use Rattle.model.specs.Built.{jumpsGiven}
+use Rattle.model_build.specs.Given.{readJump}
+use Rattle.model_build.specs.Compiled.{compileJump}
+use Rattle.model_build.specs.Built.{jumpsGiven}
 use Rattle.model.specs.declared.stored.Model.{Model}
-use Rattle.kossakowski.specs.Matrix.{hermitian, pairPlaces}
-use Rattle.kossakowski.specs.Pairs.{pairAt}
-use Rattle.kossakowski.specs.Added.{operators, matrix}
+use Rattle.k_matrix.specs.Matrix.{hermitian, pairPlaces}
+use Rattle.k_matrix.specs.Pairs.{pairAt}
+use Rattle.k_matrix.specs.Added.{operators, matrix}
 use Rattle.kossakowski.proofs.WholeMatrix.{accepted-moderate}
-use Rattle.model_laws.specs.Every.{Every}
+use Rattle.lent.specs.Every.{Every}
+use Rattle.lent.proofs.Lists.{every-weaken, every-append}
 use Rattle.model_laws.specs.Exactly.{Exactly}
-use Rattle.model_laws.proofs.Lists.{every-weaken, every-append}
-use Rattle.model_laws.proofs.StandsLaws.{tested-stands}
+use Rattle.model.proofs.StandsLaws.{tested-stands}
 use Rattle.model_laws.proofs.ReadItems.{JumpGood, jump-read, each-every}
 use Rattle.action_laws.specs.Made.{Made, built, added, lent}
 use Rattle.action_laws.specs.WholeModel.{Beside, WholeMatrix, WholeModel, pairCount, FewTerms, Limits}

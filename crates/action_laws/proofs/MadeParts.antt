@@ -20,20 +20,22 @@ use Rattle.gksl.specs.Model.{RealTerm, JumpOver}
 use Rattle.gksl.specs.Words.{pauli}
 use Rattle.model.specs.Stored.{ModelTables}
 use Rattle.model.specs.Fails.{numberFails}
-use Rattle.model.specs.Tested.{maxHamiltonian, maxJumps, counted, testModel}
-use Rattle.model.specs.Given.{Read, got, Term}
-use Rattle.model.specs.Compiled.{Compiled, compileJump}
-use Rattle.model.specs.Built.{Building, finished, tested, whenRead, readHamiltonian, readJumps, termsOf, termPlaces}
-use Rattle.model.specs.Built as Compiling
+use Rattle.model.specs.Tested.{maxHamiltonian, maxJumps, testModel}
+use Rattle.lent.specs.Read.{Read, got}
+use Rattle.model.specs.Terms.{Term}
+use Rattle.model.proofs.StandsLaws.{none-bad}
+use Rattle.model_build.specs.Compiled.{Compiled, compileJump}
+use Rattle.model_build.specs.Built.{Building, finished, tested, whenRead, readHamiltonian, readJumps, termsOf, termPlaces}
+use Rattle.model_build.specs.Built as Compiling
 use Rattle.model.specs.declared.stored.Model.{Model}
-use Rattle.model.specs.declared.spec.Built.the-variants as Answers
-use Rattle.model.proofs.BuildLaws.{both, counted-passed}
-use Rattle.kossakowski.specs.Matrix.{hermitian}
-use Rattle.kossakowski.specs.Pairs.{pairsOf}
-use Rattle.kossakowski.specs.Added.{operators, matrix, maxOperators, lengthsAnswer, readOperators, allTerms, matrixTests, pairsTest, compiledMatrix}
-use Rattle.kossakowski.specs.Added as Adding
-use Rattle.kossakowski.proofs.MatrixLengths.{LengthsFit, lengths-fit}
-use Rattle.model_laws.proofs.StandsLaws.{none-bad}
+use Rattle.model_build.specs.declared.spec.Built.the-variants as Answers
+use Rattle.lent.specs.Tests.{counted}
+use Rattle.lent.proofs.Passed.{both, counted-passed}
+use Rattle.k_matrix.specs.Matrix.{hermitian}
+use Rattle.k_matrix.specs.Pairs.{pairsOf}
+use Rattle.k_matrix.specs.Added.{operators, matrix, maxOperators, lengthsAnswer, readOperators, allTerms, matrixTests, pairsTest, compiledMatrix}
+use Rattle.k_matrix.specs.Added as Adding
+use Rattle.k_matrix.proofs.MatrixLengths.{LengthsFit, lengths-fit}
 
 -- ---- a refusal is no model
 no-model : (r : Refusal) (m : Model) → Answers.Refused r ≡ Answers.Model m → ⊥

@@ -20,30 +20,33 @@ use Rattle.gksl.specs.Rules.{termsOver, jumpsOver, matrixOver, matricesOver, ru
 use Rattle.gksl.specs.Words.{pauli}
 use Rattle.sums.specs.Numbers.{complexes, layNumber}
 use Rattle.sums.specs.Sums.{rows}
-use Rattle.model.specs.Stored.{ModelTables}
+use Rattle.model.specs.Stored.{ModelTables, layEntry}
 use Rattle.model.specs.Tested.{testModel}
-use Rattle.model.specs.Given.{got, Term, readReal, readJump}
-use Rattle.model.specs.Laid.{laid, layEntry}
-use Rattle.model.specs.Compiled.{Compiled, compileJump}
-use Rattle.model.specs.Built.{hamiltonian, jumpsGiven, readHamiltonian, readJumps, entriesFrom, termsOf, ratesOf}
-use Rattle.model.specs.Built as Building
+use Rattle.model_build.specs.Given.{readReal, readJump}
+use Rattle.lent.specs.Read.{got}
+use Rattle.model.specs.Terms.{Term}
+use Rattle.lent.specs.Laid.{laid}
+use Rattle.model.specs.Stands.{Stands}
+use Rattle.model.proofs.StandsLaws.{tested-stands}
+use Rattle.model_build.specs.Compiled.{Compiled, compileJump}
+use Rattle.model_build.specs.Built.{hamiltonian, jumpsGiven, readHamiltonian, readJumps, entriesFrom, termsOf, ratesOf}
+use Rattle.model_build.specs.Built as Building
 use Rattle.model.specs.declared.stored.Model.{Model}
-use Rattle.model.specs.declared.spec.Built.the-variants as Answers
-use Rattle.kossakowski.specs.Matrix.{pairPlaces}
-use Rattle.kossakowski.specs.Pairs.{pairsOf}
-use Rattle.kossakowski.specs.Added.{operators, matrix, readOperators, allTerms}
-use Rattle.kossakowski.specs.Added as Adding
-use Rattle.model_laws.specs.Every.{Every}
-use Rattle.model_laws.specs.Stands.{Stands}
+use Rattle.model_build.specs.declared.spec.Built.the-variants as Answers
+use Rattle.lent.specs.Every.{Every}
+use Rattle.lent.proofs.Lists.{every-of, every-weaken, every-append, every-map}
+use Rattle.lent.proofs.LaidLaws.{laid-length}
+use Rattle.k_matrix.specs.Matrix.{pairPlaces}
+use Rattle.k_matrix.specs.Pairs.{pairsOf}
+use Rattle.k_matrix.specs.Added.{operators, matrix, readOperators, allTerms}
+use Rattle.k_matrix.specs.Added as Adding
 use Rattle.model_laws.specs.Extended.{Additions, larger, extended}
-use Rattle.model_laws.proofs.Lists.{every-of, every-weaken, every-append, every-map}
-use Rattle.model_laws.proofs.LaidLaws.{laid-length, word-length, number-length, entry-length}
-use Rattle.model_laws.proofs.StandsLaws.{tested-stands}
+use Rattle.model_laws.proofs.LaidLaws.{word-length, number-length, entry-length}
 use Rattle.model_laws.proofs.ReadItems.{JumpGood, real-read, jump-read, each-every}
 use Rattle.model_laws.proofs.CompiledLaws.{TermGood, CompiledGood, compiled-good, entries-length, terms-good, entries-good}
 use Rattle.model_laws.proofs.BuiltLaws.{empty, built-passes}
 use Rattle.model_laws.proofs.AddedLaws.{added-passes}
-use Rattle.rules_by_scan.specs.Adds.{upTo, realsIn, jumpsIn, jumpAdds, pairAdds, gatherJumps, rulesStored}
+use Rattle.rule_terms.specs.Adds.{realsIn, jumpsIn, jumpAdds, pairAdds, gatherJumps, rulesStored}
 use Rattle.in_use.proofs.SameModels.{same-passes, same-rules}
 use Rattle.action_laws.specs.Made.{Made, built, added, lent, withMatrix}
 use Rattle.action_laws.proofs.LaidTerms.{holds-left, holds-right, laid-holds}
@@ -52,6 +55,7 @@ use Rattle.action_laws.proofs.JumpRules.{jumps-add, jumps-no-pairs}
 use Rattle.action_laws.proofs.MatrixRules.{Counted, counted-length, no-jumps, pairs-add}
 use Rattle.action_laws.proofs.OperatorsRead.{operators-good, operators-laid, operators-counted, pairs-laid, pairs-eight}
 use Rattle.action_laws.proofs.MadeParts.{built-is, added-is}
+use Rattle.word.specs.Count.{upTo}
 
 -- a model that was made passes the test
 pub made-passes : (g : ModelOver floats pauli) (m : Model) (t : ModelTables) → Made g m t → testModel m t ≡ Accepted

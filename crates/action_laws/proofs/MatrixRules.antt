@@ -22,23 +22,24 @@ use Rattle.gksl.specs.Words.{pauli}
 use Rattle.sums.specs.Numbers.{complexes}
 use Rattle.sums.specs.Sums.{rows}
 use Rattle.model.specs.Stored.{ModelTables}
-use Rattle.model.specs.Given.{Term}
-use Rattle.model.specs.Built.{termsOf}
-use Rattle.model.specs.Items.{total}
+use Rattle.model.specs.Terms.{Term}
+use Rattle.model_build.specs.Built.{termsOf}
+use Rattle.lent.specs.Laid.{total}
+use Rattle.lent.specs.Every.{Every}
+use Rattle.lent.proofs.Lists.{every-both, every-weaken}
 use Rattle.model.specs.declared.stored.Range.{Range}
-use Rattle.kossakowski.specs.Matrix.{skipped, isPair, passing, pairPlaces}
-use Rattle.kossakowski.specs.Pairs.{rangeOf, pairAt, pairsOf}
-use Rattle.kossakowski.specs.Added.{allTerms}
-use Rattle.kossakowski.proofs.MatrixLaws.{row-below, column-below}
-use Rattle.model_laws.specs.Every.{Every}
-use Rattle.model_laws.proofs.Lists.{every-both, every-weaken}
+use Rattle.k_matrix.specs.Matrix.{skipped, isPair, passing, pairPlaces}
+use Rattle.k_matrix.specs.Pairs.{rangeOf, pairAt, pairsOf}
+use Rattle.k_matrix.specs.Added.{allTerms}
+use Rattle.k_matrix.proofs.MatrixLaws.{row-below, column-below}
 use Rattle.model_laws.proofs.JumpTests.{both}
 use Rattle.model_laws.proofs.PairsGood.{passing-below}
-use Rattle.rules_by_scan.specs.Adds.{upTo, jumpAdds, pairAdds, gatherJumps}
+use Rattle.rule_terms.specs.Adds.{jumpAdds, pairAdds, gatherJumps}
 use Rattle.action_laws.proofs.LaidTerms.{Holds, holds-left, holds-right, holds-part}
 use Rattle.action_laws.proofs.ExtendedItems.{upTo-parted, jumpsFrom}
 use Rattle.action_laws.proofs.JumpRules.{jumpOf}
 use Rattle.action_laws.proofs.PairRules.{Operator, pair-adds, diagonal-adds, no-jump}
+use Rattle.word.specs.Count.{upTo}
 
 -- ---- what a function makes of each of a list, one after the other
 flat-both : (f : ℕ → List Term) (a b : List ℕ) → flatMap f (a ++ b) ≡ flatMap f a ++ flatMap f b

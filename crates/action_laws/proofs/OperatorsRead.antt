@@ -15,25 +15,27 @@ use Rattle.number.specs.Floats.{floats}
 use Rattle.gksl.specs.Model.{entryIn}
 use Rattle.gksl.specs.Rules.{pairsOver, formedOver}
 use Rattle.gksl.specs.Words.{pauli}
-use Rattle.model.specs.Given.{got, GivenTerm, Term, readOperator}
-use Rattle.model.specs.Items.{total}
-use Rattle.model.specs.Built.{parts, entriesFrom, termsOf}
-use Rattle.model.specs.Taken.{termTaken}
-use Rattle.model.specs.Work.{operatorTaken}
+use Rattle.model_build.specs.Given.{GivenTerm, readOperator}
+use Rattle.lent.specs.Laid.{total}
+use Rattle.lent.specs.Every.{Every}
+use Rattle.lent.proofs.Lists.{every-at, every-weaken, every-append, every-map}
+use Rattle.model_build.specs.Built.{parts, entriesFrom, termsOf}
+use Rattle.model_build.specs.Taken.{termTaken}
+use Rattle.model_build.specs.Work.{operatorTaken}
 use Rattle.model.specs.declared.stored.Range.{Range}
-use Rattle.model.proofs.TakenLaws.{operator-taken, operator-few}
-use Rattle.kossakowski.specs.Matrix.{isPair, pairPlaces}
-use Rattle.kossakowski.specs.Pairs.{factorOf, factorsOf, scaled, productAfter, compilePair, rangeOf, pairAt, pairsOf}
-use Rattle.kossakowski.specs.Added.{Input, operatorsGiven, readOperators, allTerms}
-use Rattle.kossakowski.proofs.MatrixLaws.{row-below, column-below}
+use Rattle.model_build.proofs.TakenLaws.{operator-taken, operator-few}
+use Rattle.k_matrix.specs.Matrix.{isPair, pairPlaces}
+use Rattle.k_matrix.specs.Pairs.{factorOf, factorsOf, scaled, productAfter, compilePair, rangeOf, pairAt, pairsOf}
+use Rattle.k_matrix.specs.Added.{Input, operatorsGiven, readOperators, allTerms}
+use Rattle.k_matrix.proofs.MatrixLaws.{row-below, column-below}
 use Rattle.kossakowski.proofs.AddLaws.{operators-are, all-are, all-length}
-use Rattle.model_laws.specs.Every.{Every}
-use Rattle.model_laws.proofs.Lists.{every-at, every-weaken, every-append, every-map}
 use Rattle.model_laws.proofs.ReadItems.{GivenGood, operator-read, each-every}
 use Rattle.model_laws.proofs.CompiledLaws.{formed-sizes, terms-every}
 use Rattle.model_laws.proofs.PairsGood.{passing-below}
 use Rattle.model_laws.proofs.AddedLaws.{all-every}
 use Rattle.action_laws.proofs.MatrixRules.{Counted}
+use Rattle.lent.specs.Read.{got}
+use Rattle.model.specs.Terms.{Term}
 
 -- a term whose word is read back
 abbrev pub Laid : Term → Type 0

@@ -20,11 +20,11 @@ use Rattle.sums.specs.Numbers.{complexes}
 use Rattle.sums.specs.Sums.{rows}
 use Rattle.model.specs.Stored.{ModelTables, jumpAt}
 use Rattle.model.specs.Tested.{width}
-use Rattle.model.specs.Given.{Term}
+use Rattle.model.specs.Terms.{Term}
 use Rattle.model.specs.declared.stored.Range.{Range}
-use Rattle.kossakowski.specs.Pairs.{factorOf, factorsOf, scaled, productAfter, compilePair}
+use Rattle.k_matrix.specs.Pairs.{factorOf, factorsOf, scaled, productAfter, compilePair}
 use Rattle.model_laws.proofs.RelatedLaws.{pairs-length}
-use Rattle.rules_by_scan.specs.Adds.{folded, doubled, eachFactor, diagonal, bothSides, oneSide, jumpAdds, pairAdds}
+use Rattle.rule_terms.specs.Adds.{folded, doubled, eachFactor, diagonal, bothSides, oneSide, jumpAdds, pairAdds}
 use Rattle.action_laws.proofs.LaidTerms.{Holds, holds-left, holds-right, holds-part}
 use Rattle.action_laws.proofs.JumpRules.{jumpOf}
 

@@ -19,7 +19,7 @@ use Rattle.gksl.specs.Table.{putAllOver, withoutOver}
 use Rattle.model.specs.Stored.{ModelTables}
 use Rattle.model.specs.Tested.{testModel}
 use Rattle.model.specs.declared.stored.Model.{Model}
-use Rattle.model_laws.specs.Every.{Every}
+use Rattle.lent.specs.Every.{Every}
 use Rattle.model_laws.proofs.RuleBounds.{every-without}
 use Rattle.action.specs.Acts.{sumsOf, actionOf}
 use Rattle.action_laws.specs.Made.{Made}

@@ -15,12 +15,12 @@ use Rattle.gksl.specs.Model.{JumpOver, MatrixOver, ModelOver, Row, rowsOver, en
 use Rattle.gksl.specs.Table.{putAllOver}
 use Rattle.gksl.specs.Rules.{overlapsOver, formedOver, generalOver, shapeOver, jumpsOver, diagonalOver, bothOver, oneOver, pairOver, rowOver, matrixOver, matricesOver, rulesOver}
 use Rattle.gksl.specs.Words.{pauli}
-use Rattle.model.specs.Given.{Term}
+use Rattle.model.specs.Terms.{Term}
 use Rattle.model.specs.Stored.{ModelTables}
 use Rattle.model.specs.declared.stored.Model.{Model}
-use Rattle.model_laws.specs.Every.{Every}
+use Rattle.lent.specs.Every.{Every}
 use Rattle.model_laws.proofs.RuleBounds.{every-without}
-use Rattle.rules_by_scan.specs.Adds.{rulesStored}
+use Rattle.rule_terms.specs.Adds.{rulesStored}
 use Rattle.action_laws.specs.Made.{Made}
 use Rattle.action_laws.specs.Untouched.{Clear, Untouched}
 use Rattle.action_laws.proofs.MadeRules.{made-rules}

@@ -28,21 +28,21 @@ use Rattle.gksl.specs.Rules.{pairsOver, gatherOver, onto, signed, factored, ove
 use Rattle.gksl.specs.Words.{pauli}
 use Rattle.sums.specs.Numbers.{complexes}
 use Rattle.sums.specs.Sums.{rows}
-use Rattle.model.specs.Given.{Term}
+use Rattle.model.specs.Terms.{Term, termsIn}
+use Rattle.model.proofs.StandsLaws.{tested-stands}
 use Rattle.model.specs.Stored.{ModelTables, jumpAt}
-use Rattle.model.specs.Product.{termsIn}
 use Rattle.model.specs.Tested.{inside, width, badJump, testModel}
 use Rattle.model.specs.declared.stored.Model.{Model}
 use Rattle.model.specs.declared.stored.Range.{Range}
 use Rattle.model.specs.declared.stored.Jump.{Jump}
 use Rattle.model.specs.declared.stored.Jump.the-variants.{Pauli, General, Pair}
-use Rattle.model_laws.specs.Every.{Every}
-use Rattle.model_laws.proofs.Lists.{every-weaken, every-append, every-map}
+use Rattle.lent.specs.Every.{Every}
+use Rattle.lent.proofs.Lists.{every-weaken, every-append, every-map}
 use Rattle.model_laws.proofs.JumpTests.{both}
-use Rattle.model_laws.proofs.StandsLaws.{tested-stands}
-use Rattle.rules_by_scan.specs.Adds.{upTo, realAt, realsIn, jumpsIn, op, sandwich, dampen, folded, doubled, eachFactor, diagonal, bothSides, oneSide, jumpAdds, pairAdds, gatherJumps, rulesStored}
+use Rattle.rule_terms.specs.Adds.{realAt, realsIn, jumpsIn, op, sandwich, dampen, folded, doubled, eachFactor, diagonal, bothSides, oneSide, jumpAdds, pairAdds, gatherJumps, rulesStored}
 use Rattle.action_laws.specs.Untouched.{Clear}
 use Rattle.action_laws.proofs.Runs.{every-up, every-first, every-within, every-rest}
+use Rattle.word.specs.Count.{upTo}
 
 -- ---- I times a letter
 letter-one : (l : ℕ) → l < 4 → mulLetter 0 l ≡ l

@@ -16,12 +16,12 @@ use Rattle.number.specs.Floats.{floats}
 use Rattle.gksl.specs.Model.{RealTerm}
 use Rattle.gksl.specs.Rules.{overlapsOver, termsOver}
 use Rattle.gksl.specs.Words.{pauli}
-use Rattle.model.specs.Given.{Term}
+use Rattle.model.specs.Terms.{Term}
 use Rattle.model.specs.Stored.{ModelTables}
 use Rattle.model.specs.declared.stored.Model.{Model}
 use Rattle.model.specs.declared.stored.Jump.{Jump}
 use Rattle.model.specs.declared.stored.Jump.the-variants.{Pauli, General, Pair}
-use Rattle.rules_by_scan.specs.Adds.{op, realsIn, jumpsIn, jumpAdds, pairAdds, gatherJumps, rulesStored}
+use Rattle.rule_terms.specs.Adds.{op, realsIn, jumpsIn, jumpAdds, pairAdds, gatherJumps, rulesStored}
 
 shares-none : (w : Word) → share w identity ≡ false
 unfolding share

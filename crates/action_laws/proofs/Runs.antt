@@ -6,8 +6,8 @@ use mathlib.Core.List.{List, [], _∷_}
 use Prim.Native.Nat.{ℕ, zero, suc, _+_, _≤_, _<_}
 use native.Mathlib.Omega.{arith}
 use lib.ListN.{take, drop}
-use Rattle.model_laws.specs.Every.{Every}
-use Rattle.rules_by_scan.specs.Adds.{upTo}
+use Rattle.lent.specs.Every.{Every}
+use Rattle.word.specs.Count.{upTo}
 
 pub every-up : (P : ℕ → Type 0) (k n : ℕ) → ((i : ℕ) → k ≤ i → i < k + n → P i) → Every P (upTo k n)
 unfolding upTo

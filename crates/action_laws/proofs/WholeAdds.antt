@@ -22,7 +22,7 @@ use Rattle.number.proofs.ExactLaws.{is-unit, is-two, is-neg}
 use Rattle.gksl.specs.Operator.{Onto, Op}
 use Rattle.gksl.specs.Rules.{pairsOver, gatherOver, onWord, signed, factored, overlapsOver}
 use Rattle.gksl.specs.Words.{pauli}
-use Rattle.model.specs.Given.{Term}
+use Rattle.model.specs.Terms.{Term}
 use Rattle.model_laws.specs.Related.{Like}
 use Rattle.model_laws.specs.Exactly.{Exactly}
 use Rattle.model_laws.proofs.RelatedLaws.{like-append, like-weaken}

@@ -25,8 +25,8 @@ use Rattle.gksl.proofs.GaussLaws.{re-add}
 use Rattle.gksl.proofs.AtWords.{action-is, action-real}
 use Rattle.sums.specs.Sums.{AllAfter, Rising}
 use Rattle.sums.proofs.SumLaws.{rising-none, rising-put-all}
-use Rattle.model.specs.Given.{Term}
-use Rattle.model_laws.specs.Every.{Every}
+use Rattle.model.specs.Terms.{Term}
+use Rattle.lent.specs.Every.{Every}
 use Rattle.action_laws.specs.Exact.{listedAt, ListsGenerator}
 use Rattle.action_laws.specs.WholeModel.{WholeModel, Limits}
 use Rattle.action_laws.proofs.WholeWeights.{Alike}

@@ -21,11 +21,11 @@ use Rattle.gksl.specs.Operator.{Op}
 use Rattle.gksl.specs.Model.{MatrixOver, rowsOver, entryIn}
 use Rattle.gksl.specs.Rules.{rowOver, matrixOver, matricesOver}
 use Rattle.gksl.specs.Words.{pauli}
-use Rattle.model.specs.Given.{Term}
-use Rattle.kossakowski.specs.Matrix.{skipped, isPair, passing, pairPlaces}
+use Rattle.model.specs.Terms.{Term}
+use Rattle.k_matrix.specs.Matrix.{skipped, isPair, passing, pairPlaces}
 use Rattle.kossakowski.specs.Whole.{WholeEntries}
 use Rattle.kossakowski.proofs.WholeMatrix.{skipped-is}
-use Rattle.model_laws.specs.Every.{Every}
+use Rattle.lent.specs.Every.{Every}
 use Rattle.model_laws.specs.Exactly.{Exactly}
 use Rattle.action_laws.specs.WholeModel.{Beside, WholeMatrix, FewTerms, pairCount}
 use Rattle.action_laws.proofs.WholeSizes.{Sized, sized-mono, sized-within, sized-zero}

@@ -26,8 +26,8 @@ use Rattle.gksl.specs.Model.{RealTerm, JumpOver}
 use Rattle.gksl.specs.Table.{putAllOver}
 use Rattle.gksl.specs.Rules.{pairsOver, bare, onWord, formedOver, termsOver, clashOver, generalOver, shapeOver, jumpsOver, overlapsOver, diagonalOver, bothOver, oneOver, pairOver}
 use Rattle.gksl.specs.Words.{pauli}
-use Rattle.model.specs.Given.{Term}
-use Rattle.model_laws.specs.Every.{Every}
+use Rattle.model.specs.Terms.{Term}
+use Rattle.lent.specs.Every.{Every}
 use Rattle.model_laws.specs.Exactly.{Exactly}
 use Rattle.model_laws.proofs.FormedExact.{formed-exact}
 use Rattle.action_laws.specs.WholeModel.{Beside, WholeReal, WholeJump, FewTerms}

@@ -16,10 +16,10 @@ use Rattle.number.specs.Exact.{IsG, Within}
 use Rattle.gksl.specs.Operator.{Onto, Op}
 use Rattle.gksl.specs.Table.{putOver, putAllOver, withoutOver}
 use Rattle.gksl.specs.Words.{pauli}
-use Rattle.model.specs.Given.{Term}
-use Rattle.model_laws.specs.Every.{Every}
+use Rattle.model.specs.Terms.{Term}
+use Rattle.lent.specs.Every.{Every}
+use Rattle.lent.proofs.Lists.{every-weaken}
 use Rattle.model_laws.specs.Related.{Like}
-use Rattle.model_laws.proofs.Lists.{every-weaken}
 use Rattle.action_laws.proofs.WholeSizes.{size, size-within, size-add, sized-sum, sized-zero}
 
 unfoldable pub weight : Op pauli → ℕ

@@ -22,8 +22,8 @@ use Rattle.gksl.specs.Model.{ModelOver}
 use Rattle.gksl.specs.Generator.{generator2}
 use Rattle.gksl.specs.Words.{pauli}
 use Rattle.sums.specs.Sums.{rows, Rising}
-use Rattle.model.specs.Given.{Term}
-use Rattle.model_laws.specs.Every.{Every}
+use Rattle.model.specs.Terms.{Term}
+use Rattle.lent.specs.Every.{Every}
 
 -- the number listed for a word; 0 where it is not listed
 unfoldable pub listedAt : Word → List Term → Float

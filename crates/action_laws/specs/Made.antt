@@ -11,11 +11,12 @@ use Rattle.number.specs.Floats.{floats}
 use Rattle.gksl.specs.Model.{RealTerm, JumpOver, MatrixOver, ModelOver}
 use Rattle.gksl.specs.Words.{pauli}
 use Rattle.model.specs.Stored.{ModelTables}
-use Rattle.model.specs.Given.{Term, got}
-use Rattle.model.specs.Built as Building
+use Rattle.model.specs.Terms.{Term}
+use Rattle.lent.specs.Read.{got}
+use Rattle.model_build.specs.Built as Building
 use Rattle.model.specs.declared.stored.Model.{Model}
-use Rattle.model.specs.declared.spec.Built.the-variants as Answers
-use Rattle.kossakowski.specs.Added as Adding
+use Rattle.model_build.specs.declared.spec.Built.the-variants as Answers
+use Rattle.k_matrix.specs.Added as Adding
 use Rattle.in_use.specs.InUse.{SameModel}
 
 -- with one more matrix

@@ -8,8 +8,8 @@ use Rattle.word.specs.Word.{letterAt}
 use Rattle.number.specs.Floats.{floats}
 use Rattle.gksl.specs.Model.{ModelOver}
 use Rattle.gksl.specs.Words.{pauli}
-use Rattle.model.specs.Given.{Term}
-use Rattle.model_laws.specs.Every.{Every}
+use Rattle.model.specs.Terms.{Term}
+use Rattle.lent.specs.Every.{Every}
 
 -- a term with I at the qubit
 abbrev pub Clear : ℕ → Term → Type 0

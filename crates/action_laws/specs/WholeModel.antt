@@ -12,12 +12,13 @@ use Rattle.number.specs.Floats.{floats}
 use Rattle.number.specs.Exact.{Is}
 use Rattle.gksl.specs.Model.{RealTerm, JumpOver, MatrixOver, ModelOver}
 use Rattle.gksl.specs.Words.{pauli}
-use Rattle.model.specs.Given.{Term, maxTerms}
+use Rattle.model_build.specs.Given.{maxTerms}
 use Rattle.model.specs.Tested.{maxHamiltonian, maxJumps}
-use Rattle.kossakowski.specs.Matrix.{pairPlaces}
+use Rattle.k_matrix.specs.Matrix.{pairPlaces}
 use Rattle.kossakowski.specs.Whole.{WholeEntries}
-use Rattle.model_laws.specs.Every.{Every}
+use Rattle.lent.specs.Every.{Every}
 use Rattle.model_laws.specs.Exactly.{Exactly}
+use Rattle.model.specs.Terms.{Term}
 
 module _ {A B : Type 0} where
   -- two lists, element by element

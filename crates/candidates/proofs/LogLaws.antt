@@ -9,13 +9,14 @@ use native.Mathlib.Omega.{arith}
 use lib.Ieee.{Float, nan}
 use lib.ListN.{length, getD, take}
 use lib.Seq.{take-suc, take-all}
-use Rattle.word.specs.Flat.{words}
+use Rattle.word.specs.Flat.{wordLanes, words}
 use Rattle.word.specs.Order.{before}
 use Rattle.word.specs.Word.{identity}
 use Rattle.word.specs.declared.word.Word.{Word}
+use Rattle.word.proofs.FlatLaws.{words-take}
 use Rattle.number.specs.Floats.{floats}
 use Rattle.order.specs.Merge.{positions}
-use Rattle.order.specs.Places.{wordBefore, byWord}
+use Rattle.order.specs.Between.{wordBefore, byWord}
 use Rattle.order.proofs.OrderLaws.{ordered-sorted}
 use Rattle.order.proofs.PlaceLaws.{word-order}
 use Rattle.candidates.specs.Sums.{Row, row, putOver, putAll}
@@ -48,17 +49,6 @@ module _ (ws : List Word) (vs : List Float) (h : length ws ≤ length vs) where
       ∙ ap (λ (l : Rows). putRows l t) (take-all (length ws) (rows ws vs) (rows-few ws vs)))
 
 -- ---- the first entries of a log
-pub words-take : (k : ℕ) (l : List ℕ) → words (take (4 * k) l) ≡ take k (words l)
-unfolding words
-words-take zero l = refl
-words-take (suc k) [] = let e : 4 * suc k ≡ suc (suc (suc (suc (4 * k)))) = omega arith in rw e
-words-take (suc k) (a ∷ []) = let e : 4 * suc k ≡ suc (suc (suc (suc (4 * k)))) = omega arith in rw e
-words-take (suc k) (a ∷ b ∷ []) = let e : 4 * suc k ≡ suc (suc (suc (suc (4 * k)))) = omega arith in rw e
-words-take (suc k) (a ∷ b ∷ c ∷ []) = let e : 4 * suc k ≡ suc (suc (suc (suc (4 * k)))) = omega arith in rw e
-words-take (suc k) (a ∷ b ∷ c ∷ d ∷ r) =
-    let e : 4 * suc k ≡ suc (suc (suc (suc (4 * k)))) = omega arith in
-    rw e (ap (λ (t : List Word). record { x = a ∷ b ∷ []; z = c ∷ d ∷ [] } ∷ t) (words-take k r))
-
 rows-take : (k : ℕ) (a : List Word) (b : List Float) → rows (take k a) b ≡ take k (rows a b)
 unfolding rows
 rows-take zero a b = refl
@@ -66,7 +56,7 @@ rows-take (suc k) [] b = refl
 rows-take (suc k) (w ∷ a) [] = refl
 rows-take (suc k) (w ∷ a) (x ∷ b) = ap (λ (t : Rows). row w x ∷ t) (rows-take k a b)
 
-pub first-entries : (count : ℕ) (log : List ℕ) (values : List Float) → rows (words (take (count * 4) log)) values ≡ candidateRows count log values
+pub first-entries : (count : ℕ) (log : List ℕ) (values : List Float) → rows (words (take (count * wordLanes) log)) values ≡ candidateRows count log values
 first-entries count log values =
-    let e : count * 4 ≡ 4 * count = omega arith in
+    let e : count * wordLanes ≡ wordLanes * count = omega arith in
     rw (e, words-take count log) (rows-take count (words log) values)

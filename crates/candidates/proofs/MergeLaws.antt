@@ -11,12 +11,12 @@ use lib.Ieee.{Float, nan}
 use lib.ListN.{length, getD, set, take, drop, drop-of-length-le}
 use Rattle.word.specs.declared.word.Word.{Word}
 use Rattle.sums.specs.declared.sums.Added.the-variants.{Full, Held}
-use Rattle.word.specs.Flat.{words}
+use Rattle.word.specs.Flat.{wordLanes, words}
 use Rattle.word.specs.Order.{before}
 use Rattle.word.specs.Word.{identity}
 use Rattle.word.proofs.FlatLaws.{words-high}
 use Rattle.number.specs.Floats.{floats}
-use Rattle.order.specs.Places.{wordBefore, byWord}
+use Rattle.order.specs.Between.{wordBefore, byWord}
 use Rattle.candidates.specs.Sums.{row}
 use Rattle.candidates.specs.Log.{Rows, rows, candidateRows, putRows, Holds, Beside}
 use Rattle.candidates.proofs.PutLaws.{strict, InOrder}
@@ -30,7 +30,7 @@ Goes held kept n ws vs L g out sums i j k =
     Going before (floats .plus) (floats .nought) strict (λ (p : ℕ). getD ws p identity) (λ (p : ℕ). getD vs p nan) noRow L (candidateRows n held kept) g (rows (words out) sums) i j k
 
 -- ---- a held table of n rows
-module _ (held : List ℕ) (kept : List Float) (n : ℕ) (h-held : 4 * n ≤ length held) (h-kept : n ≤ length kept) where
+module _ (held : List ℕ) (kept : List Float) (n : ℕ) (h-held : wordLanes * n ≤ length held) (h-kept : n ≤ length kept) where
   abbrev T : Rows
   T = candidateRows n held kept
 
@@ -38,7 +38,7 @@ module _ (held : List ℕ) (kept : List Float) (n : ℕ) (h-held : 4 * n ≤ len
   T-long = table-long n held kept h-held h-kept
 
   -- ---- what is left of it, taken behind the rows written
-  module _ (out : List ℕ) (sums : List Float) (i k : ℕ) (h-out : length out ≡ 4 * length sums) (in-k : k ≤ length sums) (g : Rows) (e : take k (rows (words out) sums) ++ drop i T ≡ g) where
+  module _ (out : List ℕ) (sums : List Float) (i k : ℕ) (h-out : length out ≡ wordLanes * length sums) (in-k : k ≤ length sums) (g : Rows) (e : take k (rows (words out) sums) ++ drop i T ≡ g) where
     pub rest-turn : (out′ : List ℕ) (sums′ : List Float) (w : Word) → i < n → k < length sums → w ≡ getD (words held) i identity
         → rows (words out′) sums′ ≡ set (rows (words out) sums) k (row w (getD kept i nan)) → take (k + 1) (rows (words out′) sums′) ++ drop (i + 1) T ≡ g
     rest-turn out′ sums′ w a b is-w p =
@@ -60,7 +60,7 @@ module _ (held : List ℕ) (kept : List Float) (n : ℕ) (h-held : 4 * n ≤ len
     unfolding Goes
     goes-first h e out sums = rw (← (by-word-puts ws vs h L e T)) (begins before (floats .plus) (floats .nought) strict (λ (p : ℕ). getD ws p identity) (λ (p : ℕ). getD vs p nan) noRow L T (rows (words out) sums))
 
-    module _ (g : Rows) (out : List ℕ) (sums : List Float) (i j k : ℕ) (h-out : length out ≡ 4 * length sums) (in-k : k ≤ length sums) (s : InOrder (wordBefore ws) L) (o : Goes held kept n ws vs L g out sums i j k) where
+    module _ (g : Rows) (out : List ℕ) (sums : List Float) (i j k : ℕ) (h-out : length out ≡ wordLanes * length sums) (in-k : k ≤ length sums) (s : InOrder (wordBefore ws) L) (o : Goes held kept n ws vs L g out sums i j k) where
       abbrev R : Rows
       R = rows (words out) sums
 

@@ -15,9 +15,10 @@ use lib.ListN.{length, take, drop, take-append-drop, length-take, length-drop}
 use Rattle.word.specs.Order.{before}
 use Rattle.word.specs.declared.word.Word.{Word}
 use Rattle.word.proofs.OrderLaws.{before-self, before-trans, trichotomy}
-use Rattle.order.specs.Merge.{All, mergeHead, mergeBy, sortBy, ordered}
+use Rattle.order.specs.Merge.{mergeHead, mergeBy, sortBy, ordered}
 use Rattle.order.proofs.OrderLaws.{Pairs, WeakOrder, sort-sorted}
 use Rattle.candidates.specs.Sums.{Row, row, putOver, putAll}
+use Rattle.order.specs.Between.{All}
 
 -- ---- a strict total order, by a test
 pub record Strict {W : Type 0} (lt : W → W → Bool) : Type 0 where

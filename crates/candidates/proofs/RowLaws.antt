@@ -14,7 +14,7 @@ use lib.ListN.{length, getD, set}
 use lib.Seq.{getD-take, length-take-le}
 use Rattle.word.specs.declared.word.Word.{Word}
 use Rattle.sums.specs.declared.sums.Added.the-variants.{Full, Held}
-use Rattle.word.specs.Flat.{words}
+use Rattle.word.specs.Flat.{wordLanes, words}
 use Rattle.word.specs.Word.{identity}
 use Rattle.word.proofs.FlatLaws.{words-high}
 use Rattle.candidates.specs.Sums.{Row, row}
@@ -68,18 +68,18 @@ rows-few [] b = omega arith
 rows-few (v ∷ a) [] = omega arith
 rows-few (v ∷ a) (y ∷ b) = omega (arith, rows-few a b)
 
--- as many rows as sums, where there are four lanes for each
-pub rows-length : (t : List ℕ) (s : List Float) → length t ≡ 4 * length s → length (rows (words t) s) ≡ length s
+-- as many rows as sums, where there is a word for each
+pub rows-length : (t : List ℕ) (s : List Float) → length t ≡ wordLanes * length s → length (rows (words t) s) ≡ length s
 rows-length t s h = omega (arith, rows-short (words t) s, rows-long (words t) s (length s) (omega (arith, words-high t)) (omega arith))
 
-pub table-long : (n : ℕ) (t : List ℕ) (s : List Float) → 4 * n ≤ length t → n ≤ length s → length (candidateRows n t s) ≡ n
+pub table-long : (n : ℕ) (t : List ℕ) (s : List Float) → wordLanes * n ≤ length t → n ≤ length s → length (candidateRows n t s) ≡ n
 table-long n t s h l = length-take-le n (rows (words t) s) (rows-long (words t) s n (omega (arith, words-high t)) l)
 
-pub table-at : (n : ℕ) (t : List ℕ) (s : List Float) (i : ℕ) → 4 * n ≤ length t → n ≤ length s → i < n → getD (candidateRows n t s) i noRow ≡ row (getD (words t) i identity) (getD s i nan)
+pub table-at : (n : ℕ) (t : List ℕ) (s : List Float) (i : ℕ) → wordLanes * n ≤ length t → n ≤ length s → i < n → getD (candidateRows n t s) i noRow ≡ row (getD (words t) i identity) (getD s i nan)
 table-at n t s i h l k = getD-take n (rows (words t) s) i noRow k ∙ rows-at (words t) s i (omega (arith, words-high t)) (omega arith)
 
 -- ---- answers
-pub held-holds : (room k : ℕ) (g : Rows) (out : List ℕ) (s : List Float) → length out ≡ 4 * length s → room ≡ length s → k ≤ room → candidateRows k out s ≡ g → Holds room g out s (Held k)
+pub held-holds : (room k : ℕ) (g : Rows) (out : List ℕ) (s : List Float) → length out ≡ wordLanes * length s → room ≡ length s → k ≤ room → candidateRows k out s ≡ g → Holds room g out s (Held k)
 unfolding answer
 held-holds room k g out s h c l e =
     let n : length g ≡ k = rw (← e) (table-long k out s (omega arith) (omega arith)) in

@@ -1,7 +1,7 @@
 -- SPDX-FileCopyrightText: 2026 The PPVM Authors
 -- SPDX-License-Identifier: Apache-2.0
 
--- Tables and logs in lent lists, four lanes to a word and a float beside each, and what absorbing a log answers and leaves.
+-- Tables and logs in lent lists, a word and a float beside it, and what absorbing a log answers and leaves.
 use mathlib.Core.Path.{_≡_}
 use mathlib.Core.List.{List, [], _∷_}
 use mathlib.Core.Bool.{Bool, true, cond}

@@ -8,10 +8,10 @@ ghost use mathlib.Core.Path.{_≡_};
 ghost use mathlib.Core.List.{_++_};
 ghost use Prim.Native.Nat.{_*_, _-_, _<_, _≤_};
 ghost use lib.ListN.{length, getD, set, drop};
-ghost use Rattle.word.specs.Flat.{words};
+ghost use Rattle.word.specs.Flat.{wordLanes, words};
 ghost use Rattle.word.specs.Order.{before};
 ghost use Rattle.word.specs.Word.{identity};
-ghost use Rattle.order.specs.Places.{byWord};
+ghost use Rattle.order.specs.Between.{byWord};
 ghost use Rattle.candidates.specs.Sums.{row};
 ghost use Rattle.candidates.specs.Log.{rows, candidateRows, putRows, Beside, Holds};
 use order::places::is_before;
@@ -24,7 +24,7 @@ use word::word::Word;
 
 // Lays a row at k.
 fn lay_row(out: &mut [u64], sums: &mut [f64], k: usize, w: Word, x: f64)
-    requires { ⌜ (length (now out) ≡ 4 * length (now sums)) × (k < length (now sums)) ⌝ }
+    requires { ⌜ (length (now out) ≡ wordLanes * length (now sums)) × (k < length (now sums)) ⌝ }
     ensures { λ _. ⌜ rows (words (now (out .exit))) (now (sums .exit)) ≡ set (rows (words (now (out .entry))) (now (sums .entry))) k (row w x) ⌝ }
 {
     set_word(out, k, w);
@@ -33,7 +33,7 @@ fn lay_row(out: &mut [u64], sums: &mut [f64], k: usize, w: Word, x: f64)
 
 // Whether w comes after the last of the k rows written.
 fn after_last(w: Word, out: &[u64], k: usize) -> bool
-    requires { ⌜ 4 * k ≤ length (now out) ⌝ }
+    requires { ⌜ wordLanes * k ≤ length (now out) ⌝ }
     ensures { λ r. ⌜ Beside 0 k (before (getD (words (now (out .entry))) (k - 1) identity) w) r ⌝ }
 {
     if 0 < k {
@@ -45,7 +45,7 @@ fn after_last(w: Word, out: &[u64], k: usize) -> bool
 
 // Whether w comes before the held row i, of n.
 fn before_next(w: Word, held: &[u64], i: usize, n: usize) -> bool
-    requires { ⌜ 4 * n ≤ length (now held) ⌝ }
+    requires { ⌜ wordLanes * n ≤ length (now held) ⌝ }
     ensures { λ r. ⌜ Beside i n (before w (getD (words (now (held .entry))) i identity)) r ⌝ }
 {
     if i < n {
@@ -65,8 +65,8 @@ fn take_rest(
     sums: &mut [f64],
     written: usize,
 ) -> Added
-    requires { ⌜ (4 * n ≤ length (now held)) × (n ≤ length (now kept)) × (from ≤ n) ⌝ }
-    requires { ⌜ (length (now out) ≡ 4 * length (now sums)) × (written ≤ length (now sums)) ⌝ }
+    requires { ⌜ (wordLanes * n ≤ length (now held)) × (n ≤ length (now kept)) × (from ≤ n) ⌝ }
+    requires { ⌜ (length (now out) ≡ wordLanes * length (now sums)) × (written ≤ length (now sums)) ⌝ }
     ensures { λ r. ⌜ Holds (length (now (sums .entry))) (candidateRows written (now (out .entry)) (now (sums .entry)) ++ drop from (candidateRows n (now (held .entry)) (now (kept .entry)))) (now (out .exit)) (now (sums .exit)) r ⌝ }
 {
     let mut i = from;
@@ -95,9 +95,9 @@ fn merge_log(
     out: &mut [u64],
     sums: &mut [f64],
 ) -> Added
-    requires { ⌜ (4 * n ≤ length (now held)) × (n ≤ length (now kept)) ⌝ }
-    requires { ⌜ (4 * length (now order) ≡ length (now log)) × (length (now order) ≤ length (now values)) × (now order ≡ byWord (words (now log))) ⌝ }
-    requires { ⌜ length (now out) ≡ 4 * length (now sums) ⌝ }
+    requires { ⌜ (wordLanes * n ≤ length (now held)) × (n ≤ length (now kept)) ⌝ }
+    requires { ⌜ (wordLanes * length (now order) ≡ length (now log)) × (length (now order) ≤ length (now values)) × (now order ≡ byWord (words (now log))) ⌝ }
+    requires { ⌜ length (now out) ≡ wordLanes * length (now sums) ⌝ }
     ensures { λ r. ⌜ Holds (length (now (sums .entry))) (putRows (rows (words (now (log .entry))) (now (values .entry))) (candidateRows n (now (held .entry)) (now (kept .entry)))) (now (out .exit)) (now (sums .exit)) r ⌝ }
 {
     let mut i = 0;
@@ -143,9 +143,9 @@ fn absorb_all(
     out: &mut [u64],
     sums: &mut [f64],
 ) -> Added
-    requires { ⌜ (4 * n ≤ length (now held)) × (n ≤ length (now kept)) ⌝ }
-    requires { ⌜ (4 * length (now order) ≡ length (now log)) × (4 * length (now work) ≡ length (now log)) × (length (now order) ≤ length (now values)) ⌝ }
-    requires { ⌜ length (now out) ≡ 4 * length (now sums) ⌝ }
+    requires { ⌜ (wordLanes * n ≤ length (now held)) × (n ≤ length (now kept)) ⌝ }
+    requires { ⌜ (wordLanes * length (now order) ≡ length (now log)) × (wordLanes * length (now work) ≡ length (now log)) × (length (now order) ≤ length (now values)) ⌝ }
+    requires { ⌜ length (now out) ≡ wordLanes * length (now sums) ⌝ }
     ensures { λ r. ⌜ Holds (length (now (sums .entry))) (putRows (rows (words (now (log .entry))) (now (values .entry))) (candidateRows n (now (held .entry)) (now (kept .entry)))) (now (out .exit)) (now (sums .exit)) r ⌝ }
 {
     order_words(log, order, work);
@@ -166,9 +166,9 @@ pub fn absorb(
     out: &mut [u64],
     sums: &mut [f64],
 ) -> Added
-    requires { ⌜ (4 * n ≤ length (now held)) × (n ≤ length (now kept)) ⌝ }
-    requires { ⌜ (4 * count ≤ length (now log)) × (count ≤ length (now values)) × (count ≤ length (now order)) × (count ≤ length (now work)) ⌝ }
-    requires { ⌜ length (now out) ≡ 4 * length (now sums) ⌝ }
+    requires { ⌜ (wordLanes * n ≤ length (now held)) × (n ≤ length (now kept)) ⌝ }
+    requires { ⌜ (wordLanes * count ≤ length (now log)) × (count ≤ length (now values)) × (count ≤ length (now order)) × (count ≤ length (now work)) ⌝ }
+    requires { ⌜ length (now out) ≡ wordLanes * length (now sums) ⌝ }
     ensures { λ r. ⌜ Holds (length (now (sums .entry))) (putRows (candidateRows count (now (log .entry)) (now (values .entry))) (candidateRows n (now (held .entry)) (now (kept .entry)))) (now (out .exit)) (now (sums .exit)) r ⌝ }
 {
     absorb_all(

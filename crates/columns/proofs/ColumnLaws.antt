@@ -23,7 +23,7 @@ use Rattle.word.specs.declared.word.Word.{Word}
 use Rattle.sums.specs.declared.sums.Added.{Added}
 use Rattle.sums.specs.declared.sums.Added.the-variants.{Held, Full}
 use Rattle.model.specs.Stored.{ModelTables}
-use Rattle.model.specs.Given.{Term}
+use Rattle.model.specs.Terms.{Term}
 use Rattle.model.specs.declared.stored.Model.{Model}
 use Rattle.action.specs.Acts.{actionOf}
 use Rattle.action.specs.Counts.{touchedBy}
@@ -31,7 +31,8 @@ use Rattle.action.specs.declared.act.Acted.{Acted}
 use Rattle.action.specs.declared.act.Acted.the-variants.{Listed, Refused}
 use Rattle.columns.specs.Entries.{Entry, staged}
 use Rattle.columns.specs.Columns.{columnEntries, columnsFrom, generatorOf, columnTests, generatorRoom}
-use Rattle.columns.specs.Stages.{answer, answered, Lays, Stages}
+use Rattle.columns.specs.Stages.{answered}
+use Rattle.columns.specs.Between.{answer, Lays, Stages}
 
 -- ---- what laying a column answers
 full-long : (room : ℕ) (E : List Entry) → Full ≡ answer room E → room < length E

@@ -14,12 +14,12 @@ use lib.ListN.{length, length-append}
 use Rattle.refusal.specs.declared.Refusal.the-variants.{TableFull}
 use Rattle.refusal.specs.declared.Answer.the-variants.{Accepted}
 use Rattle.word.specs.declared.word.Word.{Word}
-use Rattle.order.specs.Merge.{All, AllBelow}
+use Rattle.order.specs.Between.{All, AllBelow}
 use Rattle.order.proofs.Members.{all-append}
 use Rattle.model.specs.Stored.{ModelTables}
-use Rattle.model.specs.Given.{Term}
+use Rattle.model.specs.Terms.{Term}
 use Rattle.model.specs.declared.stored.Model.{Model}
-use Rattle.model.proofs.BuildLaws.{passed}
+use Rattle.lent.proofs.Passed.{passed}
 use Rattle.action.specs.Acts.{actionOf}
 use Rattle.action.specs.Counts.{touchedBy}
 use Rattle.columns.specs.Entries.{Entry, entry}

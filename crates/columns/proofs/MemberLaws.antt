@@ -19,14 +19,15 @@ use Rattle.word.specs.declared.word.Word.{Word}
 use Rattle.slots.specs.Slots.{lastOf}
 use Rattle.slots.proofs.PlaceLaws.{last-inside, last-word, last-after, last-among}
 use Rattle.model.specs.Stored.{ModelTables}
-use Rattle.model.specs.Given.{Term}
+use Rattle.model.specs.Terms.{Term}
 use Rattle.model.specs.declared.stored.Model.{Model}
-use Rattle.model.proofs.Firsts.{first-before}
+use Rattle.lent.proofs.Firsts.{first-before}
 use Rattle.action.specs.Acts.{actionOf}
 use Rattle.columns.specs.Entries.{Entry, entry}
 use Rattle.columns.specs.Columns.{placeIn, columnEntries, columnsFrom, generatorOf}
-use Rattle.columns.specs.Members.{Member, Entered}
+use Rattle.order.specs.Members.{Member}
 use Rattle.columns.specs.Repeats.{repeatsAt, firstRepeat}
+use Rattle.columns.specs.Between.{Entered}
 
 -- ---- lists one after another
 module _ {A : Type 0} (a : A) where

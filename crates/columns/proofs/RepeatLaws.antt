@@ -16,10 +16,12 @@ use Rattle.word.specs.Order.{same}
 use Rattle.word.specs.Word.{identity}
 use Rattle.word.specs.declared.word.Word.{Word}
 use Rattle.order.specs.Places.{isAmong}
-use Rattle.slots.specs.Slots.{lastOf, Slotted}
+use Rattle.slots.specs.Slots.{lastOf}
 use Rattle.slots.proofs.PlaceLaws.{last-among}
-use Rattle.model.specs.Tested.{firstTo}
-use Rattle.columns.specs.Repeats.{repeatsAt, firstRepeat, allZero, LaysDistinct}
+use Rattle.lent.specs.Tests.{firstTo}
+use Rattle.columns.specs.Repeats.{repeatsAt, firstRepeat}
+use Rattle.columns.specs.Between.{allZero, LaysDistinct}
+use Rattle.slots.specs.Between.{Slotted}
 
 -- ---- tables that are zero
 module _ (l : List ℕ) (i : ℕ) where

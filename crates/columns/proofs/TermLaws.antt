@@ -11,18 +11,18 @@ use borrow.Author.Tests.{lt-ltb, le-ltb, eq-eqb, ne-eqb}
 use lib.Dec.{eqb}
 use lib.Ieee.{Float}
 use lib.ListN.{length, set, length-set, length-append}
+use Rattle.word.specs.Flat.{wordLanes}
 use Rattle.word.specs.declared.word.Word.{Word}
 use Rattle.number.specs.Floats.{floats}
 use Rattle.slots.proofs.PlaceLaws.{last-inside}
 use Rattle.sums.specs.Sums as Terms
 use Rattle.sums.specs.declared.sums.Added.the-variants.{Held, Full}
-use Rattle.model.specs.Given.{Term}
-use Rattle.model.specs.Product.{termAt}
+use Rattle.model.specs.Terms.{Term, termAt}
 use Rattle.action.specs.Acts.{listed}
 use Rattle.action.proofs.ListLaws.{left, left-none, left-passed, left-listed}
 use Rattle.columns.specs.Entries.{Entry, entry, staged}
 use Rattle.columns.specs.Columns.{placeIn, columnEntries}
-use Rattle.columns.specs.Stages.{StageRoom, Lays}
+use Rattle.columns.specs.Between.{StageRoom, Lays}
 use Rattle.columns.proofs.EntryLaws.{staged-long, staged-more}
 
 module _ (bs : List Word) (column touched : ℕ) (lanes : List ℕ) (sums : List Float) (rows₀ columns₀ : List ℕ) (values₀ : List Float) (room count : ℕ) where
@@ -44,7 +44,7 @@ module _ (bs : List Word) (column touched : ℕ) (lanes : List ℕ) (sums : List
   pub term-start : count ≤ room → TermState rows₀ columns₀ values₀ count 0
   term-start h = record { rows-same = refl; columns-same = refl; values-same = refl; high = omega arith; inside = h; gives = refl }
 
-  module _ (hl : 4 * touched ≤ length lanes) (hs : 2 * touched ≤ length sums) (lent : StageRoom room rows₀ columns₀ values₀) (rows columns : List ℕ) (values : List Float) (end i : ℕ) (s : TermState rows columns values end i) where
+  module _ (hl : wordLanes * touched ≤ length lanes) (hs : 2 * touched ≤ length sums) (lent : StageRoom room rows₀ columns₀ values₀) (rows columns : List ℕ) (values : List Float) (end i : ℕ) (s : TermState rows columns values end i) where
     long : length (staged end rows columns values) ≡ end
     long =
         staged-long end rows columns values (omega (arith, s .inside, lent .rows-long, s .rows-same)) (omega (arith, s .inside, lent .columns-long, s .columns-same))

@@ -2,68 +2,13 @@
 -- SPDX-License-Identifier: Apache-2.0
 
 -- Entries staged in lent tables: what the functions that lay them ask for, answer and leave.
-use Prim.Native.Nat.{ℕ, _*_, _≤_, _<_}
-use mathlib.Core.Path.{_≡_}
-use mathlib.Core.Bool.{cond}
-use mathlib.Core.List.{List}
-use lib.Dec.{ltb}
-use lib.Ieee.{Float}
-use lib.ListN.{length}
+use Prim.Native.Nat.{ℕ}
 use Rattle.refusal.specs.declared.Answer.{Answer}
 use Rattle.refusal.specs.declared.Answer.the-variants as Tests
-use Rattle.word.specs.Flat.{words}
-use Rattle.slots.specs.Slots.{Slotted}
-use Rattle.sums.specs.declared.sums.Added.{Added}
-use Rattle.sums.specs.declared.sums.Added.the-variants.{Held, Full}
-use Rattle.model.specs.Stored.{ModelTables}
-use Rattle.model.specs.Tested.{testModel}
-use Rattle.model.specs.declared.stored.Model.{Model}
-use Rattle.rules_by_index.specs.Near.{ModelIndexed}
-use Rattle.action.specs.Counts.{AllInside}
 use Rattle.action.specs.declared.act.Acted.{Acted}
 use Rattle.action.specs.declared.act.Acted.the-variants as Acts
-use Rattle.columns.specs.Entries.{Entry, staged}
-
--- a tested model with its index, and a mask
-pub record ModelReady (m : Model) (t : ModelTables) (hIndex jIndex mask : List ℕ) : Type 0 where
-  pub tested : testModel m t ≡ Tests.Accepted
-  pub indexed : ModelIndexed m t hIndex jIndex
-  pub h-rows : 64 * m .qubits ≤ length hIndex
-  pub j-rows : 64 * m .qubits ≤ length jIndex
-  pub row : 64 ≤ length mask
-
--- a basis inside the register with its slots, its positions numbers of 32 bits
-pub record BasisReady (n : ℕ) (basis heads nexts : List ℕ) : Type 0 where
-  pub slots : Slotted (words basis) heads nexts
-  pub inside : AllInside basis n
-  pub few : length (words basis) < 4294967296
-
--- places for the words of one action
-pub record SumRoom (room : ℕ) (workWords : List ℕ) (workSums : List Float) : Type 0 where
-  pub words-long : 4 * room ≤ length workWords
-  pub sums-long : 2 * room ≤ length workSums
-
--- places for entries
-pub record StageRoom (room : ℕ) (rows columns : List ℕ) (values : List Float) : Type 0 where
-  pub rows-long : room ≤ length rows
-  pub columns-long : room ≤ length columns
-  pub values-long : room ≤ length values
-
--- Full where there are more entries than places, else how many stand
-abbrev pub answer : ℕ → List Entry → Added
-answer room E = cond (ltb room (length E)) Full (Held (length E))
-
--- what laying entries behind those that stand answers and leaves
-pub record Lays (room : ℕ) (E : List Entry) (rows columns : List ℕ) (values : List Float) (r : Added) : Type 0 where
-  pub answers : r ≡ answer room E
-  pub held : (n : ℕ) → r ≡ Held n → staged n rows columns values ≡ E
 
 -- how many entries stand where no column was refused
 abbrev pub answered : Answer → ℕ → Acted
 answered Tests.Accepted n = Acts.Listed n
 answered (Tests.Refused q) n = Acts.Refused q
-
--- what laying all columns answers and leaves
-pub record Stages (tests : Answer) (E : List Entry) (rows columns : List ℕ) (values : List Float) (r : Acted) : Type 0 where
-  pub answers : r ≡ answered tests (length E)
-  pub held : (n : ℕ) → r ≡ Acts.Listed n → staged n rows columns values ≡ E

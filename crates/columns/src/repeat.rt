@@ -9,15 +9,16 @@ ghost use mathlib.Core.Path.{_≡_};
 ghost use mathlib.Core.Bool.{true, _&&_};
 ghost use Prim.Native.Nat.{_*_, _≤_, _<_};
 ghost use lib.ListN.{length};
-ghost use Rattle.word.specs.Flat.{words};
-ghost use Rattle.slots.specs.Slots.{Slotted};
-ghost use Rattle.columns.specs.Repeats.{repeatsAt, firstRepeat, allZero, LaysDistinct};
+ghost use Rattle.word.specs.Flat.{words, wordLanes};
+ghost use Rattle.slots.specs.Between.{Slotted};
+ghost use Rattle.columns.specs.Repeats.{repeatsAt, firstRepeat};
+use lent::clear::clear_lanes;
 use slots::lay_slots;
 use slots::place_before;
-use sums::clear::clear_lanes;
 use word::flat::WORD_LANES;
 use word::flat::word_at;
 use word::word::same_word;
+ghost use Rattle.columns.specs.Between.{allZero, LaysDistinct};
 
 fn all_zero(t: &[u64]) -> bool
     ensures { λ r. ⌜ r ≡ allZero (now (t .entry)) ⌝ }
@@ -91,7 +92,7 @@ fn search_slots(lanes: &[u64], heads: &[u64], nexts: &[u64]) -> usize
 
 // From tables that are zero.
 fn lay_first(lanes: &[u64], heads: &mut [u64], nexts: &mut [u64]) -> usize
-    requires { ⌜ (4 * length (now nexts) ≡ length (now lanes)) × (length (now nexts) ≤ length (now heads)) × ((allZero (now heads) && allZero (now nexts)) ≡ true) ⌝ }
+    requires { ⌜ (wordLanes * length (now nexts) ≡ length (now lanes)) × (length (now nexts) ≤ length (now heads)) × ((allZero (now heads) && allZero (now nexts)) ≡ true) ⌝ }
     ensures { λ r. ⌜ LaysDistinct (words (now (lanes .entry))) (now (heads .entry)) (now (nexts .entry)) (now (heads .exit)) (now (nexts .exit)) r ⌝ }
 {
     lay_slots(lanes, heads, nexts);
@@ -107,7 +108,7 @@ fn lay_first(lanes: &[u64], heads: &mut [u64], nexts: &mut [u64]) -> usize
 // The first position whose word came before, with heads and nexts as they were; or the number of words,
 // with the slots laid.
 pub fn lay_distinct(lanes: &[u64], heads: &mut [u64], nexts: &mut [u64]) -> usize
-    requires { ⌜ (4 * length (now nexts) ≡ length (now lanes)) × (length (now nexts) ≤ length (now heads)) ⌝ }
+    requires { ⌜ (wordLanes * length (now nexts) ≡ length (now lanes)) × (length (now nexts) ≤ length (now heads)) ⌝ }
     ensures { λ r. ⌜ LaysDistinct (words (now (lanes .entry))) (now (heads .entry)) (now (nexts .entry)) (now (heads .exit)) (now (nexts .exit)) r ⌝ }
 {
     let zero = both_zero(heads, nexts);

@@ -5,17 +5,17 @@
 // room, so that entries cannot be written there at once.
 ghost use Prim.Native.Nat.{_/_, _<_};
 ghost use lib.ListN.{length};
-ghost use Rattle.word.specs.Flat.{words};
-ghost use Rattle.model.specs.Stored.{tables};
+ghost use Rattle.word.specs.Flat.{words, wordLanes};
+ghost use Rattle.model.specs.Between.{modelTables};
+ghost use Rattle.columns.specs.Between.{ModelReady, BasisReady, SumRoom, StageRoom, Stages};
 ghost use Rattle.columns.specs.Columns.{generatorOf, generatorRoom};
-ghost use Rattle.columns.specs.Stages.{ModelReady, BasisReady, SumRoom, StageRoom, Stages};
 use crate::terms::stage_terms;
 use action::act::Acted;
-use action::act::LIST_TABLE;
-use action::act::SUMS_TABLE;
-use rules_by_index::near::put_rules_near;
+use lent::sizes::LIST_TABLE;
+use lent::sizes::SUMS_TABLE;
 use model::stored::Model;
 use refusal::Refusal;
+use rules_by_index::near::put_rules_near;
 use sums::sums::Added;
 use word::flat::WORD_LANES;
 use word::flat::word_at;
@@ -43,8 +43,8 @@ pub fn stage_columns(
     values: &mut [f64],
     entry_room: usize,
 ) -> Acted
-    requires { ⌜ (0 < length (now basis) / 4 → ModelReady m (tables (now «h_words») (now «h_coeffs») (now jumps) (now rates) (now «t_words») (now «t_numbers»)) (now «h_index») (now «j_index») (now mask)) × BasisReady (m .qubits) (now basis) (now heads) (now nexts) × SumRoom «sum_room» (now «work_words») (now «work_sums») × StageRoom «entry_room» (now rows) (now columns) (now values) ⌝ }
-    ensures { λ r. ⌜ Stages (generatorRoom m (tables (now («h_words» .entry)) (now («h_coeffs» .entry)) (now (jumps .entry)) (now (rates .entry)) (now («t_words» .entry)) (now («t_numbers» .entry))) (words (now (basis .entry))) «sum_room» «entry_room») (generatorOf m (tables (now («h_words» .entry)) (now («h_coeffs» .entry)) (now (jumps .entry)) (now (rates .entry)) (now («t_words» .entry)) (now («t_numbers» .entry))) (words (now (basis .entry)))) (now (rows .exit)) (now (columns .exit)) (now (values .exit)) r ⌝ }
+    requires { ⌜ (0 < length (now basis) / wordLanes → ModelReady m (modelTables (now «h_words») (now «h_coeffs») (now jumps) (now rates) (now «t_words») (now «t_numbers»)) (now «h_index») (now «j_index») (now mask)) × BasisReady (m .qubits) (now basis) (now heads) (now nexts) × SumRoom «sum_room» (now «work_words») (now «work_sums») × StageRoom «entry_room» (now rows) (now columns) (now values) ⌝ }
+    ensures { λ r. ⌜ Stages (generatorRoom m (modelTables (now («h_words» .entry)) (now («h_coeffs» .entry)) (now (jumps .entry)) (now (rates .entry)) (now («t_words» .entry)) (now («t_numbers» .entry))) (words (now (basis .entry))) «sum_room» «entry_room») (generatorOf m (modelTables (now («h_words» .entry)) (now («h_coeffs» .entry)) (now (jumps .entry)) (now (rates .entry)) (now («t_words» .entry)) (now («t_numbers» .entry))) (words (now (basis .entry)))) (now (rows .exit)) (now (columns .exit)) (now (values .exit)) r ⌝ }
 {
     let len = basis.len() / WORD_LANES;
     let mut end = 0;

@@ -5,14 +5,14 @@
 ghost use mathlib.Core.List.{_++_};
 ghost use Prim.Native.Nat.{_*_, _≤_, _<_};
 ghost use lib.ListN.{length};
-ghost use Rattle.word.specs.Flat.{words};
-ghost use Rattle.slots.specs.Slots.{Slotted};
+ghost use Rattle.word.specs.Flat.{words, wordLanes};
+ghost use Rattle.slots.specs.Between.{Slotted};
 ghost use Rattle.sums.specs.Sums.{sumRows};
 ghost use Rattle.action.specs.Acts.{listed};
 ghost use Rattle.columns.specs.Entries.{staged};
 ghost use Rattle.columns.specs.Columns.{columnEntries};
-ghost use Rattle.columns.specs.Stages.{StageRoom, Lays};
-use model::product::term_at;
+ghost use Rattle.columns.specs.Between.{StageRoom, Lays};
+use model::term::term_at;
 use number::scalar::is_zero;
 use slots::last_place;
 use sums::sums::Added;
@@ -33,7 +33,7 @@ pub fn stage_terms(
     room: usize,
     count: usize,
 ) -> Added
-    requires { ⌜ (4 * touched ≤ length (now «sum_words»)) × (2 * touched ≤ length (now sums)) × Slotted (words (now basis)) (now heads) (now nexts) × (length (words (now basis)) < 4294967296) × (column < 4294967296) × StageRoom room (now rows) (now columns) (now values) × (count ≤ room) ⌝ }
+    requires { ⌜ (wordLanes * touched ≤ length (now «sum_words»)) × (2 * touched ≤ length (now sums)) × Slotted (words (now basis)) (now heads) (now nexts) × (length (words (now basis)) < 4294967296) × (column < 4294967296) × StageRoom room (now rows) (now columns) (now values) × (count ≤ room) ⌝ }
     ensures { λ r. ⌜ Lays room (staged count (now (rows .entry)) (now (columns .entry)) (now (values .entry)) ++ columnEntries (words (now (basis .entry))) column (listed (sumRows touched (now («sum_words» .entry)) (now (sums .entry))))) (now (rows .exit)) (now (columns .exit)) (now (values .exit)) r ⌝ }
 {
     let mut end = count;

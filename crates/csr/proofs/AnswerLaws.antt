@@ -16,9 +16,9 @@ use Rattle.refusal.specs.declared.Refusal.the-variants.{SumNotFinite}
 use Rattle.refusal.specs.declared.Answer.{Answer}
 use Rattle.refusal.specs.declared.Answer.the-variants.{Accepted, Refused}
 use Rattle.number.specs.Floats.{float0}
-use Rattle.model.specs.Tested.{firstTo}
-use Rattle.model.proofs.Firsts.{NoneBefore, first-before, first-none, first-inside}
-use Rattle.truncate.specs.Tests.{notFinite}
+use Rattle.lent.specs.Tests.{firstTo}
+use Rattle.lent.proofs.Firsts.{NoneBefore, first-before, first-none, first-inside}
+use Rattle.lent.specs.Numbers.{notFinite}
 use Rattle.csr.specs.Products.{Multiplying, product, lengthTests, tableTests, tested, finished, multiply}
 use Rattle.csr.specs.Walks.{Ready, fullProduct, rowStops, Walked, Quick}
 use Rattle.csr.proofs.CheckLaws.{lengths-then, lengths-agree, Sound, sound-accepted, accepted-sound}

@@ -16,13 +16,12 @@ use Rattle.refusal.specs.declared.Refusal.{Refusal}
 use Rattle.refusal.specs.declared.Refusal.the-variants.{CountAboveLimit, LengthMismatch, NumberOutOfRange}
 use Rattle.refusal.specs.declared.Answer.{Answer}
 use Rattle.refusal.specs.declared.Answer.the-variants.{Accepted, Refused}
-use Rattle.model.specs.Tested.{lent, firstTo, entries}
-use Rattle.model.specs.Built.{andThen, equal}
-use Rattle.model.proofs.Firsts.{NoneBefore, first-none, first-before}
-use Rattle.model.proofs.TestOrder.{entries-refused, entries-passed}
-use Rattle.model.proofs.BuildLaws.{equal-passed, lent-passed, counted-passed}
-use Rattle.action.specs.Counts.{maxWords}
-use Rattle.truncate.specs.Tests.{notFinite}
+use Rattle.lent.specs.Tests.{lent, firstTo, entries, andThen, equal}
+use Rattle.lent.proofs.Firsts.{NoneBefore, first-none, first-before}
+use Rattle.lent.proofs.OneTest.{entries-refused, entries-passed}
+use Rattle.lent.proofs.Passed.{equal-passed, lent-passed, counted-passed}
+use Rattle.lent.specs.Words.{maxWords}
+use Rattle.lent.specs.Numbers.{notFinite}
 use Rattle.csr.specs.Lent.{badOffset, badColumn, rowsTests, placesTests}
 use Rattle.csr.specs.Products.{lengthTests, tableTests}
 

@@ -13,9 +13,9 @@ use borrow.Author.Tests.{eq-eqb, ne-eqb, lt-ltb, le-ltb, le-leb, lt-leb}
 use lib.Dec.{eqb, ltb, leb}
 use lib.ListN.{getD, length}
 use Rattle.word.proofs.Sums.{any-none}
-use Rattle.model_laws.proofs.StandsLaws.{any-one}
-use Rattle.model.specs.Tested.{firstTo}
-use Rattle.model.proofs.Firsts.{NoneBefore, first-before, first-passes, first-here, first-none}
+use Rattle.word.proofs.CountLaws.{any-one}
+use Rattle.lent.specs.Tests.{firstTo}
+use Rattle.lent.proofs.Firsts.{NoneBefore, first-before, first-passes, first-here, first-none}
 use Rattle.csr.specs.Rows.{partOf}
 use Rattle.csr.specs.Lent.{rowStarts, badColumn}
 use Rattle.csr.specs.Walks.{leastAt, misplaced, badPlace}

@@ -16,10 +16,9 @@ use lib.ListN.{getD, length, replicate}
 use Rattle.refusal.specs.declared.Answer.{Answer}
 use Rattle.refusal.specs.declared.Answer.the-variants.{Accepted, Refused}
 use Rattle.number.specs.Floats.{float0}
-use Rattle.model.specs.Tested.{firstTo}
-use Rattle.model.specs.Built.{andThen}
-use Rattle.model.proofs.Firsts.{NoneBefore, first-before}
-use Rattle.truncate.specs.Tests.{notFinite}
+use Rattle.lent.specs.Tests.{firstTo, andThen}
+use Rattle.lent.proofs.Firsts.{NoneBefore, first-before}
+use Rattle.lent.specs.Numbers.{notFinite}
 use Rattle.csr.specs.Rows.{rowAt, partOf, rowOf}
 use Rattle.csr.specs.Products.{RowEntry, beside, rowEntries, rowSum, storedAt, product, lengthTests, tableTests, Multiplying, tested, finished, multiply}
 use Rattle.csr.specs.declared.rows.Row.{Row}
@@ -27,7 +26,7 @@ use Rattle.csr.proofs.RowLaws.{row-is, part-length, part-at}
 use Rattle.csr.proofs.SumLaws.{beside-length, beside-at}
 use Rattle.csr.proofs.OffsetLaws.{Rising, rising, offset-inside}
 use Rattle.csr.proofs.CheckLaws.{accepts, lengths-then, Agree, lengths-agree, Sound, accepted-sound}
-use Rattle.rules_by_index.proofs.IndexLaws.{items-at}
+use Rattle.word.proofs.CountLaws.{items-at}
 
 beside-columns : (cs : List ℕ) (vs : List Float) → length vs ≡ length cs → map (λ (e : RowEntry). e .column) (beside cs vs) ≡ cs
 unfolding beside

@@ -11,7 +11,7 @@ use native.Mathlib.Decide.{ℕ-discrete, decLt}
 use borrow.Author.Tests.{eq-eqb, ne-eqb, lt-ltb, le-ltb, ltb-false, eqb-true, eqb-false}
 use lib.Dec.{eqb, ltb}
 use lib.ListN.{getD}
-use Rattle.model.proofs.Firsts.{NoneBefore}
+use Rattle.lent.proofs.Firsts.{NoneBefore}
 use Rattle.csr.specs.Lent.{offsetFails, badOffset}
 
 -- ---- one offset, test by test

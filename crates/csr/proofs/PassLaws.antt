@@ -14,11 +14,11 @@ use lib.Ieee.{Float, nan, binary64, add}
 use lib.ListN.{getD, length, drop, replicate}
 use lib.Seq.{ext-getD}
 use Rattle.number.specs.Floats.{float0, isFinite}
-use Rattle.model.specs.Tested.{firstTo}
-use Rattle.model.proofs.Firsts.{NoneBefore, first-inside, first-before, first-none, first-cong}
-use Rattle.rules_by_scan.specs.Adds.{upTo}
-use Rattle.rules_by_index.proofs.IndexLaws.{items-length, items-at}
-use Rattle.truncate.specs.Tests.{notFinite}
+use Rattle.lent.specs.Tests.{firstTo}
+use Rattle.lent.proofs.Firsts.{NoneBefore, first-inside, first-before, first-none, first-cong}
+use Rattle.lent.specs.Numbers.{notFinite}
+use Rattle.word.specs.Count.{upTo}
+use Rattle.word.proofs.CountLaws.{items-length, items-at}
 use Rattle.csr.specs.Rows.{partOf}
 use Rattle.csr.specs.Lent.{badColumn}
 use Rattle.csr.specs.Products.{beside, rowEntries, storedAt, product}

@@ -15,8 +15,8 @@ use Rattle.refusal.specs.declared.Refusal.{Refusal}
 use Rattle.refusal.specs.declared.Refusal.the-variants.{NumberOutOfRange}
 use Rattle.refusal.specs.declared.Answer.{Answer}
 use Rattle.refusal.specs.declared.Answer.the-variants.{Accepted, Refused}
-use Rattle.model.specs.Built.{andThen}
-use Rattle.model.proofs.BuildLaws.{both}
+use Rattle.lent.specs.Tests.{andThen}
+use Rattle.lent.proofs.Passed.{both}
 use Rattle.csr.specs.Lent.{badOffset, rowsTests, placesTests}
 use Rattle.csr.specs.Rows.{rowAt, rowOf, rowTests, readAs, readRow}
 use Rattle.csr.specs.declared.rows.Row.{Row}

@@ -16,7 +16,7 @@ use lib.ListN.{getD, length, take}
 use lib.Seq.{take-suc, take-all}
 use Rattle.number.specs.Floats.{float0, isFinite}
 use Rattle.number.proofs.ZeroLaws.{isMinusZero, add-not-minus, adds-nothing}
-use Rattle.model.proofs.Firsts.{NoneBefore, none-start, none-more, first-here, first-none}
+use Rattle.lent.proofs.Firsts.{NoneBefore, none-start, none-more, first-here, first-none}
 use Rattle.csr.specs.Products.{RowEntry, beside, addEntry, addEntries, rowSum}
 use Rattle.csr.specs.Walks.{misplaced, badPlace, addProduct, addProducts, fullSum, RowWalked}
 use Rattle.csr.proofs.NumberLaws.{mul-finite, add-finite}

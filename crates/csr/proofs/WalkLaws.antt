@@ -13,10 +13,10 @@ use lib.Ieee.{Float, nan, binary64, add}
 use lib.ListN.{getD, length, take, drop, set, length-append, length-drop}
 use lib.Seq.{length-take-le}
 use Rattle.number.specs.Floats.{isFinite}
-use Rattle.model.specs.Tested.{firstTo}
-use Rattle.model.proofs.Firsts.{NoneBefore, none-start, none-more, first-here, first-none, first-inside}
-use Rattle.keep.proofs.WriteLaws.{written-more}
-use Rattle.rules_by_index.proofs.IndexLaws.{items-length, items-at}
+use Rattle.lent.specs.Tests.{firstTo}
+use Rattle.lent.proofs.Firsts.{NoneBefore, none-start, none-more, first-here, first-none, first-inside}
+use Rattle.lent.proofs.WriteLaws.{written-more}
+use Rattle.word.proofs.CountLaws.{items-length, items-at}
 use Rattle.csr.specs.Rows.{rowAt, partOf, rowOf}
 use Rattle.csr.specs.Products.{rowEntries}
 use Rattle.csr.specs.Walks.{badPlace, fullSum, RowWalked, rowPasses, fullAt, fullProduct, rowStops, Walked}

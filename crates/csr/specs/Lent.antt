@@ -9,9 +9,8 @@ use lib.Dec.{eqb, ltb, leb}
 use lib.ListN.{getD, length}
 use Rattle.refusal.specs.declared.Answer.{Answer}
 use Rattle.word.specs.Count.{anyTo}
-use Rattle.model.specs.Tested.{counted, entries}
-use Rattle.model.specs.Built.{equal}
-use Rattle.action.specs.Counts.{maxWords}
+use Rattle.lent.specs.Tests.{counted, entries, equal}
+use Rattle.lent.specs.Words.{maxWords}
 
 -- ---- what may stand in the tables
 -- offsets: the first 0, none below the one before it, the last the count of entries

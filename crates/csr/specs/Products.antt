@@ -13,10 +13,9 @@ use Rattle.refusal.specs.declared.Refusal.the-variants.{SumNotFinite}
 use Rattle.refusal.specs.declared.Answer.{Answer}
 use Rattle.refusal.specs.declared.Answer.the-variants.{Accepted, Refused}
 use Rattle.number.specs.Floats.{float0}
-use Rattle.model.specs.Tested.{lent, firstTo, entries}
-use Rattle.model.specs.Built.{equal}
-use Rattle.rules_by_scan.specs.Adds.{upTo}
-use Rattle.truncate.specs.Tests.{notFinite}
+use Rattle.lent.specs.Tests.{lent, firstTo, entries, equal}
+use Rattle.lent.specs.Numbers.{notFinite}
+use Rattle.word.specs.Count.{upTo}
 use Rattle.csr.specs.Lent.{rowsTests, placesTests}
 use Rattle.csr.specs.Rows.{rowAt, partOf, rowOf}
 

@@ -1,8 +1,7 @@
 -- SPDX-FileCopyrightText: 2026 The PPVM Authors
 -- SPDX-License-Identifier: Apache-2.0
 
--- The one walk of the product: it passes a row where all is well, and stops at the first where anything is amiss. It skips no zero: a
--- value that is not finite shows in the sum then, and where all are finite the sum is the same.
+-- Contracts between functions: the one walk of the product. It passes a row where all is well, and stops at the first where anything is amiss. It skips no zero.
 use Prim.Native.Nat.{ℕ, zero, suc, _+_}
 use mathlib.Core.Path.{_≡_}
 use mathlib.Core.Bool.{Bool, true, false, not, _&&_, _||_, cond}
@@ -12,9 +11,9 @@ use lib.Ieee.{Float, nan, inf, fin, binary64, add, mul}
 use lib.IntN.{pos, negsuc}
 use lib.ListN.{getD, length, take, drop}
 use Rattle.number.specs.Floats.{float0, isFinite}
-use Rattle.model.specs.Tested.{firstTo}
-use Rattle.truncate.specs.Tests.{notFinite}
-use Rattle.rules_by_scan.specs.Adds.{upTo}
+use Rattle.lent.specs.Tests.{firstTo}
+use Rattle.lent.specs.Numbers.{notFinite}
+use Rattle.word.specs.Count.{upTo}
 use Rattle.csr.specs.Rows.{rowOf}
 use Rattle.refusal.specs.declared.Answer.the-variants.{Accepted}
 use Rattle.csr.specs.Products.{RowEntry, beside, rowEntries, tableTests, product}

@@ -14,10 +14,10 @@ use crate::check::check_tables;
 use crate::sums::sum_rows;
 use crate::work::first_not_clear;
 use crate::work::store;
-use truncate::tests::first_not_finite;
+use lent::clear::clear_numbers;
+use lent::numbers::first_not_finite;
 use refusal::Answer;
 use refusal::Refusal;
-use sums::clear::clear_numbers;
 
 // Whether the numbers of the short tables are as the one walk asks.
 fn are_ready(input: &[f64], overwrite: bool, output: &[f64], work: &[f64]) -> bool

@@ -6,9 +6,9 @@ ghost use mathlib.Core.Path.{_≡_};
 ghost use Prim.Native.Nat.{_≤_};
 ghost use lib.ListN.{length, replicate, take};
 ghost use Rattle.number.specs.Floats.{float0};
-ghost use Rattle.model.specs.Tested.{firstTo};
+ghost use Rattle.lent.specs.Tests.{firstTo};
 ghost use Rattle.csr.specs.Walks.{isClear, notClear};
-use sums::clear::clear_numbers;
+use lent::clear::clear_numbers;
 
 // Whether x is +0.0: a work place that is so can be made so again.
 fn is_clear(x: f64) -> bool

@@ -13,7 +13,7 @@ use denote.Floats.{is-true}
 use lib.Ieee.{Float, nan, binary64, le}
 use lib.ListN.{length, getD, take, replicate, length-append, length-replicate}
 use lib.Seq.{take-at, take-all, length-take-le}
-use Rattle.word.specs.Flat.{words}
+use Rattle.word.specs.Flat.{words, wordLanes}
 use Rattle.word.specs.declared.word.Word.{Word}
 use Rattle.word.proofs.FlatLaws.{words-high, words-low}
 use Rattle.number.specs.Floats.{float0, isFinite, magnitude}
@@ -130,16 +130,16 @@ module _ (c : AdmitCall) (ok : Accepted (c .answer .status)) where
   abbrev new : List Word
   new = picked (length (c .values)) (admittedBy c) (c .list)
 
-  new-count : length new ≡ min (c .limit - c .len) (length (c .list) / 4)
+  new-count : length new ≡ min (c .limit - c .len) (length (c .list) / wordLanes)
   new-count = appended-count (c .len) (c .lanes) (c .coeffs) (c .list) (c .values) (c .order) (c .work) (c .kept) (c .qubits) (c .limit) (c .answer .entries) admit-answer
 
   entries-are : c .answer .entries ≡ c .len + length new
   entries-are = length-after (c .len) (c .lanes) (c .coeffs) (c .list) (c .values) (c .order) (c .work) (c .kept) (c .qubits) (c .limit) (c .answer .entries) admit-answer
 
-  lent : (4 * c .len ≤ length (c .lanes)) × (c .len ≤ length (c .coeffs))
+  lent : (wordLanes * c .len ≤ length (c .lanes)) × (c .len ≤ length (c .coeffs))
   lent = admit-lent (c .len) (c .lanes) (c .coeffs) (c .list) (c .values) (c .order) (c .work) (c .kept) (c .qubits) (c .limit) (c .answer .entries) admit-answer
 
-  listed-each : length (c .list) / 4 ≡ length (c .values)
+  listed-each : length (c .list) / wordLanes ≡ length (c .values)
   listed-each = sym (admit-each (c .len) (c .lanes) (c .coeffs) (c .list) (c .values) (c .order) (c .work) (c .kept) (c .qubits) (c .limit) (c .answer .entries) admit-answer)
 
   -- all listed words

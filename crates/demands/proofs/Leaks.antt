@@ -26,7 +26,7 @@ use Rattle.action.specs.declared.act.Acted.the-variants.{Listed}
 use Rattle.passes.specs.Leaks.{sumsOf, passSize, passCount}
 use Rattle.leakage.specs.Leakages.{Leaking, tauOf, leak}
 use Rattle.truncate_laws.proofs.LosesLaws.{number-of}
-use Rattle.leakage_laws.specs.Members.{Member}
+use Rattle.order.specs.Members.{Member}
 use Rattle.leakage_laws.specs.Calls.{roomOf, stayAfter, heldIn, listOf, listedBy, SameBasis, Looser}
 use Rattle.leakage_laws.specs.Calls as Leak
 use Rattle.leakage_laws.proofs.KeepLaws.{member-fits, member-finite, above-of}

@@ -29,16 +29,17 @@ use Rattle.number.specs.Floats.{floats, float0}
 use Rattle.gksl.specs.Model.{RealTerm, JumpOver}
 use Rattle.gksl.specs.Words.{pauli}
 use Rattle.model.specs.Stored.{ModelTables}
-use Rattle.model.specs.Given.{Term, Read, got, refused}
-use Rattle.model.specs.Tested.{maxHamiltonian, maxJumps, counted, firstTo, testModel}
-use Rattle.model.specs.Compiled.{Compiled, compileJump}
-use Rattle.model.specs.Laid.{laid}
-use Rattle.model.specs.Built as Building
+use Rattle.model.specs.Terms.{Term}
+use Rattle.lent.specs.Read.{Read, got, refused}
+use Rattle.lent.specs.Laid.{laid}
+use Rattle.model.specs.Tested.{maxHamiltonian, maxJumps, testModel}
+use Rattle.model_build.specs.Compiled.{Compiled, compileJump}
+use Rattle.model_build.specs.Built as Building
 use Rattle.model.specs.declared.stored.Model.{Model}
-use Rattle.model.specs.declared.spec.Built.{Built}
-use Rattle.model.specs.declared.spec.Built.the-variants as Built
-use Rattle.kossakowski.specs.Pairs.{pairsOf}
-use Rattle.kossakowski.specs.Added as Adding
+use Rattle.model_build.specs.declared.spec.Built.{Built}
+use Rattle.model_build.specs.declared.spec.Built.the-variants as Built
+use Rattle.k_matrix.specs.Pairs.{pairsOf}
+use Rattle.k_matrix.specs.Added as Adding
 use Rattle.keep.specs.Retained.{flagged, retainedLanes, retainedNumbers}
 use Rattle.keep.specs.Admitted.{appendedLanes, appendedZeros, picked}
 use Rattle.action.specs.Acts as Acts
@@ -46,7 +47,8 @@ use Rattle.action.specs.declared.act.Acted.{Acted}
 use Rattle.action.specs.declared.act.Acted.the-variants as Acted
 use Rattle.action.specs.declared.count.Counted.{Counted}
 use Rattle.action.specs.declared.count.Counted.the-variants as Counted
-use Rattle.truncate.specs.Tests.{notFinite}
+use Rattle.lent.specs.Tests.{counted, firstTo}
+use Rattle.lent.specs.Numbers.{notFinite}
 use Rattle.truncate.specs.Prunes as Prunes
 use Rattle.truncate.specs.Admissions as Admissions
 use Rattle.truncate.specs.declared.kept.Kept.{Kept}

@@ -3,7 +3,7 @@
 
 -- The exported calls that are lent tables to write: what each was lent, what it answered, and what the lent tables hold afterwards,
 -- which is what its contract says. A primed name is the table afterwards. A number that is given is one that an f64 can hold, and a
--- word has two lanes of 64 bits for x and two for z.
+-- word has lanes of 64 bits, as many for x as for z.
 use Prim.Native.Nat.{ℕ, _<_}
 use mathlib.Core.Path.{_≡_}
 use mathlib.Core.Bool.{Bool, true}
@@ -16,9 +16,9 @@ use Rattle.word.specs.Word.{Sound}
 use Rattle.word.specs.declared.word.Word.{Word}
 use Rattle.number.specs.Floats.{isFinite}
 use Rattle.model.specs.Stored.{ModelTables}
-use Rattle.model.specs.Built as Building
+use Rattle.model_build.specs.Built as Building
 use Rattle.model.specs.declared.stored.Model.{Model}
-use Rattle.kossakowski.specs.Added as Adding
+use Rattle.k_matrix.specs.Added as Adding
 use Rattle.action.specs.Acts.{act}
 use Rattle.truncate.specs.Prunes.{prune, cap}
 use Rattle.truncate.specs.Admissions.{admit}

@@ -30,10 +30,10 @@ use Rattle.number.specs.Floats.{floats, float0, magnitude}
 use Rattle.gksl.specs.Model.{ModelOver}
 use Rattle.gksl.specs.Words.{pauli}
 use Rattle.model.specs.Stored.{ModelTables}
-use Rattle.model.specs.Built as Building
+use Rattle.model_build.specs.Built as Building
 use Rattle.model.specs.declared.stored.Model.{Model}
-use Rattle.model.specs.declared.spec.Built.the-variants as Built
-use Rattle.kossakowski.specs.Added as Adding
+use Rattle.model_build.specs.declared.spec.Built.the-variants as Built
+use Rattle.k_matrix.specs.Added as Adding
 use Rattle.keep.specs.Retained.{pick, flagged}
 use Rattle.action.specs.Acts.{actionOf, Acting, act}
 use Rattle.action.specs.Counts.{Counting}
@@ -79,7 +79,7 @@ use Rattle.action_laws.specs.WholeModel.{WholeModel}
 use Rattle.action_laws.specs.Exact.{listIn, ListsGenerator}
 use Rattle.truncate_laws.specs.Keeps.{prunedFlags, cappedFlags, Flagged}
 use Rattle.truncate_laws.specs.Keeps as Flags
-use Rattle.leakage_laws.specs.Members.{Member}
+use Rattle.order.specs.Members.{Member}
 use Rattle.leakage_laws.specs.Calls.{basisWords, basisCoeffs, roomOf, stayAfter, heldIn, listOf, SameBasis, Looser, TauBelowZero, RoomForAll}
 use Rattle.leakage_laws.specs.Calls as Leak
 use Rattle.generator_laws.specs.Matrices.{Lists, InRow, Grown, Unchanged}

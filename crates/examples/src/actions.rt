@@ -4,13 +4,14 @@
 // The action of a model of two qubits on a word, printed word by word.
 use crate::print;
 use model::stored::Model;
+use word::flat::WORD_LANES;
 use word::flat::word_at;
 
 // The places of the work tables and of the list: more than these small models need.
 const PLACES: usize = 8;
 
 fn print_entry(words: &[u64], i: usize, value: f64) {
-    if i < words.len() / 4 {
+    if i < words.len() / WORD_LANES {
         print::word(word_at(words, i), 2);
         print::text(b" ");
         print::value(value);
@@ -43,9 +44,9 @@ pub fn print_action(
     text: &[u8],
 ) {
     let parsed = pebblelinen::words::pebblelinen_parse_pauli_string(text, 2);
-    let mut work_words = [0u64; 4 * PLACES];
+    let mut work_words = [0u64; WORD_LANES * PLACES];
     let mut work_sums = [0f64; 2 * PLACES];
-    let mut out_words = [0u64; 4 * PLACES];
+    let mut out_words = [0u64; WORD_LANES * PLACES];
     let mut out_values = [0f64; PLACES];
     let listed = pebblelinen::actions::pebblelinen_compute_action_terms(
         model,

@@ -7,6 +7,7 @@ use crate::print;
 use model::stored::Model;
 use pebblelinen::actions::ListedWords;
 use pebblelinen::norms::Partition;
+use word::flat::WORD_LANES;
 
 // Two entries in each of four columns.
 const ENTRIES: usize = 8;
@@ -33,7 +34,7 @@ fn generate(rows: &mut [u32], columns: &mut [u32], values: &mut [f64]) -> Listed
     let mut mask = [0u64; 64];
     let mut heads = [0u64; 8];
     let mut nexts = [0u64; 4];
-    let mut work_words = [0u64; 16];
+    let mut work_words = [0u64; WORD_LANES * 4];
     let mut work_sums = [0f64; 8];
     let mut stage_rows = [0u32; ENTRIES];
     let mut stage_columns = [0u32; ENTRIES];
@@ -73,7 +74,7 @@ fn build_rows(offsets: &mut [u64], columns: &mut [u32], values: &mut [f64]) -> L
     let mut mask = [0u64; 64];
     let mut heads = [0u64; 8];
     let mut nexts = [0u64; 4];
-    let mut work_words = [0u64; 16];
+    let mut work_words = [0u64; WORD_LANES * 4];
     let mut work_sums = [0f64; 8];
     let mut stage_rows = [0u32; ENTRIES];
     let mut stage_columns = [0u32; ENTRIES];
@@ -112,7 +113,7 @@ fn partition(dt: f64) -> Partition {
     let mut h_index = [0u64; 128];
     let mut j_index = [0u64; 128];
     let mut mask = [0u64; 64];
-    let mut work_words = [0u64; 16];
+    let mut work_words = [0u64; WORD_LANES * 4];
     let mut work_sums = [0f64; 8];
     let mut raws = [0f64; 4];
     let mut diags = [0f64; 4];

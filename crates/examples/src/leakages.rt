@@ -7,6 +7,7 @@ use crate::print;
 use leakage::limits::Limits;
 use model::stored::Model;
 use pebblelinen::actions::ListedWords;
+use word::flat::WORD_LANES;
 
 // The words that leaked, or the refusal.
 fn print_listed(answer: ListedWords, words: &[u64], values: &[f64]) {
@@ -42,18 +43,18 @@ fn leak(
     let mut h_index = [0u64; 128];
     let mut j_index = [0u64; 128];
     let mut mask = [0u64; 64];
-    let mut work_words = [0u64; 16];
+    let mut work_words = [0u64; WORD_LANES * 4];
     let mut work_sums = [0f64; 8];
     let mut order = [0u64; 2];
     let mut heads = [0u64; 4];
     let mut nexts = [0u64; 2];
     let mut fixed_heads = [0u64; 2];
     let mut fixed_nexts = [0u64; 1];
-    let mut log_words = [0u64; 16];
+    let mut log_words = [0u64; WORD_LANES * 4];
     let mut log_values = [0f64; 4];
-    let mut cand_words = [0u64; 16];
+    let mut cand_words = [0u64; WORD_LANES * 4];
     let mut cand_sums = [0f64; 4];
-    let mut next_words = [0u64; 16];
+    let mut next_words = [0u64; WORD_LANES * 4];
     let mut next_sums = [0f64; 4];
     let mut place_order = [0u64; 4];
     let mut place_work = [0u64; 4];
@@ -96,7 +97,7 @@ fn leak(
 }
 
 fn print_leakage(coeffs: &[f64], protected: &[u64], limits: Limits) {
-    let mut out_words = [0u64; 16];
+    let mut out_words = [0u64; WORD_LANES * 4];
     let mut out_values = [0f64; 4];
     let listed = leak(coeffs, protected, limits, &mut out_words, &mut out_values);
     print_listed(listed, &out_words, &out_values);

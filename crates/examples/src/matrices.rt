@@ -7,6 +7,7 @@ use crate::models;
 use crate::print;
 use model::stored::Model;
 use pebblelinen::models::BuiltModel;
+use word::flat::WORD_LANES;
 
 // Adds the matrix K over the operators XI and IX to a model of two qubits without items.
 fn add(
@@ -51,9 +52,9 @@ fn add(
 fn print_matrix(k: &[f64]) {
     let mut jumps = [0u64; 24];
     let mut rates = [0f64; 3];
-    let mut t_words = [0u64; 32];
+    let mut t_words = [0u64; WORD_LANES * 8];
     let mut t_numbers = [0f64; 16];
-    let mut work_words = [0u64; 1032];
+    let mut work_words = [0u64; WORD_LANES * 258];
     let mut work_numbers = [0f64; 516];
     let added = add(
         k,

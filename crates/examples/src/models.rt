@@ -6,6 +6,7 @@ use crate::actions::print_action;
 use crate::print;
 use pebblelinen::models::BuiltModel;
 use refusal::Status;
+use word::flat::WORD_LANES;
 
 fn print_status(status: Status) {
     if status.refusal != 0 {
@@ -81,13 +82,13 @@ fn print_sizes() {
 
 // The model, tested, and its action on a word.
 fn accepted() {
-    let mut h_words = [0u64; 4];
+    let mut h_words = [0u64; WORD_LANES];
     let mut h_coeffs = [0f64; 1];
     let mut jumps = [0u64; 16];
     let mut rates = [0f64; 2];
-    let mut t_words = [0u64; 48];
+    let mut t_words = [0u64; WORD_LANES * 12];
     let mut t_numbers = [0f64; 24];
-    let mut work_words = [0u64; 1088];
+    let mut work_words = [0u64; WORD_LANES * 272];
     let mut work_numbers = [0f64; 544];
     let built = build(
         &[0.25, 1.0],
@@ -126,13 +127,13 @@ fn accepted() {
 
 // The same with these rates, in so many lanes of a terms table.
 fn print_refused(given: &[f64], lanes: usize) {
-    let mut h_words = [0u64; 4];
+    let mut h_words = [0u64; WORD_LANES];
     let mut h_coeffs = [0f64; 1];
     let mut jumps = [0u64; 16];
     let mut rates = [0f64; 2];
-    let mut t_words = [0u64; 48];
+    let mut t_words = [0u64; WORD_LANES * 12];
     let mut t_numbers = [0f64; 24];
-    let mut work_words = [0u64; 1088];
+    let mut work_words = [0u64; WORD_LANES * 272];
     let mut work_numbers = [0f64; 544];
     if lanes <= 48 {
         print_built(build(

@@ -14,24 +14,25 @@ use Rattle.refusal.specs.declared.Answer.{Answer}
 use Rattle.refusal.specs.declared.Answer.the-variants as Tests
 use Rattle.word.specs.declared.word.Word.{Word}
 use Rattle.model.specs.Stored.{ModelTables}
-use Rattle.model.specs.Tested.{lent}
-use Rattle.model.specs.Built.{andThen}
+use Rattle.lent.specs.Tests.{lent, andThen}
+use Rattle.lent.proofs.Passed.{both, lent-passed}
+use Rattle.lent.specs.Words.{insideTo}
 use Rattle.model.specs.declared.stored.Model.{Model}
-use Rattle.model.proofs.BuildLaws.{both, lent-passed}
 use Rattle.action.specs.Acts.{sumPlaces}
-use Rattle.action.specs.Counts.{insideTo}
 use Rattle.action.specs.declared.act.Acted.{Acted}
 use Rattle.action.specs.declared.act.Acted.the-variants.{Listed, Refused}
 use Rattle.columns.specs.Entries.{Entry}
 use Rattle.columns.specs.Columns.{generatorOf, generatorRoom}
-use Rattle.columns.specs.Stages.{StageRoom, answered, Stages}
+use Rattle.columns.specs.Stages.{answered}
 use Rattle.columns.proofs.EntryLaws.{staged-rows}
 use Rattle.columns.proofs.GeneratorLaws.{rows-below, generator-fits}
 use Rattle.csr_build.specs.Sorts.{Rowed}
 use Rattle.generator.specs.Lent.{Work, zeroed, basisOf, lentTests, distinct, generatorTests, csrTests}
-use Rattle.generator.specs.Generators.{Out, listing, entryPlaces, tested, listedOver, generate, CsrOut, byRows, csrPlaces, csrTested, csrOver, buildCsr, stagedEntries, HeldInside, HeldRows}
+use Rattle.generator.specs.Generators.{Out, listing, entryPlaces, tested, listedOver, generate, CsrOut, byRows, csrPlaces, csrTested, csrOver, buildCsr, stagedEntries}
 use Rattle.generator.proofs.CheckLaws.{inside-then, inside-refused, then-other, lent-other}
 use Rattle.generator.proofs.ListingLaws.{listed-is, by-rows-is}
+use Rattle.columns.specs.Between.{StageRoom, Stages}
+use Rattle.generator.specs.Between.{HeldInside, HeldRows}
 
 -- ---- what the columns staged
 answered-listed : (tests : Answer) (k n : ℕ) → Listed n ≡ answered tests k → (tests ≡ Tests.Accepted) × (n ≡ k)

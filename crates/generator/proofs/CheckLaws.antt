@@ -15,14 +15,16 @@ use Rattle.refusal.specs.declared.Refusal.{Refusal}
 use Rattle.refusal.specs.declared.Refusal.the-variants.{CountAboveLimit, LengthMismatch, WordOutsideRegister}
 use Rattle.refusal.specs.declared.Answer.{Answer}
 use Rattle.refusal.specs.declared.Answer.the-variants.{Accepted, Refused}
+use Rattle.word.specs.Flat.{wordLanes}
 use Rattle.model.specs.Stored.{ModelTables}
-use Rattle.model.specs.Tested.{lent, whereAny, firstTo, testModel}
-use Rattle.model.specs.Built.{andThen}
+use Rattle.model.specs.Tested.{testModel}
+use Rattle.lent.specs.Tests.{lent, whereAny, firstTo, andThen}
+use Rattle.lent.proofs.NeedLaws.{need-some}
+use Rattle.lent.proofs.Firsts.{first-before}
+use Rattle.lent.proofs.Passed.{passed, both, lent-passed, counted-passed, refused-not}
+use Rattle.lent.specs.Words.{maxWords, outsideAt, insideTo}
 use Rattle.model.specs.declared.stored.Model.{Model}
-use Rattle.model.proofs.NeedLaws.{need-some}
-use Rattle.model.proofs.Firsts.{first-before}
-use Rattle.model.proofs.BuildLaws.{passed, both, lent-passed, counted-passed, refused-not}
-use Rattle.action.specs.Counts.{maxWords, rowLanes, outsideAt, insideTo}
+use Rattle.action.specs.Counts.{rowLanes}
 use Rattle.generator.specs.Lent.{tableTests}
 
 module _ (m : Model) (t : ModelTables) (lanes : List ℕ) (len h j k he ne : ℕ) where
@@ -30,7 +32,7 @@ module _ (m : Model) (t : ModelTables) (lanes : List ℕ) (len h j k he ne : ℕ
   tests = tableTests m t lanes len h j k he ne
 
   abbrev places : ℕ
-  places = length lanes / 4
+  places = length lanes / wordLanes
 
   pub model-refused : (r : Refusal) → testModel m t ≡ Refused r → Refused r ≡ tests
   unfolding tableTests
@@ -80,7 +82,7 @@ module _ (m : Model) (t : ModelTables) (lanes : List ℕ) (len h j k he ne : ℕ
 pub record Passed (m : Model) (t : ModelTables) (lanes : List ℕ) (len h j k he ne : ℕ) : Type 0 where
   pub model : testModel m t ≡ Accepted
   pub few : len ≤ maxWords
-  pub words-long : len ≤ length lanes / 4
+  pub words-long : len ≤ length lanes / wordLanes
   pub h-long : 0 < len → rowLanes * m .qubits ≤ h
   pub j-long : 0 < len → rowLanes * m .qubits ≤ j
   pub mask-long : 0 < len → rowLanes ≤ k
@@ -92,7 +94,7 @@ unfolding tableTests
 tables-passed m t lanes len h j k he ne e =
     let e0 = both (testModel m t) _ e in
     let e1 = counted-passed maxWords len _ (e0 .1) in
-    let e2 = lent-passed len (length lanes / 4) _ (e1 .1) in
+    let e2 = lent-passed len (length lanes / wordLanes) _ (e1 .1) in
     let rows : ℕ = rowLanes * m .qubits in
     let e3 = lent-passed (whereAny len rows) h _ (e2 .1) in
     let e4 = lent-passed (whereAny len rows) j _ (e3 .1) in

@@ -14,39 +14,38 @@ use lib.Seq.{getD-take, length-take-le, take-at}
 use Rattle.refusal.specs.declared.Refusal.the-variants.{RepeatedBasisWord}
 use Rattle.refusal.specs.declared.Answer.the-variants.{Accepted, Refused}
 use Rattle.word.specs.Word.{identity}
-use Rattle.word.specs.Flat.{words}
+use Rattle.word.specs.Flat.{words, wordLanes}
 use Rattle.word.specs.Register.{reaches}
 use Rattle.word.specs.declared.word.Word.{Word}
-use Rattle.word.proofs.FlatLaws.{words-low, words-high}
-use Rattle.slots.specs.Slots.{Slotted}
-use Rattle.candidates.proofs.LogLaws.{words-take}
+use Rattle.word.proofs.FlatLaws.{words-low, words-high, words-take}
+use Rattle.slots.specs.Between.{Slotted}
 use Rattle.model.specs.Stored.{ModelTables}
 use Rattle.model.specs.declared.stored.Model.{Model}
 use Rattle.rules_by_index.specs.Near.{ModelIndexed}
 use Rattle.action.specs.Acts.{sumPlaces}
-use Rattle.action.specs.Counts.{outsideAt}
+use Rattle.lent.specs.Words.{outsideAt}
 use Rattle.action.specs.declared.act.Acted.{Acted}
-use Rattle.columns.specs.Repeats.{LaysDistinct}
+use Rattle.columns.specs.Between.{LaysDistinct, ModelReady, BasisReady, SumRoom, Stages}
+use Rattle.generator.specs.Between.{ModelLent, BasisLent}
 use Rattle.columns.specs.Columns.{generatorOf, generatorRoom}
-use Rattle.columns.specs.Stages.{ModelReady, BasisReady, SumRoom, Stages}
-use Rattle.generator.specs.Lent.{basisOf, distinct, ModelLent, BasisLent}
+use Rattle.generator.specs.Lent.{basisOf, distinct}
 use Rattle.generator.proofs.CheckLaws.{Passed}
 
 -- ---- after the tests
 module _ (m : Model) (t : ModelTables) (lanes : List ℕ) (len : ℕ) (hIndex jIndex mask heads nexts : List ℕ) (p : Passed m t lanes len (length hIndex) (length jIndex) (length mask) (length heads) (length nexts)) where
-  basis-long : length (take (len * 4) lanes) ≡ len * 4
-  basis-long = length-take-le (len * 4) lanes (omega (arith, p .words-long))
+  basis-long : length (take (len * wordLanes) lanes) ≡ len * wordLanes
+  basis-long = length-take-le (len * wordLanes) lanes (omega (arith, p .words-long))
 
-  pub model-lent : 0 < length (take (len * 4) lanes) / 4 → ModelLent m t hIndex jIndex mask
+  pub model-lent : 0 < length (take (len * wordLanes) lanes) / wordLanes → ModelLent m t hIndex jIndex mask
   model-lent h = let a : 0 < len = omega (arith, basis-long) in record { accepted = p .model; h-rows = p .h-long a; j-rows = p .j-long a; row = p .mask-long a }
 
-  first-words : words (take (len * 4) lanes) ≡ basisOf lanes len
-  first-words = let e : len * 4 ≡ 4 * len = omega arith in ap (λ (k : ℕ). words (take k lanes)) e ∙ words-take len lanes
+  first-words : words (take (len * wordLanes) lanes) ≡ basisOf lanes len
+  first-words = let e : len * wordLanes ≡ wordLanes * len = omega arith in ap (λ (k : ℕ). words (take k lanes)) e ∙ words-take len lanes
 
-  pub basis-words : words (take (len * 4) lanes) ≡ basisOf lanes len
+  pub basis-words : words (take (len * wordLanes) lanes) ≡ basisOf lanes len
   basis-words = first-words
 
-  pub basis-lent : ((k : ℕ) → k < len → outsideAt lanes (m .qubits) k ≡ false) → BasisLent (m .qubits) len (take (len * 4) lanes) heads nexts
+  pub basis-lent : ((k : ℕ) → k < len → outsideAt lanes (m .qubits) k ≡ false) → BasisLent (m .qubits) len (take (len * wordLanes) lanes) heads nexts
   unfolding outsideAt
   basis-lent inside =
       record {
@@ -69,7 +68,7 @@ module _ (n len : ℕ) (lanes heads nexts : List ℕ) (l : BasisLent n len lanes
   pub basis-size : length (words lanes) ≡ len
   basis-size = omega (arith, l .each, words-low lanes, words-high lanes)
 
-  pub slots-asked : (4 * length (take len nexts) ≡ length lanes) × (length (take len nexts) ≤ length heads)
+  pub slots-asked : (wordLanes * length (take len nexts) ≡ length lanes) × (length (take len nexts) ≤ length heads)
   slots-asked = let k = length-take-le len nexts (l .nexts-long) in (omega (arith, k, l .each), omega (arith, k, l .heads-long))
 
   module _ (heads′ part : List ℕ) (r : ℕ) (d : LaysDistinct (words lanes) heads (take len nexts) heads′ part r) where
@@ -101,7 +100,7 @@ module _ (n len : ℕ) (lanes heads nexts : List ℕ) (l : BasisLent n len lanes
       basis-ready = record { slots = rw part-again laid; inside = l .inside; few = omega (arith, basis-size, l .few) }
 
 -- ---- the places of table 1
-pub sums-room : {r : ℕ} (workWords : List ℕ) (workSums : List Float) → r ≡ min (length workWords / 4) (length workSums / 2) → SumRoom r workWords workSums
+pub sums-room : {r : ℕ} (workWords : List ℕ) (workSums : List Float) → r ≡ min (length workWords / wordLanes) (length workSums / 2) → SumRoom r workWords workSums
 sums-room workWords workSums e = record { words-long = omega (arith, e); sums-long = omega (arith, e) }
 
 pub stages-room : (m : Model) (t : ModelTables) (bs : List Word) (workWords : List ℕ) (workSums : List Float) (entryRoom : ℕ) {s : ℕ} → s ≡ sumPlaces workWords workSums → (rows columns : List ℕ) (values : List Float) (r : Acted)

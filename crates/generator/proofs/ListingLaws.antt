@@ -11,15 +11,16 @@ use Rattle.refusal.specs.declared.Refusal.{Refusal}
 use Rattle.refusal.specs.declared.Answer.{Answer}
 use Rattle.refusal.specs.declared.Answer.the-variants as Tests
 use Rattle.number.specs.Floats.{float0}
-use Rattle.model.specs.Laid.{laid}
+use Rattle.lent.specs.Laid.{laid}
 use Rattle.action.specs.declared.act.Acted.{Acted}
 use Rattle.action.specs.declared.act.Acted.the-variants.{Listed, Refused}
 use Rattle.columns.specs.Entries.{Entry, staged}
-use Rattle.columns.specs.Stages.{StageRoom, answered, Stages}
+use Rattle.columns.specs.Stages.{answered}
 use Rattle.columns.proofs.EntryLaws.{staged-rows, staged-columns, staged-values}
 use Rattle.csr_build.specs.Sorts.{ByRows}
 use Rattle.generator.specs.Lent.{Work, workOf, zeroed}
 use Rattle.generator.specs.Generators.{listing, byRows, stagedEntries}
+use Rattle.columns.specs.Between.{StageRoom, Stages}
 
 -- ---- what is copied
 module _ (n : ℕ) (stageRows stageColumns : List ℕ) (stageValues : List Float) (s : StageRoom n stageRows stageColumns stageValues) (rows columns : List ℕ) (values : List Float) where

@@ -9,7 +9,7 @@ use native.Mathlib.Numerals.{add-one}
 use native.Mathlib.Omega.{arith}
 use lib.ListN.{length, getD, take, drop, set, drop-of-length-le}
 use lib.Seq.{drop-cons, getD-take, length-take-le}
-use Rattle.model.specs.Laid.{laid}
+use Rattle.lent.specs.Laid.{laid}
 
 module _ {A : Type 0} (d : A) (source : List A) (count : ℕ) (long : count ≤ length source) where
   -- what is left to copy from place i on

@@ -2,8 +2,7 @@
 -- SPDX-License-Identifier: Apache-2.0
 
 -- The generator of a lent model over a lent basis, and the same matrix by rows: the answer, and every lent table afterwards.
-use Prim.Native.Nat.{ℕ, _≤_, min}
-use mathlib.Core.Path.{_≡_}
+use Prim.Native.Nat.{ℕ, min}
 use mathlib.Core.List.{List, [], map}
 use lib.Ieee.{Float}
 use lib.ListN.{length, set}
@@ -11,16 +10,15 @@ use Rattle.refusal.specs.declared.Answer.{Answer}
 use Rattle.refusal.specs.declared.Answer.the-variants as Tests
 use Rattle.word.specs.declared.word.Word.{Word}
 use Rattle.model.specs.Stored.{ModelTables}
-use Rattle.model.specs.Laid.{laid}
+use Rattle.lent.specs.Laid.{laid}
 use Rattle.model.specs.declared.stored.Model.{Model}
 use Rattle.action.specs.Acts.{sumPlaces}
 use Rattle.action.specs.declared.act.Acted.{Acted}
 use Rattle.action.specs.declared.act.Acted.the-variants.{Listed, Refused}
 use Rattle.columns.specs.Entries.{Entry, staged}
 use Rattle.columns.specs.Columns.{generatorOf, generatorRoom}
-use Rattle.columns.specs.Stages.{StageRoom, answered}
+use Rattle.columns.specs.Stages.{answered}
 use Rattle.csr_build.specs.Rows.{rowsTo, offsetsOf, columnsLaid, valuesLaid}
-use Rattle.csr_build.specs.Sorts.{Rowed}
 use Rattle.generator.specs.Lent.{Work, zeroed, basisOf, generatorTests, csrTests, stagePlaces}
 
 -- ---- the generator
@@ -97,13 +95,3 @@ module _ (offsets columns : List ℕ) (values : List Float) (w : Work) where
 abbrev pub stagedEntries : Acted → List ℕ → List ℕ → List Float → List Entry
 stagedEntries (Listed n) rows columns values = staged n rows columns values
 stagedEntries (Refused q) rows columns values = []
-
--- places for as many as they say, in tables of entries
-pub record HeldInside (r : Acted) (rows columns : List ℕ) (values : List Float) : Type 0 where
-  pub inside : (n : ℕ) → r ≡ Listed n → StageRoom n rows columns values
-
--- each of them in one of n rows, and places for them
-pub record HeldRows (n : ℕ) (r : Acted) (stageRows stageColumns : List ℕ) (stageValues : List Float) (columns : List ℕ) (values : List Float) : Type 0 where
-  pub rowed : (k : ℕ) → r ≡ Listed k → Rowed n k stageRows stageColumns stageValues
-  pub columns-long : (k : ℕ) → r ≡ Listed k → k ≤ length columns
-  pub values-long : (k : ℕ) → r ≡ Listed k → k ≤ length values

@@ -2,24 +2,24 @@
 -- SPDX-License-Identifier: Apache-2.0
 
 -- What both calls are lent to work with, and what both ask for: the model, 8, 9, 11, 12.
-use Prim.Native.Nat.{ℕ, suc, _*_, _/_, _≤_, min}
-use mathlib.Core.Path.{_≡_}
+use Prim.Native.Nat.{ℕ, suc, _*_, _/_, min}
 use mathlib.Core.Bool.{cond}
-use mathlib.Core.List.{List}
+use mathlib.Core.List.{List, [], _∷_}
 use lib.Dec.{ltb}
 use lib.Ieee.{Float}
 use lib.ListN.{length, take, replicate}
 use Rattle.refusal.specs.declared.Refusal.the-variants.{RepeatedBasisWord}
 use Rattle.refusal.specs.declared.Answer.{Answer}
 use Rattle.refusal.specs.declared.Answer.the-variants.{Accepted, Refused}
-use Rattle.word.specs.Flat.{words}
+use Rattle.word.specs.Flat.{words, wordLanes}
 use Rattle.word.specs.declared.word.Word.{Word}
 use Rattle.number.specs.Floats.{float0}
 use Rattle.model.specs.Stored.{ModelTables}
-use Rattle.model.specs.Tested.{counted, lent, whereAny, testModel}
-use Rattle.model.specs.Built.{andThen}
+use Rattle.model.specs.Tested.{testModel}
+use Rattle.lent.specs.Tests.{counted, lent, whereAny, andThen, inTurn}
+use Rattle.lent.specs.Words.{maxWords, insideTo}
 use Rattle.model.specs.declared.stored.Model.{Model}
-use Rattle.action.specs.Counts.{maxWords, rowLanes, insideTo, AllInside}
+use Rattle.action.specs.Counts.{rowLanes}
 use Rattle.columns.specs.Repeats.{firstRepeat}
 
 pub record Work : Type 0 where
@@ -70,15 +70,16 @@ basisOf lanes len = take len (words lanes)
 -- the model, 8, 9; no words ask for no place
 unfoldable pub tableTests : Model → ModelTables → List ℕ → ℕ → ℕ → ℕ → ℕ → ℕ → ℕ → Answer
 tableTests m t lanes len hIndex jIndex mask heads nexts =
+    inTurn (
     andThen (testModel m t)
-    (counted maxWords len
-    (lent len (length lanes / 4)
-    (lent (whereAny len (rowLanes * m .qubits)) hIndex
-    (lent (whereAny len (rowLanes * m .qubits)) jIndex
-    (lent (whereAny len rowLanes) mask
-    (lent len heads
-    (lent len nexts
-    Accepted)))))))
+    ∷ counted maxWords len
+    ∷ lent len (length lanes / wordLanes)
+    ∷ lent (whereAny len (rowLanes * m .qubits)) hIndex
+    ∷ lent (whereAny len (rowLanes * m .qubits)) jIndex
+    ∷ lent (whereAny len rowLanes) mask
+    ∷ lent len heads
+    ∷ lent len nexts
+    ∷ []) Accepted
 
 -- 12 at the first word that came before
 unfoldable pub distinct : List Word → Answer
@@ -93,24 +94,14 @@ generatorTests m t lanes len w = andThen (lentTests m t lanes len w) (insideTo l
 -- a matrix by rows needs an offset for each row, and one more
 unfoldable pub csrTests : Model → ModelTables → List ℕ → ℕ → Work → List ℕ → Answer
 csrTests m t lanes len w offsets =
-    andThen (lentTests m t lanes len w) (lent (suc len) (length offsets) (insideTo len lanes (m .qubits) (distinct (basisOf lanes len))))
+    inTurn (
+    andThen (lentTests m t lanes len w)
+    ∷ lent (suc len) (length offsets)
+    ∷ insideTo len lanes (m .qubits)
+    ∷ []) (distinct (basisOf lanes len))
 
 -- ---- places for entries while they are staged
 abbrev pub stagePlaces : Work → ℕ
 stagePlaces w = min (min (length (w .stageRows)) (length (w .stageColumns))) (length (w .stageValues))
 
 -- ---- for the functions that work on lent tables
--- a tested model, and places for its index and a mask
-pub record ModelLent (m : Model) (t : ModelTables) (hIndex jIndex mask : List ℕ) : Type 0 where
-  pub accepted : testModel m t ≡ Accepted
-  pub h-rows : 64 * m .qubits ≤ length hIndex
-  pub j-rows : 64 * m .qubits ≤ length jIndex
-  pub row : 64 ≤ length mask
-
--- a basis of so many words inside the register, with places for their slots
-pub record BasisLent (n len : ℕ) (lanes heads nexts : List ℕ) : Type 0 where
-  pub each : length lanes ≡ len * 4
-  pub few : len ≤ maxWords
-  pub inside : AllInside lanes n
-  pub heads-long : len ≤ length heads
-  pub nexts-long : len ≤ length nexts

@@ -7,16 +7,16 @@ ghost use mathlib.Core.Path.{_≡_};
 ghost use Prim.Native.Nat.{suc, _*_, _≤_};
 ghost use lib.ListN.{length};
 ghost use Rattle.refusal.specs.declared.Answer.the-variants.{Accepted};
-ghost use Rattle.model.specs.Stored.{tables};
-ghost use Rattle.model.specs.Tested.{lent};
-ghost use Rattle.model.specs.Built.{andThen};
-ghost use Rattle.action.specs.Counts.{insideTo};
+ghost use Rattle.word.specs.Flat.{wordLanes};
+ghost use Rattle.model.specs.Between.{modelTables};
+ghost use Rattle.lent.specs.Tests.{lent, andThen};
+ghost use Rattle.lent.specs.Words.{insideTo};
 ghost use Rattle.generator.specs.Lent.{tableTests};
-use action::words::MAX_WORDS;
 use action::words::ROW_LANES;
-use action::words::first_outside;
-use model::lengths::mismatch;
-use model::lengths::where_any;
+use lent::tests::mismatch;
+use lent::tests::where_any;
+use lent::words::MAX_WORDS;
+use lent::words::first_outside;
 use model::stored::Model;
 use model::test::test_model;
 use refusal::Answer;
@@ -39,7 +39,7 @@ fn check_tables(
     heads: usize,
     nexts: usize,
 ) -> Answer
-    ensures { λ r. ⌜ r ≡ tableTests m (tables (now («h_words» .entry)) (now («h_coeffs» .entry)) (now (jumps .entry)) (now (rates .entry)) (now («t_words» .entry)) (now («t_numbers» .entry))) (now (words .entry)) len «h_index» «j_index» mask heads nexts ⌝ }
+    ensures { λ r. ⌜ r ≡ tableTests m (modelTables (now («h_words» .entry)) (now («h_coeffs» .entry)) (now (jumps .entry)) (now (rates .entry)) (now («t_words» .entry)) (now («t_numbers» .entry))) (now (words .entry)) len «h_index» «j_index» mask heads nexts ⌝ }
 {
     let model = test_model(m, h_words, h_coeffs, jumps, rates, t_words, t_numbers);
     let Answer::Accepted = model else {
@@ -73,7 +73,7 @@ fn check_tables(
 }
 
 fn check_inside(words: &[u64], len: usize, n: usize) -> Answer
-    requires { ⌜ 4 * len ≤ length (now words) ⌝ }
+    requires { ⌜ wordLanes * len ≤ length (now words) ⌝ }
     ensures { λ r. ⌜ r ≡ insideTo len (now (words .entry)) n Accepted ⌝ }
 {
     let first = first_outside(words, len, n);
@@ -99,7 +99,7 @@ pub fn check_generator(
     heads: usize,
     nexts: usize,
 ) -> Answer
-    ensures { λ r. ⌜ r ≡ andThen (tableTests m (tables (now («h_words» .entry)) (now («h_coeffs» .entry)) (now (jumps .entry)) (now (rates .entry)) (now («t_words» .entry)) (now («t_numbers» .entry))) (now (words .entry)) len «h_index» «j_index» mask heads nexts) (insideTo len (now (words .entry)) (m .qubits) Accepted) ⌝ }
+    ensures { λ r. ⌜ r ≡ andThen (tableTests m (modelTables (now («h_words» .entry)) (now («h_coeffs» .entry)) (now (jumps .entry)) (now (rates .entry)) (now («t_words» .entry)) (now («t_numbers» .entry))) (now (words .entry)) len «h_index» «j_index» mask heads nexts) (insideTo len (now (words .entry)) (m .qubits) Accepted) ⌝ }
 {
     let tables = check_tables(
         m,
@@ -142,7 +142,7 @@ pub fn check_csr(
     nexts: usize,
     offsets: usize,
 ) -> Answer
-    ensures { λ r. ⌜ r ≡ andThen (tableTests m (tables (now («h_words» .entry)) (now («h_coeffs» .entry)) (now (jumps .entry)) (now (rates .entry)) (now («t_words» .entry)) (now («t_numbers» .entry))) (now (words .entry)) len «h_index» «j_index» mask heads nexts) (lent (suc len) offsets (insideTo len (now (words .entry)) (m .qubits) Accepted)) ⌝ }
+    ensures { λ r. ⌜ r ≡ andThen (tableTests m (modelTables (now («h_words» .entry)) (now («h_coeffs» .entry)) (now (jumps .entry)) (now (rates .entry)) (now («t_words» .entry)) (now («t_numbers» .entry))) (now (words .entry)) len «h_index» «j_index» mask heads nexts) (lent (suc len) offsets (insideTo len (now (words .entry)) (m .qubits) Accepted)) ⌝ }
 {
     let tables = check_tables(
         m,

@@ -6,10 +6,11 @@
 ghost use mathlib.Core.Path.{_≡_};
 ghost use Prim.Native.Nat.{_/_, _≤_, _<_};
 ghost use lib.ListN.{length, replicate};
-ghost use Rattle.word.specs.Flat.{words as wordsIn};
-ghost use Rattle.model.specs.Stored.{tables};
-ghost use Rattle.generator.specs.Lent.{workOf, distinct, ModelLent, BasisLent};
-ghost use Rattle.generator.specs.Generators.{byRows, csrTested, csrOver, buildCsr, stagedEntries, HeldRows};
+ghost use Rattle.word.specs.Flat.{words as wordsIn, wordLanes};
+ghost use Rattle.model.specs.Between.{modelTables};
+ghost use Rattle.generator.specs.Between.{ModelLent, BasisLent, HeldRows};
+ghost use Rattle.generator.specs.Lent.{workOf, distinct};
+ghost use Rattle.generator.specs.Generators.{byRows, csrTested, csrOver, buildCsr, stagedEntries};
 use crate::check::check_csr;
 use crate::gather::gather;
 use crate::tables::clear_entries;
@@ -17,11 +18,11 @@ use crate::tables::places_of;
 use action::act::Acted;
 use columns::repeat::lay_distinct;
 use csr_build::sort_rows;
+use lent::clear::clear_lanes;
+use lent::sizes::smaller;
 use model::stored::Model;
-use model::test::smaller;
 use refusal::Answer;
 use refusal::Refusal;
-use sums::clear::clear_lanes;
 use word::flat::WORD_LANES;
 
 // What is staged, by rows; or the refusal at which the columns stopped. The work table is zero
@@ -83,8 +84,8 @@ fn csr_tested(
     columns: &mut [u32],
     values: &mut [f64],
 ) -> Acted
-    requires { ⌜ (0 < length (now basis) / 4 → ModelLent m (tables (now «h_words») (now «h_coeffs») (now jumps) (now rates) (now «t_words») (now «t_numbers»)) (now «h_index») (now «j_index») (now mask)) × BasisLent (m .qubits) len (now basis) (now heads) (now nexts) × (len < length (now offsets)) ⌝ }
-    ensures { λ r. ⌜ record { out = record { answer = r; offsets = now (offsets .exit); columns = now (columns .exit); values = now (values .exit) }; work = (workOf (now («h_index» .exit)) (now («j_index» .exit)) (now (mask .exit)) (now (heads .exit)) (now (nexts .exit)) (now («work_words» .exit)) (now («work_sums» .exit)) (now («stage_rows» .exit)) (now («stage_columns» .exit)) (now («stage_values» .exit))) } ≡ csrTested (now (offsets .entry)) (now (columns .entry)) (now (values .entry)) (workOf (now («h_index» .entry)) (now («j_index» .entry)) (now (mask .entry)) (now (heads .entry)) (now (nexts .entry)) (now («work_words» .entry)) (now («work_sums» .entry)) (now («stage_rows» .entry)) (now («stage_columns» .entry)) (now («stage_values» .entry))) (distinct (wordsIn (now (basis .entry)))) (csrOver (now (offsets .entry)) (now (columns .entry)) (now (values .entry)) (workOf (now («h_index» .entry)) (now («j_index» .entry)) (now (mask .entry)) (now (heads .entry)) (now (nexts .entry)) (now («work_words» .entry)) (now («work_sums» .entry)) (now («stage_rows» .entry)) (now («stage_columns» .entry)) (now («stage_values» .entry))) len m (tables (now («h_words» .entry)) (now («h_coeffs» .entry)) (now (jumps .entry)) (now (rates .entry)) (now («t_words» .entry)) (now («t_numbers» .entry))) (wordsIn (now (basis .entry)))) ⌝ }
+    requires { ⌜ (0 < length (now basis) / wordLanes → ModelLent m (modelTables (now «h_words») (now «h_coeffs») (now jumps) (now rates) (now «t_words») (now «t_numbers»)) (now «h_index») (now «j_index») (now mask)) × BasisLent (m .qubits) len (now basis) (now heads) (now nexts) × (len < length (now offsets)) ⌝ }
+    ensures { λ r. ⌜ record { out = record { answer = r; offsets = now (offsets .exit); columns = now (columns .exit); values = now (values .exit) }; work = (workOf (now («h_index» .exit)) (now («j_index» .exit)) (now (mask .exit)) (now (heads .exit)) (now (nexts .exit)) (now («work_words» .exit)) (now («work_sums» .exit)) (now («stage_rows» .exit)) (now («stage_columns» .exit)) (now («stage_values» .exit))) } ≡ csrTested (now (offsets .entry)) (now (columns .entry)) (now (values .entry)) (workOf (now («h_index» .entry)) (now («j_index» .entry)) (now (mask .entry)) (now (heads .entry)) (now (nexts .entry)) (now («work_words» .entry)) (now («work_sums» .entry)) (now («stage_rows» .entry)) (now («stage_columns» .entry)) (now («stage_values» .entry))) (distinct (wordsIn (now (basis .entry)))) (csrOver (now (offsets .entry)) (now (columns .entry)) (now (values .entry)) (workOf (now («h_index» .entry)) (now («j_index» .entry)) (now (mask .entry)) (now (heads .entry)) (now (nexts .entry)) (now («work_words» .entry)) (now («work_sums» .entry)) (now («stage_rows» .entry)) (now («stage_columns» .entry)) (now («stage_values» .entry))) len m (modelTables (now («h_words» .entry)) (now («h_coeffs» .entry)) (now (jumps .entry)) (now (rates .entry)) (now («t_words» .entry)) (now («t_numbers» .entry))) (wordsIn (now (basis .entry)))) ⌝ }
 {
     let first = lay_distinct(basis, heads, &mut nexts[..len]);
     if first < len {
@@ -154,7 +155,7 @@ pub fn build_csr(
     columns: &mut [u32],
     values: &mut [f64],
 ) -> Acted
-    ensures { λ r. ⌜ record { out = record { answer = r; offsets = now (offsets .exit); columns = now (columns .exit); values = now (values .exit) }; work = (workOf (now («h_index» .exit)) (now («j_index» .exit)) (now (mask .exit)) (now (heads .exit)) (now (nexts .exit)) (now («work_words» .exit)) (now («work_sums» .exit)) (now («stage_rows» .exit)) (now («stage_columns» .exit)) (now («stage_values» .exit))) } ≡ buildCsr (now (offsets .entry)) (now (columns .entry)) (now (values .entry)) (workOf (now («h_index» .entry)) (now («j_index» .entry)) (now (mask .entry)) (now (heads .entry)) (now (nexts .entry)) (now («work_words» .entry)) (now («work_sums» .entry)) (now («stage_rows» .entry)) (now («stage_columns» .entry)) (now («stage_values» .entry))) m (tables (now («h_words» .entry)) (now («h_coeffs» .entry)) (now (jumps .entry)) (now (rates .entry)) (now («t_words» .entry)) (now («t_numbers» .entry))) (now (words .entry)) len ⌝ }
+    ensures { λ r. ⌜ record { out = record { answer = r; offsets = now (offsets .exit); columns = now (columns .exit); values = now (values .exit) }; work = (workOf (now («h_index» .exit)) (now («j_index» .exit)) (now (mask .exit)) (now (heads .exit)) (now (nexts .exit)) (now («work_words» .exit)) (now («work_sums» .exit)) (now («stage_rows» .exit)) (now («stage_columns» .exit)) (now («stage_values» .exit))) } ≡ buildCsr (now (offsets .entry)) (now (columns .entry)) (now (values .entry)) (workOf (now («h_index» .entry)) (now («j_index» .entry)) (now (mask .entry)) (now (heads .entry)) (now (nexts .entry)) (now («work_words» .entry)) (now («work_sums» .entry)) (now («stage_rows» .entry)) (now («stage_columns» .entry)) (now («stage_values» .entry))) m (modelTables (now («h_words» .entry)) (now («h_coeffs» .entry)) (now (jumps .entry)) (now (rates .entry)) (now («t_words» .entry)) (now («t_numbers» .entry))) (now (words .entry)) len ⌝ }
 {
     let answer = check_csr(
         m,

@@ -4,12 +4,13 @@
 // The generator of a lent model over a lent basis, listed by column, then word: tests, the slots of the
 // basis, the columns staged and copied out; work tables are zero afterwards.
 ghost use mathlib.Core.Path.{_≡_};
-ghost use Prim.Native.Nat.{_/_, _≤_, _<_};
+ghost use Prim.Native.Nat.{_/_, _<_};
 ghost use lib.ListN.{length};
-ghost use Rattle.word.specs.Flat.{words as wordsIn};
-ghost use Rattle.model.specs.Stored.{tables};
-ghost use Rattle.generator.specs.Lent.{workOf, distinct, ModelLent, BasisLent};
-ghost use Rattle.generator.specs.Generators.{listing, tested, listedOver, generate, stagedEntries, HeldInside};
+ghost use Rattle.word.specs.Flat.{words as wordsIn, wordLanes};
+ghost use Rattle.model.specs.Between.{modelTables};
+ghost use Rattle.generator.specs.Between.{ModelLent, BasisLent, HeldInside};
+ghost use Rattle.generator.specs.Lent.{workOf, distinct};
+ghost use Rattle.generator.specs.Generators.{listing, tested, listedOver, generate, stagedEntries};
 use crate::check::check_generator;
 use crate::gather::gather;
 use crate::tables::clear_entries;
@@ -18,11 +19,11 @@ use crate::tables::copy_values;
 use crate::tables::places_of;
 use action::act::Acted;
 use columns::repeat::lay_distinct;
+use lent::clear::clear_lanes;
+use lent::sizes::smaller;
 use model::stored::Model;
-use model::test::smaller;
 use refusal::Answer;
 use refusal::Refusal;
-use sums::clear::clear_lanes;
 use word::flat::WORD_LANES;
 
 // What is staged, listed; or the refusal at which the columns stopped.
@@ -72,8 +73,8 @@ fn generator_tested(
     columns: &mut [u32],
     values: &mut [f64],
 ) -> Acted
-    requires { ⌜ (0 < length (now basis) / 4 → ModelLent m (tables (now «h_words») (now «h_coeffs») (now jumps) (now rates) (now «t_words») (now «t_numbers»)) (now «h_index») (now «j_index») (now mask)) × BasisLent (m .qubits) len (now basis) (now heads) (now nexts) ⌝ }
-    ensures { λ r. ⌜ record { out = record { answer = r; rows = now (rows .exit); columns = now (columns .exit); values = now (values .exit) }; work = (workOf (now («h_index» .exit)) (now («j_index» .exit)) (now (mask .exit)) (now (heads .exit)) (now (nexts .exit)) (now («work_words» .exit)) (now («work_sums» .exit)) (now («stage_rows» .exit)) (now («stage_columns» .exit)) (now («stage_values» .exit))) } ≡ tested (now (rows .entry)) (now (columns .entry)) (now (values .entry)) (workOf (now («h_index» .entry)) (now («j_index» .entry)) (now (mask .entry)) (now (heads .entry)) (now (nexts .entry)) (now («work_words» .entry)) (now («work_sums» .entry)) (now («stage_rows» .entry)) (now («stage_columns» .entry)) (now («stage_values» .entry))) (distinct (wordsIn (now (basis .entry)))) (listedOver (now (rows .entry)) (now (columns .entry)) (now (values .entry)) (workOf (now («h_index» .entry)) (now («j_index» .entry)) (now (mask .entry)) (now (heads .entry)) (now (nexts .entry)) (now («work_words» .entry)) (now («work_sums» .entry)) (now («stage_rows» .entry)) (now («stage_columns» .entry)) (now («stage_values» .entry))) m (tables (now («h_words» .entry)) (now («h_coeffs» .entry)) (now (jumps .entry)) (now (rates .entry)) (now («t_words» .entry)) (now («t_numbers» .entry))) (wordsIn (now (basis .entry)))) ⌝ }
+    requires { ⌜ (0 < length (now basis) / wordLanes → ModelLent m (modelTables (now «h_words») (now «h_coeffs») (now jumps) (now rates) (now «t_words») (now «t_numbers»)) (now «h_index») (now «j_index») (now mask)) × BasisLent (m .qubits) len (now basis) (now heads) (now nexts) ⌝ }
+    ensures { λ r. ⌜ record { out = record { answer = r; rows = now (rows .exit); columns = now (columns .exit); values = now (values .exit) }; work = (workOf (now («h_index» .exit)) (now («j_index» .exit)) (now (mask .exit)) (now (heads .exit)) (now (nexts .exit)) (now («work_words» .exit)) (now («work_sums» .exit)) (now («stage_rows» .exit)) (now («stage_columns» .exit)) (now («stage_values» .exit))) } ≡ tested (now (rows .entry)) (now (columns .entry)) (now (values .entry)) (workOf (now («h_index» .entry)) (now («j_index» .entry)) (now (mask .entry)) (now (heads .entry)) (now (nexts .entry)) (now («work_words» .entry)) (now («work_sums» .entry)) (now («stage_rows» .entry)) (now («stage_columns» .entry)) (now («stage_values» .entry))) (distinct (wordsIn (now (basis .entry)))) (listedOver (now (rows .entry)) (now (columns .entry)) (now (values .entry)) (workOf (now («h_index» .entry)) (now («j_index» .entry)) (now (mask .entry)) (now (heads .entry)) (now (nexts .entry)) (now («work_words» .entry)) (now («work_sums» .entry)) (now («stage_rows» .entry)) (now («stage_columns» .entry)) (now («stage_values» .entry))) m (modelTables (now («h_words» .entry)) (now («h_coeffs» .entry)) (now (jumps .entry)) (now (rates .entry)) (now («t_words» .entry)) (now («t_numbers» .entry))) (wordsIn (now (basis .entry)))) ⌝ }
 {
     let first = lay_distinct(basis, heads, &mut nexts[..len]);
     if first < len {
@@ -142,7 +143,7 @@ pub fn generator(
     columns: &mut [u32],
     values: &mut [f64],
 ) -> Acted
-    ensures { λ r. ⌜ record { out = record { answer = r; rows = now (rows .exit); columns = now (columns .exit); values = now (values .exit) }; work = (workOf (now («h_index» .exit)) (now («j_index» .exit)) (now (mask .exit)) (now (heads .exit)) (now (nexts .exit)) (now («work_words» .exit)) (now («work_sums» .exit)) (now («stage_rows» .exit)) (now («stage_columns» .exit)) (now («stage_values» .exit))) } ≡ generate (now (rows .entry)) (now (columns .entry)) (now (values .entry)) (workOf (now («h_index» .entry)) (now («j_index» .entry)) (now (mask .entry)) (now (heads .entry)) (now (nexts .entry)) (now («work_words» .entry)) (now («work_sums» .entry)) (now («stage_rows» .entry)) (now («stage_columns» .entry)) (now («stage_values» .entry))) m (tables (now («h_words» .entry)) (now («h_coeffs» .entry)) (now (jumps .entry)) (now (rates .entry)) (now («t_words» .entry)) (now («t_numbers» .entry))) (now (words .entry)) len ⌝ }
+    ensures { λ r. ⌜ record { out = record { answer = r; rows = now (rows .exit); columns = now (columns .exit); values = now (values .exit) }; work = (workOf (now («h_index» .exit)) (now («j_index» .exit)) (now (mask .exit)) (now (heads .exit)) (now (nexts .exit)) (now («work_words» .exit)) (now («work_sums» .exit)) (now («stage_rows» .exit)) (now («stage_columns» .exit)) (now («stage_values» .exit))) } ≡ generate (now (rows .entry)) (now (columns .entry)) (now (values .entry)) (workOf (now («h_index» .entry)) (now («j_index» .entry)) (now (mask .entry)) (now (heads .entry)) (now (nexts .entry)) (now («work_words» .entry)) (now («work_sums» .entry)) (now («stage_rows» .entry)) (now («stage_columns» .entry)) (now («stage_values» .entry))) m (modelTables (now («h_words» .entry)) (now («h_coeffs» .entry)) (now (jumps .entry)) (now (rates .entry)) (now («t_words» .entry)) (now («t_numbers» .entry))) (now (words .entry)) len ⌝ }
 {
     let answer = check_generator(
         m,

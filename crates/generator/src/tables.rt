@@ -4,12 +4,11 @@
 // Tables of rows, columns and values: cleared, copied, and their places.
 ghost use mathlib.Core.Path.{_≡_};
 ghost use Prim.Native.Nat.{_≤_, min};
-ghost use lib.Ieee.{Float};
 ghost use lib.ListN.{length, take, set, replicate};
 ghost use Rattle.number.specs.Floats.{float0};
-ghost use Rattle.model.specs.Laid.{laid};
-use model::test::smaller;
-use sums::clear::clear_numbers;
+ghost use Rattle.lent.specs.Laid.{laid};
+use lent::clear::clear_numbers;
+use lent::sizes::smaller;
 
 fn clear_places(t: &mut [u32])
     ensures { λ _. ⌜ now (t .exit) ≡ replicate (length (now (t .entry))) 0 ⌝ }

@@ -20,12 +20,13 @@ use Rattle.word.specs.declared.word.Word.{Word}
 use Rattle.word.specs.Flat.{words}
 use Rattle.word.proofs.FlatLaws.{words-high}
 use Rattle.model.specs.Stored.{ModelTables}
-use Rattle.model.specs.Tested.{firstTo, testModel}
+use Rattle.model.specs.Tested.{testModel}
 use Rattle.model.specs.declared.stored.Model.{Model}
-use Rattle.model.proofs.Firsts.{first-inside}
-use Rattle.model.proofs.BuildLaws.{passed, both, lent-passed}
+use Rattle.lent.specs.Tests.{firstTo}
+use Rattle.lent.proofs.Firsts.{first-inside}
+use Rattle.lent.proofs.Passed.{passed, both, lent-passed}
+use Rattle.lent.specs.Words.{maxWords, outsideAt, insideTo}
 use Rattle.action.specs.Acts.{sumPlaces}
-use Rattle.action.specs.Counts.{maxWords, outsideAt, insideTo}
 use Rattle.action.specs.declared.act.Acted.the-variants.{Listed, Refused}
 use Rattle.columns.specs.Columns.{generatorOf, generatorRoom}
 use Rattle.columns.specs.Repeats.{repeatsAt, firstRepeat}

@@ -11,7 +11,7 @@ use native.Mathlib.Omega.{arith}
 use lib.Ieee.{Float}
 use lib.ListN.{length, getD, take, drop}
 use Rattle.word.specs.declared.word.Word.{Word}
-use Rattle.order.specs.Merge.{AllBelow}
+use Rattle.order.specs.Between.{AllBelow}
 use Rattle.order.specs.Places.{isAmong}
 use Rattle.refusal.specs.declared.Answer.the-variants.{Accepted}
 use Rattle.model.specs.Stored.{ModelTables}
@@ -21,7 +21,7 @@ use Rattle.action.specs.Acts.{actionOf}
 use Rattle.action.specs.declared.act.Acted.the-variants.{Listed}
 use Rattle.columns.specs.Entries.{Entry, entry}
 use Rattle.columns.specs.Columns.{generatorOf}
-use Rattle.columns.specs.Members.{Member}
+use Rattle.order.specs.Members.{Member}
 use Rattle.columns.proofs.GeneratorLaws.{rows-below}
 use Rattle.csr_build.specs.Rows.{rowOf, Ascending}
 use Rattle.csr_build.proofs.RowLaws.{rowsOf}

@@ -20,15 +20,16 @@ use Rattle.slots.specs.Slots.{lastOf}
 use Rattle.slots.proofs.SlotLaws.{holds}
 use Rattle.slots.proofs.PlaceLaws.{last-after}
 use Rattle.model.specs.Stored.{ModelTables}
-use Rattle.model.specs.Given.{Term}
+use Rattle.model.specs.Terms.{Term}
 use Rattle.model.specs.declared.stored.Model.{Model}
 use Rattle.action.specs.Acts.{actionOf}
 use Rattle.columns.specs.Entries.{entry}
 use Rattle.columns.specs.Columns.{placeIn, generatorOf}
-use Rattle.columns.specs.Members.{Member, Entered}
+use Rattle.order.specs.Members.{Member}
 use Rattle.columns.specs.Repeats.{firstRepeat}
 use Rattle.columns.proofs.MemberLaws.{entered, enters, place-is, place-word}
 use Rattle.generator_laws.specs.Matrices.{Between, Grown, Unchanged, HasRow, Reached}
+use Rattle.columns.specs.Between.{Entered}
 
 -- ---- words of a basis
 record At (bs : List Word) (w : Word) : Type 0 where

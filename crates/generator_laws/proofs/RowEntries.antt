@@ -10,11 +10,11 @@ use native.Mathlib.Omega.{arith}
 use lib.Ieee.{Float}
 use lib.ListN.{length, getD, take, drop, set, length-set, length-map, List·getD-map, length-drop}
 use lib.Seq.{ext-getD, getD-take, getD-drop, length-take-le}
-use Rattle.order.specs.Merge.{AllBelow}
-use Rattle.model.specs.Laid.{laid}
-use Rattle.model_laws.proofs.LaidLaws.{laid-length, set-here}
+use Rattle.order.specs.Between.{AllBelow}
+use Rattle.lent.specs.Laid.{laid}
+use Rattle.lent.proofs.LaidLaws.{laid-length, set-here}
 use Rattle.columns.specs.Entries.{Entry, entry}
-use Rattle.columns.specs.Members.{Member}
+use Rattle.order.specs.Members.{Member}
 use Rattle.action.specs.declared.act.Acted.the-variants.{Listed}
 use Rattle.csr_build.specs.Rows.{rowOf, rowsTo, offsetsOf}
 use Rattle.csr_build.proofs.RowLaws.{noEntry, rowsOf, startOf, start-next, start-rises, rows-at, rows-all}

@@ -10,7 +10,7 @@ use native.Mathlib.Omega.{arith}
 use lib.Ieee.{Float, nan}
 use lib.ListN.{length, getD, take, length-map, List·getD-map}
 use Rattle.word.specs.declared.word.Word.{Word}
-use Rattle.order.specs.Merge.{AllBelow}
+use Rattle.order.specs.Between.{AllBelow}
 use Rattle.order.proofs.Members.{all-at}
 use Rattle.model.specs.Stored.{ModelTables}
 use Rattle.model.specs.declared.stored.Model.{Model}
@@ -18,7 +18,7 @@ use Rattle.action.specs.Acts.{actionOf}
 use Rattle.action.specs.declared.act.Acted.the-variants.{Listed}
 use Rattle.columns.specs.Entries.{Entry}
 use Rattle.columns.specs.Columns.{generatorOf}
-use Rattle.columns.specs.Members.{Member, Entered}
+use Rattle.order.specs.Members.{Member}
 use Rattle.columns.proofs.MemberLaws.{entered}
 use Rattle.csr_build.specs.Rows.{rowOf, rowsTo, offsetsOf, Ascending}
 use Rattle.csr_build.proofs.RowLaws.{noEntry, rowsOf, startOf, rows-at, rows-find, rows-all}
@@ -27,6 +27,7 @@ use Rattle.csr_build.proofs.SortLaws.{offsets-many}
 use Rattle.csr_build.proofs.AscendLaws.{row-ascends}
 use Rattle.generator.specs.Generators.{CsrOut, byRows}
 use Rattle.generator_laws.proofs.TableLaws.{laid-many}
+use Rattle.columns.specs.Between.{Entered}
 
 -- ---- the entries of n rows one after another
 abbrev pub entryAt : ℕ → List Entry → ℕ → Entry

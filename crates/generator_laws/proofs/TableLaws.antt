@@ -9,8 +9,8 @@ use native.Mathlib.Omega.{arith}
 use lib.Ieee.{Float, nan}
 use lib.ListN.{length, take, set, length-set, length-map}
 use lib.Seq.{ext-getD, getD-take, length-take-le}
-use Rattle.model.specs.Laid.{laid}
-use Rattle.model_laws.proofs.LaidLaws.{laid-length, set-here}
+use Rattle.lent.specs.Laid.{laid}
+use Rattle.lent.proofs.LaidLaws.{laid-length, set-here}
 use Rattle.columns.specs.Entries.{Entry, entry, entries, staged}
 
 -- the first places hold what was laid

@@ -11,9 +11,9 @@ use lib.ListN.{length, getD}
 use Rattle.word.specs.Word.{identity}
 use Rattle.word.specs.declared.word.Word.{Word}
 use Rattle.order.specs.Places.{isAmong}
-use Rattle.model.specs.Given.{Term}
+use Rattle.model.specs.Terms.{Term}
 use Rattle.columns.specs.Entries.{entry}
-use Rattle.columns.specs.Members.{Member}
+use Rattle.order.specs.Members.{Member}
 use Rattle.generator.specs.Generators.{Out, CsrOut, stagedEntries}
 
 -- ---- has a table of entries, or of rows, an entry at row r and column c with value v

@@ -53,6 +53,27 @@ module _ (N : Numbers) (S : Words) where
   abbrev pub bare : Onto N S → Onto N S → Cx N
   bare a b = mulC N (conjC N (a .num)) (b .num)
 
+  -- the product of a, p and b: the conjugate of a's number × b's number × k, phase last
+  abbrev pub sandwiched : Cx N → Onto N S → S .Word → Onto N S → Cx N
+  sandwiched k a p b = mulC N (mulC N (bare a b) k) (unitC N (through S (a .word) p (b .word) % 4))
+
+  abbrev pub between : Onto N S → S .Word → Onto N S → S .Word
+  between a p b = onto S (a .word) p (b .word)
+
+  -- a thinned word's number after k, and its word onto p with the phase of that product
+  abbrev pub afterK : Cx N → Onto N S → Cx N
+  afterK k c = mulC N k (c .num)
+
+  abbrev pub ahead : Onto N S → S .Word → S .Word
+  ahead c p = S .mul (c .word) p
+
+  abbrev pub turned : Onto N S → S .Word → ℕ
+  turned c p = S .phase (c .word) p % 4
+
+  abbrev pub twice : N .Num → N .Num
+  twice x = N .times (N .two) x
+
+  -- the adjoint of A times B, thinned
   unfoldable pub formedOver : List (Onto N S) → List (Onto N S) → List (Onto N S)
   formedOver A B =
       withoutOver N S (λ c. N .small (square N (c .num)))
@@ -80,24 +101,26 @@ module _ (N : Numbers) (S : Words) where
   jumpsOver [] p = []
   jumpsOver (j ∷ J) p = cond (overlapsOver (j .op) p) (shapeOver (j .rate) (j .op) p) [] ++ jumpsOver J p
 
+  -- a diagonal pair: a general jump without rate
   unfoldable pub diagonalOver : N .Num → Cx N → List (Onto N S) → S .Word → List (Onto N S)
   diagonalOver big k A p =
       cond (N .slighter (square N k) big) []
       (cond (overlapsOver A p)
-      (pairsOver N S (λ a b. onWord (mulC N (mulC N (bare a b) k) (unitC N (through S (a .word) p (b .word) % 4))) (onto S (a .word) p (b .word))) A A
-      ++ gatherOver N S (λ c. signed (S .phase (c .word) p % 4) (λ s. negC N (mulC N (mulC N k (c .num)) (realC N s))) (S .mul (c .word) p)) (formedOver A A))
+      (pairsOver N S (λ a b. onWord (sandwiched k a p b) (between a p b)) A A
+      ++ gatherOver N S (λ c. signed (turned c p) (λ s. negC N (mulC N (afterK k c) (realC N s))) (ahead c p)) (formedOver A A))
       [])
 
-  -- twice the real part of each product, then minus 2 × real part × sign
+  -- p overlaps both sides: twice the real part of each product, then minus 2 × real part × sign for each thinned word whose
+  -- real part after k is not slight
   unfoldable pub bothOver : Cx N → List (Onto N S) → List (Onto N S) → S .Word → List (Onto N S)
   bothOver k A B p =
-      pairsOver N S (λ a b. onWord (realC N (N .times (N .two) ((mulC N (mulC N (bare a b) k) (unitC N (through S (a .word) p (b .word) % 4))) .re))) (onto S (a .word) p (b .word))) A B
-      ++ gatherOver N S (λ c. cond (N .slight ((mulC N k (c .num)) .re)) [] (signed (S .phase (c .word) p % 4) (λ s. realC N (N .opposite (N .times (N .times (N .two) ((mulC N k (c .num)) .re)) s))) (S .mul (c .word) p))) (formedOver A B)
+      pairsOver N S (λ a b. onWord (realC N (twice (sandwiched k a p b .re))) (between a p b)) A B
+      ++ gatherOver N S (λ c. cond (N .slight (afterK k c .re)) [] (signed (turned c p) (λ s. realC N (N .opposite (N .times (twice (afterK k c .re)) s))) (ahead c p))) (formedOver A B)
 
-  -- the imaginary part × factor, by f plus or minus
+  -- p overlaps one side: the imaginary part after k × factor, by f plus or minus, where it is not slight
   unfoldable pub oneOver : (N .Num → N .Num) → Cx N → List (Onto N S) → List (Onto N S) → S .Word → List (Onto N S)
   oneOver f k A B p =
-      gatherOver N S (λ c. cond (N .slight ((mulC N k (c .num)) .im)) [] (factored (S .phase (c .word) p % 4) (f ((mulC N k (c .num)) .im)) (S .mul (c .word) p))) (formedOver A B)
+      gatherOver N S (λ c. cond (N .slight (afterK k c .im)) [] (factored (turned c p) (f (afterK k c .im)) (ahead c p))) (formedOver A B)
 
   unfoldable pub pairOver : N .Num → Cx N → List (Onto N S) → List (Onto N S) → S .Word → List (Onto N S)
   pairOver big k A B p =

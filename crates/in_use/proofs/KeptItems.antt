@@ -21,16 +21,16 @@ use Rattle.gksl.specs.Rules.{clashOver}
 use Rattle.gksl.specs.Words.{pauli}
 use Rattle.model.specs.Stored.{ModelTables, jumpAt}
 use Rattle.model.specs.Tested.{badJump, inside, width}
-use Rattle.model.specs.Given.{Term}
-use Rattle.model.specs.Product.{termsIn}
+use Rattle.model.specs.Terms.{Term, termsIn}
+use Rattle.model.specs.Stands.{Stands}
 use Rattle.model.specs.declared.stored.Model.{Model}
 use Rattle.model.specs.declared.stored.Range.{Range}
 use Rattle.model.specs.declared.stored.Jump.{Jump}
 use Rattle.model.specs.declared.stored.Jump.the-variants.{Pauli, General, Pair}
-use Rattle.model_laws.specs.Every.{Every}
-use Rattle.model_laws.specs.Stands.{Stands}
+use Rattle.lent.specs.Every.{Every}
 use Rattle.model_laws.proofs.JumpTests.{both}
-use Rattle.rules_by_scan.specs.Adds.{upTo, jumpsIn, jumpAdds, pairAdds, gatherJumps}
+use Rattle.word.specs.Count.{upTo}
+use Rattle.rule_terms.specs.Adds.{jumpsIn, jumpAdds, pairAdds, gatherJumps}
 
 -- ---- a list by its places
 pub read-same : {A : Type 0} (f g : ℕ → A) (k n : ℕ) → ((i : ℕ) → k ≤ i → i < k + n → f i ≡ g i) → map f (upTo k n) ≡ map g (upTo k n)

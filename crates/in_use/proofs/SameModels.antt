@@ -12,7 +12,7 @@ use lib.Ieee.{nan}
 use lib.ListN.{length, getD, take}
 use Rattle.refusal.specs.declared.Answer.the-variants.{Accepted}
 use Rattle.word.specs.Word.{identity}
-use Rattle.word.specs.Flat.{words}
+use Rattle.word.specs.Flat.{words, wordLanes}
 use Rattle.word.specs.declared.word.Word.{Word}
 use Rattle.word.proofs.FlatLaws.{words-low, words-high}
 use Rattle.number.specs.Numbers.{Cx}
@@ -25,15 +25,14 @@ use Rattle.sums.specs.Numbers.{complexes}
 use Rattle.sums.specs.Sums.{rows, row}
 use Rattle.model.specs.Stored.{ModelTables, kindAt, jumpAt, given}
 use Rattle.model.specs.Tested.{testModel, badJump}
-use Rattle.model.specs.Given.{Term}
-use Rattle.model.specs.Product.{termsIn}
+use Rattle.model.specs.Terms.{Term, termsIn}
+use Rattle.model.proofs.TermLaws.{take-complexes}
+use Rattle.model.specs.Stands.{numberAt, GoodReal, GoodTerm, InRange, Stands}
+use Rattle.model.proofs.StandsLaws.{tested-stands, stands-tested}
 use Rattle.model.specs.declared.stored.Model.{Model}
 use Rattle.model.specs.declared.stored.Jump.{Jump}
-use Rattle.model.proofs.Parts.{take-complexes}
-use Rattle.model_laws.specs.Stands.{numberAt, GoodReal, GoodTerm, InRange, Stands}
 use Rattle.model_laws.proofs.LaidLaws.{kind-same, jump-same}
-use Rattle.model_laws.proofs.StandsLaws.{tested-stands, stands-tested}
-use Rattle.rules_by_scan.specs.Adds.{realAt, realsIn, jumpsIn, jumpAdds, pairAdds, gatherJumps, rulesStored}
+use Rattle.rule_terms.specs.Adds.{realAt, realsIn, jumpsIn, jumpAdds, pairAdds, gatherJumps, rulesStored}
 use Rattle.action.specs.Acts.{listed, sumsOf, actionOf}
 use Rattle.in_use.specs.InUse.{SameModel}
 use Rattle.in_use.proofs.Firsts.{same-at, same-long, same-part}
@@ -108,7 +107,7 @@ module _ (m : Model) (t t′ : ModelTables) (same : SameModel m t t′) where
     givens = λ i h j k g. subst InRange (number-same i h) (s .givens i h j k (ap (λ (u : Jump). given u i) (jump-is j k) ∙ g));
   }
     where
-      words-room : (n : ℕ) (l l′ : List ℕ) → take n (words l) ≡ take n (words l′) → 4 * n ≤ length l → 4 * n ≤ length l′
+      words-room : (n : ℕ) (l l′ : List ℕ) → take n (words l) ≡ take n (words l′) → wordLanes * n ≤ length l → wordLanes * n ≤ length l′
       words-room n l l′ e h = omega (arith, same-long n (words l) (words l′) e (omega (arith, h, words-high l)), words-low l′)
 
   pub same-passes : testModel m t ≡ Accepted → testModel m t′ ≡ Accepted

@@ -16,7 +16,7 @@ use Rattle.index.specs.declared.Next.the-variants.{Item, Done}
 use Rattle.index.specs.Index.{flag}
 use Rattle.index.specs.Visit.{upFrom, keep, flagged, left, Steps}
 use Rattle.word.proofs.Digits.{zero-bit}
-use Rattle.index.proofs.Lowest.{Lowest}
+use Rattle.word.proofs.Lowest.{Lowest}
 use Rattle.index.proofs.Kept.{skip, hit, keep-cong, keep-cat, keep-none}
 
 abbrev pub cursor : ℕ → ℕ → Cursor

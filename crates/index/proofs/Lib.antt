@@ -2,9 +2,7 @@
 -- SPDX-License-Identifier: Apache-2.0
 
 -- Laws of the index; MarkLaws, Cursors, Kept and Sharing have those that other crates cite.
-pub mod Fill
-pub mod Lowest
-pub mod LaneLaws
+pub mod Walk
 pub mod MarkLaws
 pub mod Rows
 pub mod Unions

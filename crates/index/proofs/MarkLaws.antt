@@ -2,28 +2,46 @@
 -- SPDX-License-Identifier: Apache-2.0
 
 -- Marks in the index, word by word and item by item. Assumes nothing.
-use mathlib.Core.Path.{_≡_, refl, sym, _∙_}
+use mathlib.Core.Path.{_≡_, refl, sym, ap, _∙_}
 use mathlib.Core.Bool.{Bool, true, false, cond}
 use mathlib.Core.List.{List, [], _∷_, _++_}
-use Prim.Native.Nat.{ℕ, _+_, _-_, _*_, _/_, _%_, _<_, max}
+use Prim.Native.Nat.{ℕ, _+_, _*_, _/_, _%_, _^_, _<_, _≤_, min, max}
 use native.Mathlib.Omega.{arith}
 use native.Mathlib.Decide.{ℕ-discrete, decLt}
 use borrow.Author.Tests.{eq-eqb, ne-eqb}
-use lib.Bits.{bitAnd}
+use lib.Bits.{bitOr}
 use lib.Dec.{eqb}
-use lib.ListN.{length, getD, set, replicate, List·getD-eq-default, List·getD-append, length-append, getD-replicate, length-replicate}
+use lib.Pow.{shl-exact}
+use lib.ListN.{length, getD, set, replicate, List·getD-eq-default, List·getD-append, length-append}
 use lib.Seq.{getD-set-same, getD-set-other, getD-append-seam}
-use Rattle.word.specs.Word.{Sound}
+use Rattle.word.specs.Word.{maxQubits, bit}
+use Rattle.word.specs.Between.{NextQubit}
 use Rattle.word.specs.declared.word.Word.{Word}
-use Rattle.word.proofs.Digits.{zero-bit, bit-lt}
-use Rattle.index.specs.Index.{mark, actsAny, Indexed, Marks}
-use Rattle.index.specs.Lanes.{laneActs}
-use Rattle.index.proofs.Lowest.{Lowest, withBit, with-same, with-other}
-use Rattle.index.proofs.LaneLaws.{here, gone-here, elsewhere, laneOf, two-lanes}
+use Rattle.word.proofs.Sums.{zeros-at}
+use Rattle.word.proofs.Digits.{zero-bit, bit-lt, bit-or, shift-same, shift-other}
+use Rattle.index.specs.Index.{mark, acts, actsAny, Indexed, Marks}
+use Rattle.index.proofs.Walk.{actsBefore, Stands, none-before, passed, elsewhere, all-before}
 
 pub mark-lt : (index : List ℕ) (q j : ℕ) → mark index q j < 2
 unfolding mark
 mark-lt index q j = bit-lt _ _
+
+-- ---- one digit set
+
+-- x | (1 << k), as the code has it
+abbrev withBit : ℕ → ℕ → ℕ
+withBit x k = bitOr x ((1 * 2 ^ k) % 2 ^ 64)
+
+module _ (x k : ℕ) (h : k < 64) where
+  with-same : bit (withBit x k) k ≡ 1
+  with-same =
+      rw (shl-exact {a = 1} 1 k 64 (omega arith) (omega arith))
+      (bit-or x (1 * 2 ^ k) k ∙ omega (arith, shift-same 1 k (omega arith), bit-lt x k))
+
+  with-other : (j : ℕ) → (j ≡ k → ⊥) → bit (withBit x k) j ≡ bit x j
+  with-other j n =
+      rw (shl-exact {a = 1} 1 k 64 (omega arith) (omega arith))
+      (bit-or x (1 * 2 ^ k) j ∙ omega (arith, shift-other 1 k j (omega arith) n))
 
 -- ---- one mark set
 
@@ -43,7 +61,7 @@ module _ (index : List ℕ) (q j : ℕ) (h : q * 64 + j / 64 < length index) (hj
   unfolding mark
   same-lane r i e d =
       rw (e, getD-set-same index (q * 64 + j / 64) (withBit (getD index (q * 64 + j / 64) 0) (j % 64)) 0 h)
-      (with-other (getD index (q * 64 + j / 64) 0) (j % 64) (i % 64) (omega arith) d)
+      (with-other (getD index (q * 64 + j / 64) 0) (j % 64) (omega arith) (i % 64) d)
 
   marked-other : (r i : ℕ) → i < 4096 → (r ≡ q → i ≡ j → ⊥) → mark (marked index q j) r i ≡ mark index r i
   marked-other r i hi d = go (ℕ-discrete (r * 64 + i / 64) (q * 64 + j / 64))
@@ -52,43 +70,37 @@ module _ (index : List ℕ) (q j : ℕ) (h : q * 64 + j / 64 < length index) (hj
       go (yes e) = same-lane r i e (λ f. d (omega arith) (omega arith))
       go (no n) = other-lane r i n
 
--- ---- the turns of `mark_lane`: what is marked and what is left to mark make one thing
-
-abbrev pub Marking : ℕ → ℕ → ℕ → List ℕ → ℕ → List ℕ → ℕ → Type 0
-Marking n j base index₀ lane index m =
-    (q i : ℕ) → i < 4096 → max (mark index q i) (cond (eqb i j) (laneActs m base n q) 0) ≡ max (mark index₀ q i) (cond (eqb i j) (laneActs lane base n q) 0)
+-- ---- the turns of `mark_word`: the qubits before q are marked
+abbrev pub Marking : ℕ → Word → List ℕ → List ℕ → ℕ → Type 0
+Marking j w index₀ index q = (r i : ℕ) → i < 4096 → mark index r i ≡ max (mark index₀ r i) (cond (eqb i j) (actsBefore w q r) 0)
 
 drop-zero : (b : Bool) (a c : ℕ) → c ≡ 0 → max a (cond b c 0) ≡ a
 drop-zero true a c e = omega arith
 drop-zero false a c e = omega arith
 
-module _ (n j base : ℕ) (index₀ : List ℕ) (lane : ℕ) (index : List ℕ) (m t : ℕ) (hj : j < 4096) (inv : Marking n j base index₀ lane index m) where
-  pub marking-done : ((q : ℕ) → laneActs m base n q ≡ 0) → (q i : ℕ) → i < 4096 → mark index q i ≡ max (mark index₀ q i) (cond (eqb i j) (laneActs lane base n q) 0)
-  marking-done z q i h = sym (drop-zero (eqb i j) (mark index q i) (laneActs m base n q) (z q)) ∙ inv q i h
+pub marking-start : (j : ℕ) (w : Word) (index : List ℕ) (q : ℕ) → NextQubit w 0 q → Marking j w index index q
+marking-start j w index q n r i h = sym (drop-zero (eqb i j) (mark index r i) (actsBefore w q r) (none-before w q n r))
 
-  pub marking-turn : Lowest 64 m t → base + t < n → (base + t) * 64 + j / 64 < length index → Marking n j base index₀ lane (marked index (base + t) j) (bitAnd m (m - 1))
-  marking-turn l h k q i hi = step (ℕ-discrete i j) (ℕ-discrete q (base + t)) ∙ inv q i hi
+module _ (j : ℕ) (w : Word) (index₀ index : List ℕ) (q : ℕ) (hj : j < 4096) (s : Stands w q) (inv : Marking j w index₀ index q) where
+  pub marking-turn : (q′ : ℕ) → q < maxQubits → NextQubit w (q + 1) q′ → q * 64 + j / 64 < length index → Marking j w index₀ (marked index q j) q′
+  marking-turn q′ l n k r i hi = go (ℕ-discrete i j) (ℕ-discrete r q)
     where
-      step : Dec (i ≡ j) → Dec (q ≡ base + t) → max (mark (marked index (base + t) j) q i) (cond (eqb i j) (laneActs (bitAnd m (m - 1)) base n q) 0) ≡ max (mark index q i) (cond (eqb i j) (laneActs m base n q) 0)
-      step (yes e) (yes d) =
-          rw (eq-eqb i j e, e, d)
-          (omega (arith, marked-there index (base + t) j k hj, gone-here 64 m base n t l, here 64 m base n t l h, mark-lt index (base + t) j))
-      step (yes e) (no d) =
-          rw (eq-eqb i j e, elsewhere 64 m base n t l q d, marked-other index (base + t) j k hj q i hi (λ x y. d x))
-      step (no e) d =
-          rw (ne-eqb i j e, marked-other index (base + t) j k hj q i hi (λ x y. e y))
+      go : Dec (i ≡ j) → Dec (r ≡ q) → mark (marked index q j) r i ≡ max (mark index₀ r i) (cond (eqb i j) (actsBefore w q′ r) 0)
+      go (yes e) (yes d) =
+          rw (eq-eqb i j e, e, d) (omega (arith, marked-there index q j k hj, passed w q q′ s l n, mark-lt index₀ q j))
+      go (yes e) (no d) =
+          marked-other index q j k hj r i hi (λ x y. d x) ∙ inv r i hi
+          ∙ ap (λ (x : ℕ). max (mark index₀ r i) (cond (eqb i j) x 0)) (elsewhere w q q′ s l n r d)
+      go (no e) d =
+          marked-other index q j k hj r i hi (λ x y. e y) ∙ inv r i hi
+          ∙ rw (ne-eqb i j e)
 
--- ---- a word in both its lanes
-module _ (n j : ℕ) (w : Word) (s : Sound w) (index index′ index″ : List ℕ)
-    (low : (q i : ℕ) → i < 4096 → mark index′ q i ≡ max (mark index q i) (cond (eqb i j) (laneActs (laneOf w 0) 0 n q) 0))
-    (high : (q i : ℕ) → i < 4096 → mark index″ q i ≡ max (mark index′ q i) (cond (eqb i j) (laneActs (laneOf w 1) 64 n q) 0)) where
-  pub both-marked : Marks n j (w ∷ []) index index″
+  pub marking-done : (n : ℕ) → min n maxQubits ≤ q → Marks n j (w ∷ []) index₀ index
   unfolding actsAny
-  both-marked = record { marks = λ q i h k. high q i k ∙ rw (low q i k, two-lanes w s n q h) (go (eqb i j) (mark index q i) (laneActs (laneOf w 0) 0 n q) (laneActs (laneOf w 1) 64 n q)) }
+  marking-done n h = record { marks = λ r i l k. inv r i k ∙ ap (λ (x : ℕ). max (mark index₀ r i) (cond (eqb i j) x 0)) (all-before w n q s h r l ∙ sym (max-zero (acts w r))) }
     where
-      go : (b : Bool) (m x y : ℕ) → max (max m (cond b x 0)) (cond b y 0) ≡ max m (cond b (max (max x y) 0) 0)
-      go true m x y = omega arith
-      go false m x y = omega arith
+      max-zero : (a : ℕ) → max a 0 ≡ a
+      max-zero a = omega arith
 
 -- ---- words marked one after another
 pub none-marked : (n j : ℕ) (index : List ℕ) → Marks n j [] index index
@@ -110,16 +122,9 @@ more-marked n j W X index index′ index″ a b = record {
     go false m x y = omega arith
 
 -- ---- a clear table indexes no items
-pub all-zero : (l i : ℕ) → _≡_ {A = ℕ} (getD (replicate l 0) i 0) 0
-all-zero l i = go (decLt i l)
-  where
-    go : Dec (i < l) → _≡_ {A = ℕ} (getD (replicate l 0) i 0) 0
-    go (yes h) = getD-replicate l i 0 0 h
-    go (no h) = List·getD-eq-default (replicate l 0) 0 (rw length-replicate (omega arith))
-
 pub none-indexed : (n l : ℕ) → Indexed n [] (replicate l 0)
 unfolding mark actsAny
-none-indexed n l = record { marks = λ q j h k. rw (all-zero l (q * 64 + j / 64)) (zero-bit (j % 64)) }
+none-indexed n l = record { marks = λ q j h k. rw (zeros-at l (q * 64 + j / 64)) (zero-bit (j % 64)) }
 
 -- ---- one more item
 module _ {A : Type 0} (l : List A) (x d : A) where

@@ -1,7 +1,7 @@
 -- SPDX-FileCopyrightText: 2026 The PPVM Authors
 -- SPDX-License-Identifier: Apache-2.0
 
--- The index: for each qubit a row of 64 lanes, a bit for each of 4,096 items. An item is a list of words.
+-- Contracts between functions: the index. For each qubit a row of 64 lanes, a bit for each of 4,096 items. An item is a list of words.
 use mathlib.Core.Path.{_≡_}
 use mathlib.Core.Bool.{Bool, false, cond, _||_}
 use mathlib.Core.List.{List, [], _∷_}

@@ -3,5 +3,4 @@
 
 -- Which items share a qubit with a word, the index that finds them, and the order in which they are visited.
 pub mod Index
-pub mod Lanes
 pub mod Visit

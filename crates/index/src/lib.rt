@@ -4,17 +4,17 @@
 // Which of up to 4,096 items share a qubit with a word, by a row of bits for each qubit. An item is a
 // list of words. Both tables are lent: 64 lanes for each qubit, and 64 lanes for the mask.
 ghost use mathlib.Core.Path.{_≡_};
-ghost use mathlib.Core.Bool.{cond};
 ghost use mathlib.Core.List.{_∷_, []};
-ghost use Prim.Native.Nat.{ℕ, _+_, _*_, _<_, _≤_, max};
+ghost use Prim.Native.Nat.{ℕ, _+_, _*_, _<_, _≤_, min};
 ghost use lib.Bits.{bitOr};
-ghost use lib.Dec.{eqb};
 ghost use lib.ListN.{length, getD};
-ghost use Rattle.index.specs.Index.{Marks, United, mark, flag};
-ghost use Rattle.index.specs.Lanes.{laneActs, laneUnites};
+ghost use Rattle.word.specs.Word.{maxQubits};
+ghost use Rattle.index.specs.Index.{Marks, United};
 ghost use Rattle.index.specs.Visit.{flagged, left, Steps};
-use sums::clear::clear_lanes;
+use lent::clear::clear_lanes;
+use word::word::MAX_QUBITS;
 use word::word::Word;
+use word::word::next_qubit;
 
 // The set bits left to visit: those of rest, in lane `lane`, and those of the lanes after it.
 pub struct Cursor {
@@ -27,21 +27,14 @@ pub enum Next {
     Done,
 }
 
-// Marks item j in the rows base + k, below n, of the set bits k of lane.
-fn mark_lane(index: &mut [u64], n: usize, j: usize, base: usize, lane: u64)
-    requires { ⌜ (64 * n ≤ length (now index)) × (j < 4096) × (base ≤ 1024) ⌝ }
-    ensures { λ _. ⌜ ((q i : ℕ) → i < 4096 → mark (now (index .exit)) q i ≡ max (mark (now (index .entry)) q i) (cond (eqb i j) (laneActs lane base n q) 0)) ⌝ }
+// How many of n qubits a word holds.
+fn held_qubits(n: usize) -> usize
+    ensures { λ r. ⌜ r ≡ min n maxQubits ⌝ }
 {
-    let mut m = lane;
-    while m != 0 {
-        let q = base + u64::trailing_zeros(m) as usize;
-        if n <= q {
-            return;
-        }
-        let at = q * 64 + j / 64;
-        index[at] = index[at] | (1 << (j % 64));
-        m = m & (m - 1);
+    if MAX_QUBITS < n {
+        return MAX_QUBITS;
     }
+    n
 }
 
 // Adds the word w to item j.
@@ -49,10 +42,13 @@ pub fn mark_word(index: &mut [u64], n: usize, j: usize, w: Word)
     requires { ⌜ (64 * n ≤ length (now index)) × (j < 4096) ⌝ }
     ensures { λ _. ⌜ Marks n j (w ∷ []) (now (index .entry)) (now (index .exit)) ⌝ }
 {
-    let low = w.x[0] | w.z[0];
-    let high = w.x[1] | w.z[1];
-    mark_lane(index, n, j, 0, low);
-    mark_lane(index, n, j, 64, high);
+    let end = held_qubits(n);
+    let mut q = next_qubit(w, 0);
+    while q < end {
+        let at = q * 64 + j / 64;
+        index[at] = index[at] | (1 << (j % 64));
+        q = next_qubit(w, q + 1);
+    }
 }
 
 // The 64 lanes of the index from at on, or'd into a mask.
@@ -67,32 +63,18 @@ fn or_row(mask: &mut [u64], index: &[u64], at: usize)
     }
 }
 
-// The rows base + k, below n, of the set bits k of lane, or'd into a mask.
-fn unite_lane(mask: &mut [u64], index: &[u64], n: usize, base: usize, lane: u64)
-    requires { ⌜ (64 ≤ length (now mask)) × (64 * n ≤ length (now index)) × (base ≤ 1024) ⌝ }
-    ensures { λ _. ⌜ ((j : ℕ) → j < 4096 → flag (now (mask .exit)) j ≡ max (flag (now (mask .entry)) j) (laneUnites lane base n (now (index .entry)) j)) ⌝ }
-{
-    let mut m = lane;
-    while m != 0 {
-        let q = base + u64::trailing_zeros(m) as usize;
-        if n <= q {
-            return;
-        }
-        or_row(mask, index, q * 64);
-        m = m & (m - 1);
-    }
-}
-
 // The union of the rows of the qubits below n that p acts on, laid into a mask.
 pub fn union_rows(p: Word, n: usize, index: &[u64], mask: &mut [u64])
     requires { ⌜ (64 * n ≤ length (now index)) × (64 ≤ length (now mask)) ⌝ }
     ensures { λ _. ⌜ United n p (now (index .entry)) (now (mask .exit)) ⌝ }
 {
-    let low = p.x[0] | p.z[0];
-    let high = p.x[1] | p.z[1];
     clear_lanes(mask);
-    unite_lane(mask, index, n, 0, low);
-    unite_lane(mask, index, n, 64, high);
+    let end = held_qubits(n);
+    let mut q = next_qubit(p, 0);
+    while q < end {
+        or_row(mask, index, q * 64);
+        q = next_qubit(p, q + 1);
+    }
 }
 
 // All set bits of a mask.

@@ -2,7 +2,7 @@
 -- SPDX-License-Identifier: Apache-2.0
 
 -- Appending listed words one by one, and the words that the basis then has. Assumes nothing.
-use mathlib.Core.Path.{_≡_, refl, ap, ap₂, sym, _∙_}
+use mathlib.Core.Path.{_≡_, refl, ap, ap₂, sym, _∙_, subst⁻¹}
 use mathlib.Core.Bool.{true, false}
 use mathlib.Core.List.{List, [], _∷_, _++_, append-nil, append-assoc}
 use Prim.Native.Nat.{ℕ, _+_, _-_, _*_, _≤_, _<_}
@@ -10,41 +10,32 @@ use native.Mathlib.Omega.{arith}
 use native.Mathlib.Numerals.{add-one}
 use lib.Dec.{eqb}
 use lib.Ieee.{Float}
-use lib.ListN.{length, getD, set, take, drop, replicate, take-append-drop}
-use lib.Seq.{take-suc-set, drop-set-lt, drop-drop, length-take-le}
+use lib.ListN.{length, getD, take, drop, replicate, take-append-drop}
+use lib.Seq.{take-suc-set, drop-drop, length-take-le}
 use borrow.Rule.Slice.PartMut.{putMid}
 use Rattle.word.specs.Word.{identity}
-use Rattle.word.specs.Flat.{words, layWord, LaysWord}
+use Rattle.word.specs.Flat.{wordLanes, words, flatLanes}
 use Rattle.word.specs.declared.word.Word.{Word}
-use Rattle.word.proofs.FlatLaws.{words-high}
+use Rattle.word.proofs.FlatLaws.{words-high, words-drop, lanes-front, lanes-append, Whole, whole-words, whole-take, whole-at, words-lanes, lay-drop}
 use Rattle.number.specs.Floats.{float0}
-use Rattle.keep.specs.Retained.{pick, flagged, flatLanes}
-use Rattle.keep.specs.Admitted.{appendedLanes, appendedZeros, picked, AdmitRoom}
-use Rattle.keep.proofs.PickLaws.{flagged-skips, flagged-takes, flagged-below, pick-skips, pick-takes, pick-length}
-use Rattle.keep.proofs.LaneLaws.{lanes-front, lanes-append, Whole, whole-words, whole-take, whole-pick, words-lanes, words-drop}
+use Rattle.keep.specs.Retained.{pick, flagged}
+use Rattle.keep.specs.Admitted.{appendedLanes, appendedZeros, picked}
+use Rattle.keep.proofs.PickLaws.{flagged-skips, flagged-takes, flagged-below, pick-skips, pick-takes, pick-length, whole-pick}
 use Rattle.keep.proofs.FillLaws.{part-filled}
+use Rattle.word.specs.Between.{LaysWord}
+use Rattle.keep.specs.Between.{AdmitRoom}
 
 -- after i listed words: those picked stand after the first len, up to at, and from at on nothing has changed
 pub record Grown (len : ℕ) (list ks l₀ l : List ℕ) (at i : ℕ) : Type 0 where
   pub place : at ≡ len + flagged (take i ks)
   pub front : take at (words l) ≡ take len (words l₀) ++ picked i ks list
-  pub back : drop (at * 4) l ≡ drop (at * 4) l₀
+  pub back : drop (at * wordLanes) l ≡ drop (at * wordLanes) l₀
   pub long : length l ≡ length l₀
 
 pub grown-start : (len : ℕ) (list ks l : List ℕ) → Grown len list ks l l len 0
 unfolding flagged pick
 grown-start len list [] l = record { place = omega arith; front = sym (append-nil (take len (words l))); back = refl; long = refl }
 grown-start len list (k ∷ ks) l = record { place = omega arith; front = sym (append-nil (take len (words l))); back = refl; long = refl }
-
-lay-drop : (l : List ℕ) (k : ℕ) (w : Word) (n : ℕ) → k * 4 + 3 < n → drop n (layWord l k w) ≡ drop n l
-lay-drop l k w n h =
-    let a : List ℕ = set l (k * 4) (getD (w .x) 0 0) in
-    let b : List ℕ = set a (k * 4 + 1) (getD (w .x) 1 0) in
-    let c : List ℕ = set b (k * 4 + 2) (getD (w .z) 0 0) in
-    drop-set-lt n c (k * 4 + 3) (getD (w .z) 1 0) h
-    ∙ drop-set-lt n b (k * 4 + 2) (getD (w .z) 0 0) (omega arith)
-    ∙ drop-set-lt n a (k * 4 + 1) (getD (w .x) 1 0) (omega arith)
-    ∙ drop-set-lt n l (k * 4) (getD (w .x) 0 0) (omega arith)
 
 module _ (len count : ℕ) (list ks l₀ : List ℕ) (room : AdmitRoom len count list ks l₀) (l : List ℕ) (at i : ℕ) (g : Grown len list ks l₀ l at i) (h : i < count) where
   flag-here : i < length ks
@@ -59,7 +50,7 @@ module _ (len count : ℕ) (list ks l₀ : List ℕ) (room : AdmitRoom len count
   }
 
   -- there is a place for the next
-  pub grown-room : eqb (getD ks i 0) 0 ≡ false → 4 * at + 4 ≤ length l
+  pub grown-room : eqb (getD ks i 0) 0 ≡ false → wordLanes * at + wordLanes ≤ length l
   grown-room e = omega (arith, room .places, g .place, g .long, flagged-below ks i count h flag-here e)
 
   pub grown-put : (w : Word) (l′ : List ℕ) → eqb (getD ks i 0) 0 ≡ false → w ≡ getD (words list) i identity → LaysWord l at w l′ → length l′ ≡ length l → Grown len list ks l₀ l′ (at + 1) (i + 1)
@@ -73,10 +64,10 @@ module _ (len count : ℕ) (list ks l₀ : List ℕ) (room : AdmitRoom len count
         ∙ ap (λ (t : List Word). take len (words l₀) ++ t)
         (ap (λ (v : Word). picked i ks list ++ (v ∷ [])) f ∙ sym (pick-takes ks (words list) i identity flag-here (omega (arith, room .listed, words-high list)) e)));
     back =
-        let z : at * 4 + 4 ≡ (at + 1) * 4 = omega arith in
-        ap (drop ((at + 1) * 4)) (s .lanes)
-        ∙ lay-drop l at w ((at + 1) * 4) (omega arith)
-        ∙ ap (λ (n : ℕ). drop n l) (sym z) ∙ sym (drop-drop 4 (at * 4) l) ∙ ap (drop 4) (g .back) ∙ drop-drop 4 (at * 4) l₀ ∙ ap (λ (n : ℕ). drop n l₀) z;
+        let z : at * wordLanes + wordLanes ≡ (at + 1) * wordLanes = omega arith in
+        ap (drop ((at + 1) * wordLanes)) (s .lanes)
+        ∙ lay-drop l at w ((at + 1) * wordLanes) (subst⁻¹ (λ (v : Word). Whole (v ∷ [])) f (whole-at i (words list) (whole-words list))) (omega arith)
+        ∙ ap (λ (n : ℕ). drop n l) (sym z) ∙ sym (drop-drop wordLanes (at * wordLanes) l) ∙ ap (drop wordLanes) (g .back) ∙ drop-drop wordLanes (at * wordLanes) l₀ ∙ ap (λ (n : ℕ). drop n l₀) z;
     long = same ∙ g .long;
   }
 
@@ -92,16 +83,16 @@ module _ (len count : ℕ) (list ks l₀ : List ℕ) (room : AdmitRoom len count
       let ws : List Word = picked count ks list in
       let front : take at (words l) ≡ take len (words l₀) ++ ws = g .front ∙ ap (λ (j : ℕ). take len (words l₀) ++ picked j ks list) all in
       let place : at ≡ len + flagged (take count ks) = g .place ∙ ap (λ (j : ℕ). len + flagged (take j ks)) all in
-      let end : at * 4 ≡ 4 * (len + length ws) = omega (arith, place, picked-length) in
-      let start : len * 4 ≡ 4 * len = omega arith in
-      sym (take-append-drop (at * 4) l)
+      let end : at * wordLanes ≡ wordLanes * (len + length ws) = omega (arith, place, picked-length) in
+      let start : len * wordLanes ≡ wordLanes * len = omega arith in
+      sym (take-append-drop (at * wordLanes) l)
       ∙ ap₂ (λ (s t : List ℕ). s ++ t)
-      (lanes-front l at (at * 4) refl (omega (arith, place, room .places, g .long))
+      (lanes-front l at (at * wordLanes) refl (omega (arith, place, room .places, g .long))
       ∙ ap flatLanes front
       ∙ lanes-append (take len (words l₀)) ws
-      ∙ ap (λ (t : List ℕ). t ++ flatLanes ws) (sym (lanes-front l₀ len (len * 4) refl (omega (arith, room .places))) ∙ ap (λ (n : ℕ). take n l₀) start))
+      ∙ ap (λ (t : List ℕ). t ++ flatLanes ws) (sym (lanes-front l₀ len (len * wordLanes) refl (omega (arith, room .places))) ∙ ap (λ (n : ℕ). take n l₀) start))
       (g .back ∙ ap (λ (n : ℕ). drop n l₀) end)
-      ∙ append-assoc (take (4 * len) l₀) (flatLanes ws) (drop (4 * (len + length ws)) l₀)
+      ∙ append-assoc (take (wordLanes * len) l₀) (flatLanes ws) (drop (wordLanes * (len + length ws)) l₀)
 
 -- the numbers, filled from len up to the new length
 pub zeros-done : (len n end : ℕ) (numbers y : List Float) → end ≡ len + n → len + n ≤ length numbers
@@ -112,13 +103,13 @@ zeros-done len n end numbers y e h f =
     ∙ ap (λ (m : ℕ). take len numbers ++ (replicate m float0 ++ drop (len + m) numbers)) k
 
 -- the words of the basis: the first len, those appended, and what stood past them
-appended-words : (len : ℕ) (ws : List Word) (lanes : List ℕ) → Whole ws → 4 * (len + length ws) ≤ length lanes
+appended-words : (len : ℕ) (ws : List Word) (lanes : List ℕ) → Whole ws → wordLanes * (len + length ws) ≤ length lanes
     → words (appendedLanes len ws lanes) ≡ take len (words lanes) ++ (ws ++ drop (len + length ws) (words lanes))
 appended-words len ws lanes h room =
-    let start : 4 * len ≡ len * 4 = omega arith in
-    ap (λ (t : List ℕ). words (t ++ (flatLanes ws ++ drop (4 * (len + length ws)) lanes))) (lanes-front lanes len (4 * len) start (omega arith))
-    ∙ words-lanes (take len (words lanes)) (flatLanes ws ++ drop (4 * (len + length ws)) lanes) (whole-take len (words lanes) (whole-words lanes))
-    ∙ ap (λ (t : List Word). take len (words lanes) ++ t) (words-lanes ws (drop (4 * (len + length ws)) lanes) h ∙ ap (λ (t : List Word). ws ++ t) (words-drop lanes (len + length ws) (4 * (len + length ws)) refl))
+    let start : wordLanes * len ≡ len * wordLanes = omega arith in
+    ap (λ (t : List ℕ). words (t ++ (flatLanes ws ++ drop (wordLanes * (len + length ws)) lanes))) (lanes-front lanes len (wordLanes * len) start (omega arith))
+    ∙ words-lanes (take len (words lanes)) (flatLanes ws ++ drop (wordLanes * (len + length ws)) lanes) (whole-take len (words lanes) (whole-words lanes))
+    ∙ ap (λ (t : List Word). take len (words lanes) ++ t) (words-lanes ws (drop (wordLanes * (len + length ws)) lanes) h ∙ ap (λ (t : List Word). ws ++ t) (words-drop (len + length ws) lanes))
 
 pub admitted-words : (len count : ℕ) (list kept lanes : List ℕ) → AdmitRoom len count list kept lanes
     → words (appendedLanes len (picked count kept list) lanes) ≡ take len (words lanes) ++ (picked count kept list ++ drop (len + flagged (take count kept)) (words lanes))

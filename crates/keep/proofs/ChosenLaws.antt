@@ -12,9 +12,10 @@ use lib.ListN.{length, getD, set, replicate, length-set, length-map, length-repl
 use lib.Seq.{getD-set-same, getD-set-other}
 use borrow.Author.Tests.{ltb-true, ltb-false, eqb-true, eqb-false, eq-eqb, ne-eqb}
 use Rattle.keep.specs.Retained.{flagged}
-use Rattle.keep.specs.Chosen.{flagOf, walked, chosen, Below, occurrences, EachOnce}
+use Rattle.keep.specs.Chosen.{flagOf, walked, chosen}
 use Rattle.keep.proofs.FlagLaws.{Kept, flagged-set, flagged-all, flagged-same, flagged-none}
 use Rattle.keep.proofs.Listed.{AtMostOnce, occurs-at, occurs-not, once-rest, gone}
+use Rattle.keep.specs.Between.{Below, occurrences, EachOnce}
 
 -- what holds of both lists holds of the one that a test takes
 either : (P : List ℕ → List ℕ → Type 0) (b : Bool) (s t s′ t′ : List ℕ) → P s s′ → P t t′ → P (cond b s t) (cond b s′ t′)

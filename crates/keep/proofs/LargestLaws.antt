@@ -16,7 +16,7 @@ use lib.Ieee.{Float, nan, lt}
 use lib.ListN.{length, getD, set, take, replicate, length-set, length-map, length-replicate, getD-replicate, List·getD-eq-default}
 use lib.Seq.{take-all, take-set-le, getD-set-same, getD-set-other}
 use Rattle.number.specs.Floats.{magnitude}
-use Rattle.order.specs.Magnitudes.{byMagnitude, AllFinite, keyAt, rank}
+use Rattle.order.specs.Magnitudes.{byMagnitude, keyAt}
 use Rattle.order.proofs.MagnitudeLaws.{by-magnitude, size-lt}
 use Rattle.keep.specs.Retained.{flagged}
 use Rattle.keep.specs.Chosen.{flagOf, chosen}
@@ -26,6 +26,7 @@ use Rattle.keep.proofs.PickLaws.{flagged-next}
 use Rattle.keep.proofs.ChosenLaws.{chosen-fixed, chosen-count, chosen-earlier, walked-length}
 use Rattle.keep.proofs.SameFlags.{Bits, same-flags, chosen-bits}
 use Rattle.keep.proofs.OrderOnce.{magnitude-once}
+use Rattle.order.specs.Between.{AllFinite, rank}
 
 -- ---- the loop
 flag-same : (k : ℕ) → k ≤ 1 → flagOf k ≡ k

@@ -4,10 +4,8 @@
 -- Laws of this crate.
 pub mod PickLaws
 pub mod MoveLaws
-pub mod LaneLaws
 pub mod FillLaws
 pub mod RetainLaws
-pub mod WriteLaws
 pub mod WalkLaws
 pub mod FlagLaws
 pub mod Listed

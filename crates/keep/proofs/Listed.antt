@@ -10,7 +10,7 @@ use native.Mathlib.Omega.{arith}
 use lib.Dec.{eqb}
 use lib.ListN.{length, getD}
 use borrow.Author.Tests.{eq-eqb, ne-eqb}
-use Rattle.keep.specs.Chosen.{occurrences}
+use Rattle.keep.specs.Between.{occurrences}
 
 -- no position twice
 abbrev pub AtMostOnce : List ℕ → Type 0

@@ -14,7 +14,7 @@ use Rattle.order.specs.Merge.{positions, count}
 use Rattle.order.specs.Magnitudes.{fallsBefore, byMagnitude}
 use Rattle.order.proofs.Members.{all-at, all-sort, positions-below}
 use Rattle.order.proofs.CountLaws.{ordered-once}
-use Rattle.keep.specs.Chosen.{Below, occurrences, EachOnce}
+use Rattle.keep.specs.Between.{Below, occurrences, EachOnce}
 
 eqb-turned : (a b : ℕ) → eqb a b ≡ eqb b a
 eqb-turned a b = go (eqb b a) refl

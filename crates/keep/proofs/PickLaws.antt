@@ -10,6 +10,8 @@ use native.Mathlib.Omega.{arith}
 use native.Mathlib.Numerals.{add-one}
 use lib.Dec.{eqb}
 use lib.ListN.{length, getD, take}
+use Rattle.word.specs.declared.word.Word.{Word}
+use Rattle.word.proofs.FlatLaws.{Whole}
 use Rattle.keep.specs.Retained.{pick, flagged}
 use Rattle.keep.specs.Chosen.{flagOf}
 
@@ -100,3 +102,14 @@ module _ {A : Type 0} where
       go : (b : Bool) (t : List A) (n : ℕ) → length t ≡ n → length (cond b t (a ∷ t)) ≡ cond b n (suc n)
       go true t n e = e
       go false t n e = ap suc e
+
+-- ---- whole words are picked whole
+pub whole-pick : (ks : List ℕ) (ws : List Word) → Whole ws → Whole (pick ks ws)
+unfolding Whole pick
+whole-pick [] ws h = tt
+whole-pick (k ∷ ks) [] h = tt
+whole-pick (k ∷ ks) (w ∷ ws) h = go (eqb k 0) (pick ks ws) (whole-pick ks ws (h .1))
+  where
+    go : (b : Bool) (vs : List Word) → Whole vs → Whole (cond b vs (w ∷ vs))
+    go true vs g = g
+    go false vs g = (h .0, g)

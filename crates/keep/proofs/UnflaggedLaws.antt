@@ -11,9 +11,9 @@ use native.Mathlib.Numerals.{add-one}
 use lib.Dec.{eqb}
 use lib.ListN.{length, getD, set, take}
 use lib.Seq.{take-set-le, take-suc-set}
-use Rattle.order.specs.Merge.{All, AllBelow}
+use Rattle.order.specs.Between.{All, AllBelow}
+use Rattle.keep.specs.Between.{unflaggedTo, unflagged}
 use Rattle.order.proofs.Members.{all-append, all-more}
-use Rattle.keep.specs.Retained.{unflaggedTo, unflagged}
 
 pub laid-start : (ks out : List ℕ) → take 0 out ≡ unflaggedTo ks 0
 unfolding unflaggedTo

@@ -2,12 +2,11 @@
 -- SPDX-License-Identifier: Apache-2.0
 
 -- Which positions stay: those that are fixed, and of the others the first ones in an order, as many as there are slots.
-use Prim.Native.Nat.{ℕ, zero, suc, _+_, _<_}
-use mathlib.Core.Path.{_≡_}
+use Prim.Native.Nat.{ℕ, zero, suc}
 use mathlib.Core.Bool.{cond}
 use mathlib.Core.List.{List, [], _∷_, map}
 use lib.Dec.{eqb}
-use lib.ListN.{length, getD, set}
+use lib.ListN.{getD, set}
 
 -- 0 stays 0, every other flag is 1
 abbrev pub flagOf : ℕ → ℕ
@@ -21,17 +20,3 @@ walked fixed (p ∷ ps) (suc s) flags = cond (eqb (getD fixed p 0) 0) (walked fi
 
 abbrev pub chosen : List ℕ → List ℕ → ℕ → List ℕ
 chosen order fixed slots = walked fixed order slots (map flagOf fixed)
-
--- every position listed is below n
-pub record Below (n : ℕ) (order : List ℕ) : Type 0 where
-  pub below : (i : ℕ) → i < length order → getD order i 0 < n
-
--- how often p is listed
-unfoldable pub occurrences : ℕ → List ℕ → ℕ
-occurrences p [] = 0
-occurrences p (q ∷ ps) = cond (eqb q p) 1 0 + occurrences p ps
-
--- the positions below n are listed, each once, and nothing else is
-pub record EachOnce (n : ℕ) (order : List ℕ) : Type 0 where
-  pub all-below : Below n order
-  pub once : (p : ℕ) → p < n → occurrences p order ≡ 1

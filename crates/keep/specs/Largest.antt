@@ -1,7 +1,7 @@
 -- SPDX-FileCopyrightText: 2026 The PPVM Authors
 -- SPDX-License-Identifier: Apache-2.0
 
--- Which positions stay beside one that is the last to stay in the order by falling magnitude.
+-- Contracts between functions: which positions stay beside one that is the last to stay in the order by falling magnitude.
 use Prim.Native.Nat.{ℕ, _+_, _<_}
 use mathlib.Core.Path.{_≡_}
 use mathlib.Core.Bool.{cond}

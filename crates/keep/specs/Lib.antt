@@ -7,3 +7,4 @@ pub mod Chosen
 pub mod Largest
 pub mod Admitted
 pub mod Pruned
+pub mod Between

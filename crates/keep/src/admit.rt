@@ -6,10 +6,11 @@ ghost use mathlib.Core.Path.{_≡_};
 ghost use Prim.Native.Nat.{_+_, _≤_};
 ghost use lib.ListN.{length, take};
 ghost use Rattle.keep.specs.Retained.{flagged};
-ghost use Rattle.keep.specs.Admitted.{appendedLanes, picked, AdmitRoom, Admits};
-use sums::clear::clear_numbers;
+ghost use Rattle.keep.specs.Admitted.{appendedLanes, picked};
+use lent::clear::clear_numbers;
 use word::flat::set_word;
 use word::flat::word_at;
+ghost use Rattle.keep.specs.Between.{AdmitRoom, Admits};
 
 fn append_words(words: &mut [u64], len: usize, list: &[u64], count: usize, kept: &[u64]) -> usize
     requires { ⌜ AdmitRoom len count (now list) (now kept) (now words) ⌝ }

@@ -5,7 +5,8 @@
 ghost use mathlib.Core.Path.{_≡_};
 ghost use mathlib.Core.List.{map};
 ghost use lib.ListN.{length};
-ghost use Rattle.keep.specs.Chosen.{flagOf, chosen, Below};
+ghost use Rattle.keep.specs.Chosen.{flagOf, chosen};
+ghost use Rattle.keep.specs.Between.{Below};
 
 pub fn flag_of(k: u64) -> u64
     ensures { λ r. ⌜ r ≡ flagOf k ⌝ }

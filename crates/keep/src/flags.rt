@@ -7,7 +7,7 @@ ghost use mathlib.Core.Bool.{cond};
 ghost use Prim.Native.Nat.{_≤_};
 ghost use lib.Dec.{eqb};
 ghost use lib.ListN.{length, take, replicate};
-ghost use Rattle.keep.specs.Retained.{unflagged};
+ghost use Rattle.keep.specs.Between.{unflagged};
 ghost use Rattle.keep.specs.Pruned.{largeFlag, largeFlags};
 use number::scalar::magnitude;
 

@@ -9,7 +9,7 @@ ghost use mathlib.Core.Bool.{cond};
 ghost use Prim.Native.Nat.{_<_};
 ghost use lib.Ieee.{lt};
 ghost use lib.ListN.{length, replicate};
-ghost use Rattle.order.specs.Magnitudes.{byMagnitude, AreFinite};
+ghost use Rattle.order.specs.Magnitudes.{byMagnitude};
 ghost use Rattle.keep.specs.Chosen.{chosen};
 ghost use Rattle.keep.specs.Largest.{staysFlag, KeepsTo};
 use crate::choose::choose_largest;
@@ -17,6 +17,7 @@ use crate::choose::copy_flags;
 use crate::nth::find_last;
 use number::scalar::magnitude;
 use order::magnitudes::order_by_desc_mag;
+ghost use Rattle.order.specs.Between.{AreFinite};
 
 fn flag_below(x: f64, y: f64) -> u64
     ensures { λ r. ⌜ r ≡ cond (lt x y) 1 0 ⌝ }

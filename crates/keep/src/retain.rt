@@ -7,16 +7,18 @@
 ghost use mathlib.Core.Path.{_≡_};
 ghost use Prim.Native.Nat.{_*_, _≤_};
 ghost use lib.ListN.{length, take};
-ghost use Rattle.keep.specs.Retained.{flagged, retainedLanes, retainedNumbers, Retains};
+ghost use Rattle.word.specs.Flat.{wordLanes};
+ghost use Rattle.keep.specs.Retained.{flagged, retainedLanes, retainedNumbers};
 use crate::choose::flag_of;
-use sums::clear::clear_lanes;
-use sums::clear::clear_numbers;
+use lent::clear::clear_lanes;
+use lent::clear::clear_numbers;
 use word::flat::WORD_LANES;
 use word::flat::set_word;
 use word::flat::word_at;
+ghost use Rattle.keep.specs.Between.{Retains};
 
 fn retain_words(words: &mut [u64], len: usize, kept: &[u64]) -> usize
-    requires { ⌜ (4 * len ≤ length (now words)) × (len ≤ length (now kept)) ⌝ }
+    requires { ⌜ (wordLanes * len ≤ length (now words)) × (len ≤ length (now kept)) ⌝ }
     ensures { λ r. ⌜ (r ≡ flagged (take len (now (kept .entry)))) × (now (words .exit) ≡ retainedLanes len (now (kept .entry)) (now (words .entry))) ⌝ }
 {
     let mut held = 0;
@@ -49,7 +51,7 @@ fn retain_numbers(coeffs: &mut [f64], len: usize, kept: &[u64]) -> usize
 
 // Of the first `len` entries those stay whose flag is not 0: how many.
 pub fn retain_in_place(words: &mut [u64], coeffs: &mut [f64], len: usize, kept: &[u64]) -> usize
-    requires { ⌜ (4 * len ≤ length (now words)) × (len ≤ length (now coeffs)) × (len ≤ length (now kept)) ⌝ }
+    requires { ⌜ (wordLanes * len ≤ length (now words)) × (len ≤ length (now coeffs)) × (len ≤ length (now kept)) ⌝ }
     ensures { λ r. ⌜ Retains len (now (kept .entry)) (now (words .entry)) (now (coeffs .entry)) r (now (words .exit)) (now (coeffs .exit)) ⌝ }
 {
     retain_words(words, len, kept);

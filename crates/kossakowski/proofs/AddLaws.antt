@@ -14,28 +14,29 @@ use lib.Ieee.{Float}
 use lib.ListN.{length, getD, take, drop, replicate, length-map, length-append, length-drop, take-append-drop, List·getD-eq-default}
 use lib.Seq.{length-take-le}
 use Rattle.refusal.specs.declared.Refusal.the-variants.{TableFull}
+use Rattle.word.specs.Flat.{wordLanes}
 use Rattle.number.specs.Floats.{floats, float0}
 use Rattle.sums.specs.Numbers.{complexes}
 use Rattle.model.specs.declared.stored.Model.{Model}
-use Rattle.model.specs.declared.spec.Built.the-variants as Answers
+use Rattle.model_build.specs.declared.spec.Built.the-variants as Answers
 use Rattle.model.specs.Stored.{ModelTables}
-use Rattle.model.specs.Given.{got, Term, readOperator}
-use Rattle.model.specs.Compiled.{Compiled}
-use Rattle.model.specs.Built.{parts, entriesFrom, termsOf, termPlaces, Building, finished}
-use Rattle.model.specs.Items.{total}
-use Rattle.model.specs.Laid.{laid}
-use Rattle.model.specs.Taken.{termTaken}
-use Rattle.model.specs.Product.{termsIn}
-use Rattle.model.specs.Thinned.{LaysTerms}
-use Rattle.model.specs.Work.{operatorIn, operatorTaken, termsGiven, StoresJumps}
-use Rattle.model.proofs.Parts.{length-parts, length-complexes, length-terms}
-use Rattle.model.proofs.TakenLaws.{each-taken, each-read, operator-taken, operator-few}
-use Rattle.model.proofs.StoreLaws.{lays-append}
-use Rattle.model.proofs.WorkLaws.{terms-stay}
-use Rattle.kossakowski.specs.Matrix.{passing, pairPlaces}
-use Rattle.kossakowski.specs.Pairs.{pairAt, pairsOf}
-use Rattle.kossakowski.specs.Added.{Input, operators, operatorsGiven, matrix, readOperators, allTerms, stored, compiledMatrix, add}
-use Rattle.kossakowski.specs.Work.{operatorsIn, WorkStays}
+use Rattle.model_build.specs.Given.{readOperator}
+use Rattle.model_build.specs.Compiled.{Compiled}
+use Rattle.model_build.specs.Built.{parts, entriesFrom, termsOf, termPlaces, Building, finished}
+use Rattle.lent.specs.Read.{got}
+use Rattle.model.specs.Terms.{Term, termsIn}
+use Rattle.lent.specs.Laid.{laid, total}
+use Rattle.model_build.specs.Taken.{termTaken}
+use Rattle.model_build.specs.Thinned.{LaysTerms}
+use Rattle.model_build.specs.Work.{operatorIn, operatorTaken, termsGiven, StoresJumps}
+use Rattle.model_build.proofs.Parts.{length-parts, length-complexes, length-terms}
+use Rattle.model_build.proofs.TakenLaws.{each-taken, each-read, operator-taken, operator-few}
+use Rattle.model_build.proofs.StoreLaws.{lays-append}
+use Rattle.operator_product.proofs.WorkLaws.{terms-stay}
+use Rattle.k_matrix.specs.Matrix.{passing, pairPlaces}
+use Rattle.k_matrix.specs.Pairs.{pairAt, pairsOf}
+use Rattle.k_matrix.specs.Added.{Input, operators, operatorsGiven, matrix, readOperators, allTerms, stored, compiledMatrix, add}
+use Rattle.k_matrix.specs.Work.{operatorsIn, WorkStays}
 
 -- ---- parts of a list
 module _ {A B : Type 0} (f : A → B) where
@@ -148,7 +149,7 @@ module _ (m : Model) (i : Input) (t : ModelTables) (workWords : List ℕ) (workN
   abbrev pairs : List Compiled
   pairs = pairsOf (m .terms) (i .counts) (matrix i) As
 
-  module _ (kept : ℕ) (counts : kept ≡ length (termsOf pairs)) (places : ℕ) (p : places ≡ min (length (t .tWords) / 4) (length (t .tNumbers) / 2)) where
+  module _ (kept : ℕ) (counts : kept ≡ length (termsOf pairs)) (places : ℕ) (p : places ≡ min (length (t .tWords) / wordLanes) (length (t .tNumbers) / 2)) where
     terms-are : m .terms + length (i .lengths) + kept ≡ m .terms + length (allTerms As ++ termsOf pairs)
     terms-are = omega (arith, own, counts, length-append (allTerms As) (termsOf pairs))
 

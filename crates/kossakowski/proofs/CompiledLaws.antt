@@ -13,42 +13,42 @@ use lib.Ieee.{Float}
 use lib.ListN.{length, getD, replicate, length-map}
 use Rattle.refusal.specs.declared.Refusal.the-variants.{TooManyQubits, TableFull}
 use Rattle.refusal.specs.declared.Answer.the-variants.{Accepted}
+use Rattle.word.specs.Flat.{wordLanes}
 use Rattle.word.specs.Word.{maxQubits}
 use Rattle.number.specs.Numbers.{largestOver}
 use Rattle.number.specs.Floats.{floats, float0}
 use Rattle.model.specs.Stored.{ModelTables}
 use Rattle.model.specs.Tested.{maxHamiltonian, maxJumps, testModel}
-use Rattle.model.specs.Given.{Term}
-use Rattle.model.specs.Built.{termsOf}
-use Rattle.model.specs.Items.{total}
-use Rattle.model.specs.Product.{termsIn}
-use Rattle.model.specs.Thinned.{LaysTerms, StoreRoom}
-use Rattle.model.specs.Work.{operatorIn, operatorTaken, ReadRoom, TextsFit, JumpsRoom, StoresJumps}
+use Rattle.model.specs.Terms.{Term, termsIn}
+use Rattle.model_build.specs.Built.{termsOf}
+use Rattle.lent.specs.Laid.{total}
+use Rattle.model_build.specs.Thinned.{LaysTerms, StoreRoom}
+use Rattle.model_build.specs.Work.{operatorIn, operatorTaken, ReadRoom, TextsFit, JumpsRoom, StoresJumps}
 use Rattle.model.specs.declared.stored.Model.{Model}
-use Rattle.model.specs.declared.spec.Built.the-variants as Answers
-use Rattle.model.proofs.BuildLaws.{passed, counted-passed, lent-passed}
-use Rattle.model.proofs.NeedLaws.{need-some}
-use Rattle.model.proofs.WorkLaws.{terms-stay}
-use Rattle.kossakowski.specs.Matrix.{pairPlaces}
-use Rattle.kossakowski.specs.Pairs.{pairsOf}
-use Rattle.kossakowski.specs.Added.{Input, operators, matrix, workNeeded, allTerms, add}
-use Rattle.kossakowski.specs.Work.{Square, OperatorsRoom, operatorsIn, WorkStays}
-use Rattle.kossakowski.proofs.MatrixLaws.{pairs-few}
+use Rattle.model_build.specs.declared.spec.Built.the-variants as Answers
+use Rattle.lent.proofs.Passed.{passed, counted-passed, lent-passed}
+use Rattle.lent.proofs.NeedLaws.{need-some}
+use Rattle.operator_product.proofs.WorkLaws.{terms-stay}
+use Rattle.k_matrix.specs.Matrix.{pairPlaces}
+use Rattle.k_matrix.specs.Pairs.{pairsOf}
+use Rattle.k_matrix.specs.Added.{Input, operators, matrix, workNeeded, allTerms, add}
+use Rattle.k_matrix.specs.Work.{Square, OperatorsRoom, operatorsIn, WorkStays}
+use Rattle.k_matrix.proofs.MatrixLaws.{pairs-few}
 use Rattle.kossakowski.proofs.MatrixAccepted.{Accepts}
 use Rattle.kossakowski.proofs.AddLaws.{operators-are, all-are, all-length, counts-few, operators-in, operators-stay, added-none, added-full, added-model}
 
 -- a model that passes its test counts no more terms than there are places
-pub terms-inside : (m : Model) (t : ModelTables) → testModel m t ≡ Accepted → (m .terms ≤ length (t .tWords) / 4) × (m .terms ≤ length (t .tNumbers) / 2)
+pub terms-inside : (m : Model) (t : ModelTables) → testModel m t ≡ Accepted → (m .terms ≤ length (t .tWords) / wordLanes) × (m .terms ≤ length (t .tNumbers) / 2)
 unfolding testModel
 terms-inside m t e =
     let e1 = passed (ltb maxQubits (m .qubits)) (TooManyQubits (m .qubits) maxQubits) _ e in
     let e2 = counted-passed maxHamiltonian (m .hamiltonian) _ (e1 .1) in
     let e3 = counted-passed maxJumps (m .jumps) _ (e2 .1) in
-    let e4 = lent-passed (m .hamiltonian) (length (t .hWords) / 4) _ (e3 .1) in
+    let e4 = lent-passed (m .hamiltonian) (length (t .hWords) / wordLanes) _ (e3 .1) in
     let e5 = lent-passed (m .hamiltonian) (length (t .hCoeffs)) _ (e4 .1) in
     let e6 = lent-passed (m .jumps) (length (t .jumps) / 8) _ (e5 .1) in
     let e7 = lent-passed (m .jumps) (length (t .rates)) _ (e6 .1) in
-    let e8 = lent-passed (m .terms) (length (t .tWords) / 4) _ (e7 .1) in
+    let e8 = lent-passed (m .terms) (length (t .tWords) / wordLanes) _ (e7 .1) in
     let e9 = lent-passed (m .terms) (length (t .tNumbers) / 2) _ (e8 .1) in
     (e8 .0, e9 .0)
 
@@ -72,8 +72,8 @@ module _ (m : Model) (i : Input) (t : ModelTables) (workWords : List ℕ) (workN
   own-places : 0 < operators i → (places : ℕ) → workNeeded (operators i) own ≤ places → 256 + own ≤ places
   own-places some places room = omega (arith, need-some (operators i) _ places some room, total-most 16 (i .counts) few, a .lengths .terms-counted)
 
-  words-places : 0 < operators i → 256 + own ≤ length workWords / 4
-  words-places some = own-places some (length workWords / 4) (a .lengths .work-words-room)
+  words-places : 0 < operators i → 256 + own ≤ length workWords / wordLanes
+  words-places some = own-places some (length workWords / wordLanes) (a .lengths .work-words-room)
 
   numbers-places : 0 < operators i → 256 + own ≤ length workNumbers / 2
   numbers-places some = own-places some (length workNumbers / 2) (a .lengths .work-numbers-room)
@@ -109,7 +109,7 @@ module _ (m : Model) (i : Input) (t : ModelTables) (workWords : List ℕ) (workN
   module _ (lanes : List ℕ) (numbers : List Float) (reads : operatorIn own lanes numbers ≡ operatorTaken (m .qubits) (i .lengths) (i .texts) (i .numbers))
       (kept : ℕ) (counts : (from : ℕ) → kept ≡ length (termsOf (pairsOf from (i .counts) (matrix i) (operatorsIn (i .counts) lanes numbers))))
       (lanes′ : List ℕ) (numbers′ : List Float) (stays : WorkStays lanes numbers lanes′ numbers′)
-      (places : ℕ) (p : places ≡ min (length (t .tWords) / 4) (length (t .tNumbers) / 2)) where
+      (places : ℕ) (p : places ≡ min (length (t .tWords) / wordLanes) (length (t .tNumbers) / 2)) where
     there : operatorsIn (i .counts) lanes numbers ≡ a .As
     there = operators-in (m .qubits) i (a .As) (a .read) (a .lengths .terms-counted) (a .lengths .numbers-two) lanes numbers reads
 

@@ -2,9 +2,7 @@
 -- SPDX-License-Identifier: Apache-2.0
 
 -- Laws of this crate.
-pub mod MatrixLaws
 pub mod OperatorTests
-pub mod MatrixLengths
 pub mod MatrixTests
 pub mod MatrixAccepted
 pub mod PairLaws

@@ -14,16 +14,18 @@ use Rattle.refusal.specs.declared.Answer.the-variants.{Accepted, Refused}
 use Rattle.number.specs.Floats.{floats}
 use Rattle.model.specs.Stored.{ModelTables}
 use Rattle.model.specs.Tested.{maxJumps, testModel}
-use Rattle.model.specs.Given.{Read, got, refused, Term}
-use Rattle.model.specs.Items.{answerOf}
-use Rattle.model.specs.Built.{andThen, Building, refusal, tested, whenRead}
+use Rattle.lent.specs.Read.{Read, got, refused}
+use Rattle.model.specs.Terms.{Term}
+use Rattle.model_build.specs.Items.{answerOf}
+use Rattle.model_build.specs.Built.{Building, refusal, tested, whenRead}
 use Rattle.model.specs.declared.stored.Model.{Model}
-use Rattle.model.specs.declared.spec.Built.the-variants as Answers
-use Rattle.model.proofs.BuildLaws.{refused-not, refused-same, both, counted-passed}
-use Rattle.kossakowski.specs.Matrix.{pairPlaces}
-use Rattle.kossakowski.specs.Added.{Input, operators, matrix, maxOperators, lengthsAnswer, readOperators, matrixTests, pairsTest, compiledMatrix, add}
-use Rattle.kossakowski.specs.Work.{matrixAnswer}
-use Rattle.kossakowski.proofs.MatrixLengths.{LengthsFit, lengths-fit}
+use Rattle.model_build.specs.declared.spec.Built.the-variants as Answers
+use Rattle.lent.specs.Tests.{andThen}
+use Rattle.lent.proofs.Passed.{refused-not, refused-same, both, counted-passed}
+use Rattle.k_matrix.specs.Matrix.{pairPlaces}
+use Rattle.k_matrix.specs.Added.{Input, operators, matrix, maxOperators, lengthsAnswer, readOperators, matrixTests, pairsTest, compiledMatrix, add}
+use Rattle.k_matrix.specs.Work.{matrixAnswer}
+use Rattle.k_matrix.proofs.MatrixLengths.{LengthsFit, lengths-fit}
 
 module _ {A : Type 0} (t : ModelTables) (workWords : List ℕ) (workNumbers : List Float) where
   -- the first refusal is the answer

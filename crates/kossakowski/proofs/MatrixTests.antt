@@ -17,15 +17,17 @@ use Rattle.refusal.specs.declared.Answer.the-variants.{Accepted, Refused}
 use Rattle.word.specs.Word.{maxQubits}
 use Rattle.number.specs.Floats.{floats}
 use Rattle.model.specs.Stored.{ModelTables, range}
-use Rattle.model.specs.Tested.{maxHamiltonian, maxJumps, firstTo, entries, testModel}
-use Rattle.model.specs.Fails.{numberFails, failsIn}
-use Rattle.model.specs.Items.{answerOf}
+use Rattle.model.specs.Tested.{maxHamiltonian, maxJumps, testModel}
+use Rattle.model.specs.Fails.{numberFails}
+use Rattle.model_build.specs.Items.{answerOf}
 use Rattle.model.specs.declared.stored.Model.{Model}
-use Rattle.model.proofs.Firsts.{first-cong}
-use Rattle.model.proofs.BuildLaws.{passed, counted-passed}
-use Rattle.kossakowski.specs.Matrix.{apartAt, hermitian, pairPlaces}
-use Rattle.kossakowski.specs.Added.{Input, operators, matrix, lengthsAnswer, readOperators, matrixTests}
-use Rattle.kossakowski.specs.Work.{matrixAnswer}
+use Rattle.lent.specs.Tests.{firstTo, entries}
+use Rattle.lent.proofs.Firsts.{first-cong}
+use Rattle.lent.proofs.Passed.{passed, counted-passed}
+use Rattle.model.specs.Between.{failsIn}
+use Rattle.k_matrix.specs.Matrix.{apartAt, hermitian, pairPlaces}
+use Rattle.k_matrix.specs.Added.{Input, operators, matrix, lengthsAnswer, readOperators, matrixTests}
+use Rattle.k_matrix.specs.Work.{matrixAnswer}
 
 -- a model that passes its own test has at most so many jumps
 pub jumps-few : (m : Model) (t : ModelTables) → testModel m t ≡ Accepted → m .jumps ≤ 4096

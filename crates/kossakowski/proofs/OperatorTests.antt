@@ -13,11 +13,13 @@ use Rattle.refusal.specs.declared.Refusal.{Refusal}
 use Rattle.refusal.specs.declared.Answer.{Answer}
 use Rattle.refusal.specs.declared.Answer.the-variants.{Accepted, Refused}
 use Rattle.sums.specs.Numbers.{complexes}
-use Rattle.model.specs.Given.{each, GivenTerm, readOperator}
-use Rattle.model.specs.Built.{parts, termItems}
-use Rattle.model.specs.Items.{answerOf, total}
-use Rattle.model.proofs.Parts.{parts-end, part-is, termsFrom, take-terms-from, drop-terms-from}
-use Rattle.model.proofs.FirstRefusal.{eachAnswer, each-on, each-stop, each-end, each-answer, tested-is}
+use Rattle.model_build.specs.Given.{GivenTerm, readOperator}
+use Rattle.model_build.specs.Built.{parts, termItems}
+use Rattle.model_build.specs.Items.{answerOf}
+use Rattle.model_build.proofs.Parts.{parts-end, part-is, termsFrom, take-terms-from, drop-terms-from}
+use Rattle.model_build.proofs.FirstRefusal.{eachAnswer, each-on, each-stop, each-end, each-answer, tested-is}
+use Rattle.lent.specs.Read.{each}
+use Rattle.lent.specs.Laid.{total}
 
 -- what is left of the operators at operator j, whose terms start at place t and their texts at place p
 module _ (n : ℕ) (cs ns l : List ℕ) (xs : List Float) where

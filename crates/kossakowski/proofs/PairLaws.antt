@@ -9,44 +9,36 @@ use native.Mathlib.Nat.{zero-mul, suc-mul, mul-le-mul, mul-le-mul-right}
 use native.Mathlib.Omega.{arith}
 use lib.Ieee.{Float}
 use lib.ListN.{length, set, length-append, length-map, length-take}
-use Rattle.word.specs.Flat.{words, layWord}
+use Rattle.word.specs.Flat.{words, wordLanes}
 use Rattle.number.specs.Numbers.{Cx, mulC, conjC, square}
 use Rattle.number.specs.Floats.{floats, float0, cx}
 use Rattle.number.specs.declared.scalar.Complex.{Complex}
 use Rattle.gksl.specs.Rules.{pairsOver, formedOver}
-use Rattle.gksl.specs.Table.{withoutOver}
 use Rattle.gksl.specs.Words.{pauli}
-use Rattle.sums.specs.Numbers.{complexes, layNumber}
+use Rattle.sums.specs.Numbers.{complexes}
 use Rattle.sums.specs.Sums.{rows, sumRows}
 use Rattle.sums.proofs.SumLaws.{length-put-all-high}
-use mathlib.Core.Bool.{true, false}
-use Rattle.model.specs.Given.{Term}
-use Rattle.model.specs.Compiled.{Compiled}
-use Rattle.model.specs.Laid.{layEntry}
-use Rattle.model.specs.Product.{onto, termAt, termsIn, termsOf, formedTerm, PairRoom, Forms}
-use Rattle.model.specs.Stored.{range, entry}
-use Rattle.model.specs.Thinned.{thinned, LaysTerms, StoreRoom, KeepRoom, Keeps}
-use Rattle.model.specs.Work.{JumpRoom, StoresJump}
-use Rattle.model.specs.declared.product.Term as Held
+use Rattle.model.specs.Terms.{Term, termAt, termsIn, termsOf}
+use Rattle.model.proofs.TermLaws.{onto-eq, terms-none, terms-more}
+use Rattle.model_build.specs.Compiled.{Compiled}
+use Rattle.operator_product.specs.Product.{formedTerm, PairRoom, Forms}
+use Rattle.model.specs.Stored.{range, entry, layEntry}
+use Rattle.model_build.specs.Thinned.{thinned, LaysTerms, StoreRoom, KeepRoom, Keeps}
+use Rattle.model_build.specs.Work.{JumpRoom, StoresJump}
+use Rattle.model.specs.declared.term.Term as Held
 use Rattle.model.specs.declared.stored.Range.{Range}
-use Rattle.model.proofs.ProductLaws.{onto-eq}
-use Rattle.model.proofs.WorkLaws.{terms-none, terms-more, pairs-more}
-use Rattle.model.proofs.StoreLaws.{lays-none, lays-one, lays-append, terms-length, thinned-drops, thinned-keeps, thinned-fewer}
-use Rattle.model.proofs.OperatorLaws.{without-fewer}
-use Rattle.kossakowski.specs.Pairs.{factorOf, factorsOf, scaled, productAfter, compilePair}
-use Rattle.kossakowski.specs.Work.{FactorsRoom, CountsPair, WorkStays}
+use Rattle.operator_product.proofs.WorkLaws.{pairs-more}
+use Rattle.model_build.proofs.StoreLaws.{lays-none, lays-append, terms-length}
+use Rattle.model_build.proofs.OperatorLaws.{without-fewer}
+use Rattle.model.specs.Between.{onto}
+use Rattle.k_matrix.specs.Pairs.{factorOf, factorsOf, scaled, productAfter, compilePair}
+use Rattle.k_matrix.specs.Work.{FactorsRoom, CountsPair, WorkStays}
 
 -- ---- a factor
 pub factor-is : (a b : Held.Term) (k c m n : Complex) → cx c ≡ conjC floats (cx (a .number)) → cx m ≡ mulC floats (cx c) (cx (b .number)) → cx n ≡ mulC floats (cx m) (cx k)
     → _≡_ {A = Term} (record { num = cx n; word = b .word }) (factorOf (cx k) (onto a) (onto b))
 unfolding factorOf
 factor-is a b k c m n hc hm hn = onto-eq (hn ∙ ap (λ (z : Cx floats). mulC floats z (cx k)) (hm ∙ ap (λ (z : Cx floats). mulC floats z (cx (b .number))) hc)) refl
-
--- a thinned term after K, laid
-pub scaled-lays : (k : Cx floats) (t : Held.Term) (n : Complex) (at : ℕ) (lanes lanes′ : List ℕ) (numbers numbers′ : List Float) → cx n ≡ mulC floats k (cx (t .number))
-    → lanes′ ≡ layWord lanes at (t .word) → numbers′ ≡ layNumber numbers at (cx n) → LaysTerms (scaled k (onto t) ∷ []) at lanes numbers lanes′ numbers′
-unfolding scaled
-scaled-lays k t n at lanes lanes′ numbers numbers′ h p q = lays-one (scaled k (onto t)) at lanes lanes′ numbers numbers′ p (q ∙ ap (layNumber numbers at) h)
 
 -- ---- what f makes of the terms in a range, laid one after another
 pub record RowState (f : Term → Term) (right : Range) (at : ℕ) (lanes : List ℕ) (numbers : List Float) (tLanes₀ : List ℕ) (tNumbers₀ : List Float) (tLanes : List ℕ) (tNumbers : List Float) (j place : ℕ) : Type 0 where
@@ -70,7 +62,7 @@ module _ (f : Term → Term) (right : Range) (at : ℕ) (lanes : List ℕ) (numb
 
   module _ (tLanes : List ℕ) (tNumbers : List Float) (j place : ℕ) (s : RowState f right at lanes numbers tLanes₀ tNumbers₀ tLanes tNumbers j place) where
     -- there is a place for the next
-    pub row-room : j < right .end → (4 * place + 4 ≤ length tLanes) × (2 * place + 2 ≤ length tNumbers)
+    pub row-room : j < right .end → (wordLanes * place + wordLanes ≤ length tLanes) × (2 * place + 2 ≤ length tNumbers)
     row-room h = (omega (arith, s .here, s .low, s .lanes-same, room .lanes-room), omega (arith, s .here, s .low, s .numbers-same, room .numbers-room))
 
     pub row-next : (tLanes′ : List ℕ) (tNumbers′ : List Float) (t : Term) → j < right .end → t ≡ f (termAt lanes numbers j)
@@ -183,66 +175,6 @@ module _ (k : Cx floats) (left right : Range) (at : ℕ) (lanes : List ℕ) (num
     factors-done h =
         let e : i ≡ left .end = omega (arith, s .high) in
         subst (λ (m : ℕ). LaysTerms (factorsOf k (termsIn lanes numbers (left .start) m) B) at tLanes₀ tNumbers₀ tLanes tNumbers) e (s .lays)
-
--- ---- K × the sums that thinning leaves, laid one after another
-pub record ScaledState (k : Cx floats) (len at : ℕ) (lanes : List ℕ) (numbers : List Float) (tLanes₀ : List ℕ) (tNumbers₀ : List Float) (tLanes : List ℕ) (tNumbers : List Float) (place i : ℕ) : Type 0 where
-  pub high : i ≤ len
-  pub lanes-same : length tLanes ≡ length tLanes₀
-  pub numbers-same : length tNumbers ≡ length tNumbers₀
-  pub keeps : Keeps (map (scaled k) (thinned (sumRows i lanes numbers))) at tLanes₀ tNumbers₀ place tLanes tNumbers
-
-module _ (k : Cx floats) (len at : ℕ) (lanes : List ℕ) (numbers : List Float) (tLanes₀ : List ℕ) (tNumbers₀ : List Float) (room : KeepRoom len lanes numbers at tLanes₀ tNumbers₀) where
-  pub scaled-start : ScaledState k len at lanes numbers tLanes₀ tNumbers₀ tLanes₀ tNumbers₀ at 0
-  unfolding withoutOver
-  scaled-start = record { high = omega arith; lanes-same = refl; numbers-same = refl; keeps = record { end = omega arith; lays = lays-none at tLanes₀ tNumbers₀ } }
-
-  module _ (tLanes : List ℕ) (tNumbers : List Float) (place i : ℕ) (s : ScaledState k len at lanes numbers tLanes₀ tNumbers₀ tLanes tNumbers place i) (h : i < len) (t : Term) (e : t ≡ termAt lanes numbers i) where
-    abbrev kept : ℕ → List Term
-    kept m = thinned (sumRows m lanes numbers)
-
-    pub scaled-drops : floats .small (square floats (t .num)) ≡ true → ScaledState k len at lanes numbers tLanes₀ tNumbers₀ tLanes tNumbers place (i + 1)
-    scaled-drops f =
-        let d = thinned-drops lanes numbers i (omega (arith, room .lanes-long)) (omega (arith, room .numbers-long)) t e f in
-        record {
-          high = omega arith;
-          lanes-same = s .lanes-same;
-          numbers-same = s .numbers-same;
-          keeps = subst⁻¹ (λ (T : List Term). Keeps (map (scaled k) T) at tLanes₀ tNumbers₀ place tLanes tNumbers) d (s .keeps);
-        }
-
-    module _ (f : floats .small (square floats (t .num)) ≡ false) where
-      one-more : kept (i + 1) ≡ kept i ++ (t ∷ [])
-      one-more = thinned-keeps lanes numbers i (omega (arith, room .lanes-long)) (omega (arith, room .numbers-long)) t e f
-
-      -- there is a place for it
-      pub scaled-room : (4 * place + 4 ≤ length tLanes) × (2 * place + 2 ≤ length tNumbers)
-      scaled-room =
-          let g = thinned-fewer (i + 1) len lanes numbers (omega arith) in
-          let n = ap length one-more ∙ length-append (kept i) (t ∷ []) in
-          let m = length-map (kept i) (scaled k) in
-          (omega (arith, s .lanes-same, room .lanes-room, s .keeps .end), omega (arith, s .numbers-same, room .numbers-room, s .keeps .end))
-
-      pub scaled-keeps : (tLanes′ : List ℕ) (tNumbers′ : List Float) → LaysTerms (scaled k t ∷ []) place tLanes tNumbers tLanes′ tNumbers′
-          → length tLanes′ ≡ length tLanes → length tNumbers′ ≡ length tNumbers → ScaledState k len at lanes numbers tLanes₀ tNumbers₀ tLanes′ tNumbers′ (place + 1) (i + 1)
-      scaled-keeps tLanes′ tNumbers′ g hl hn =
-          let T : List Term = map (scaled k) (kept i) in
-          let n = length-append T (scaled k t ∷ []) in
-          record {
-            high = omega arith;
-            lanes-same = hl ∙ s .lanes-same;
-            numbers-same = hn ∙ s .numbers-same;
-            keeps = subst⁻¹ (λ (U : List Term). Keeps U at tLanes₀ tNumbers₀ (place + 1) tLanes′ tNumbers′) (ap (map (scaled k)) one-more ∙ map-append (scaled k) (kept i) (t ∷ []))
-                (record {
-                  end = omega (arith, s .keeps .end, n);
-                  lays = lays-append T (scaled k t ∷ []) at place tLanes₀ tLanes tLanes′ tNumbers₀ tNumbers tNumbers′ (s .keeps .end) (s .keeps .lays) g;
-                });
-          }
-
-  pub scaled-done : (tLanes : List ℕ) (tNumbers : List Float) (place i : ℕ) → ScaledState k len at lanes numbers tLanes₀ tNumbers₀ tLanes tNumbers place i → len ≤ i
-      → Keeps (map (scaled k) (thinned (sumRows len lanes numbers))) at tLanes₀ tNumbers₀ place tLanes tNumbers
-  scaled-done tLanes tNumbers place i s h =
-      let e : i ≡ len = omega (arith, s .high) in
-      subst (λ (m : ℕ). Keeps (map (scaled k) (thinned (sumRows m lanes numbers))) at tLanes₀ tNumbers₀ place tLanes tNumbers) e (s .keeps)
 
 -- ---- the operators of a pair in the work table
 module _ (left right : Range) (lanes : List ℕ) (numbers : List Float) (room : PairRoom left right lanes numbers) where

@@ -16,21 +16,21 @@ use Rattle.number.specs.Floats.{floats}
 use Rattle.gksl.specs.Model.{entryIn}
 use Rattle.sums.specs.Numbers.{complexes, noNumber}
 use Rattle.sums.specs.Sums.{rows}
-use Rattle.model.specs.Given.{Term}
-use Rattle.model.specs.Built.{parts}
-use Rattle.model.specs.Built as Compiling
-use Rattle.model.specs.Compiled.{Compiled}
-use Rattle.model.specs.Items.{total}
-use Rattle.model.specs.Product.{termsOf, PairRoom}
-use Rattle.model.specs.Work.{JumpRoom, StoresJump, JumpsRoom, StoresJumps}
+use Rattle.model.specs.Terms.{Term, termsOf}
+use Rattle.model_build.specs.Built.{parts}
+use Rattle.model_build.specs.Built as Compiling
+use Rattle.model_build.specs.Compiled.{Compiled}
+use Rattle.lent.specs.Laid.{total}
+use Rattle.operator_product.specs.Product.{PairRoom}
+use Rattle.model_build.specs.Work.{JumpRoom, StoresJump, JumpsRoom, StoresJumps}
 use Rattle.model.specs.declared.stored.Range.{Range}
-use Rattle.model.proofs.Parts.{total-split, total-turn, part-is}
-use Rattle.model.proofs.WorkLaws.{terms-stay}
-use Rattle.model.proofs.JumpsLaws.{terms-turn, terms-end, Storing, storing-start, storing-room, storing-next, storing-done}
-use Rattle.kossakowski.specs.Matrix.{isPair, passing}
-use Rattle.kossakowski.specs.Pairs.{compilePair, rangeOf, pairAt, pairsOf}
-use Rattle.kossakowski.specs.Work.{OperatorsRoom, operatorsIn, CountsPair, WorkStays}
-use Rattle.kossakowski.proofs.MatrixLaws.{row-below, column-below, entry-place, passing-yes, passing-no, passing-end}
+use Rattle.model_build.proofs.Parts.{total-split, total-turn, part-is}
+use Rattle.operator_product.proofs.WorkLaws.{terms-stay}
+use Rattle.model_build.proofs.JumpsLaws.{terms-turn, terms-end, Storing, storing-start, storing-room, storing-next, storing-done}
+use Rattle.k_matrix.specs.Matrix.{isPair, passing}
+use Rattle.k_matrix.specs.Pairs.{compilePair, rangeOf, pairAt, pairsOf}
+use Rattle.k_matrix.specs.Work.{OperatorsRoom, operatorsIn, CountsPair, WorkStays}
+use Rattle.k_matrix.proofs.MatrixLaws.{row-below, column-below, entry-place, passing-yes, passing-no, passing-end}
 
 -- ---- where the terms of operator n stand
 pub range-fits : (counts : List ℕ) (n : ℕ) → n < length counts → total (take n counts) + getD counts n 0 ≤ total counts

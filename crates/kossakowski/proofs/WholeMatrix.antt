@@ -30,9 +30,9 @@ use Rattle.number.proofs.WholeLaws.{add-assoc, add-zero, zero-add, neg-self, ne
 use Rattle.gksl.specs.Model.{MatrixOver, entryIn, Moderate}
 use Rattle.gksl.specs.Words.{pauli}
 use Rattle.gksl.proofs.ModelLaws.{only-zero}
-use Rattle.model.specs.Tested.{firstTo}
-use Rattle.model.proofs.Firsts.{first-before}
-use Rattle.kossakowski.specs.Matrix.{apart, apartAt, hermitian, skipped}
+use Rattle.lent.specs.Tests.{firstTo}
+use Rattle.lent.proofs.Firsts.{first-before}
+use Rattle.k_matrix.specs.Matrix.{apart, apartAt, hermitian, skipped}
 use Rattle.kossakowski.specs.Whole.{WholeEntries}
 
 -- ---- the largest squared magnitude

@@ -4,12 +4,12 @@
 // All tests of a matrix that is added to a model, in their order: the model, counts, lengths, K, the
 // operators, the count of jumps and pairs. Nothing is changed.
 ghost use mathlib.Core.Path.{_≡_};
-ghost use Rattle.kossakowski.specs.Work.{matrixAnswer};
-use crate::lengths::lengths_agree;
-use crate::matrix::count_pairs;
-use crate::matrix::first_apart;
-use crate::matrix::largest_square;
+ghost use Rattle.k_matrix.specs.Work.{matrixAnswer};
 use crate::operators::check_operators;
+use k_matrix::lengths::lengths_agree;
+use k_matrix::matrix::count_pairs;
+use k_matrix::matrix::first_apart;
+use k_matrix::matrix::largest_square;
 use model::stored::Model;
 use model::stored::Range;
 use model::test::MAX_JUMPS;

@@ -8,24 +8,24 @@
 // and only then is anything stored.
 ghost use mathlib.Core.Path.{_≡_};
 ghost use Rattle.refusal.specs.declared.Answer.the-variants.{Accepted};
-ghost use Rattle.kossakowski.specs.Added.{add};
-ghost use Rattle.kossakowski.specs.Work.{matrixAnswer};
+ghost use Rattle.k_matrix.specs.Added.{add};
+ghost use Rattle.k_matrix.specs.Work.{matrixAnswer};
 use crate::check::check_matrix;
-use crate::matrix::count_pairs;
-use crate::matrix::largest_square;
 use crate::pairs::count_terms;
 use crate::pairs::store_pairs;
-use model::jumps::read_operator;
-use model::product::SUM_PLACES;
-use model::spec::Built;
-use model::spec::TERMS_TABLE;
-use model::store::store_terms;
+use k_matrix::matrix::count_pairs;
+use k_matrix::matrix::largest_square;
+use lent::clear::clear_lanes;
+use lent::clear::clear_numbers;
+use lent::sizes::smaller;
 use model::stored::Model;
-use model::test::smaller;
+use model_build::jumps::read_operator;
+use model_build::spec::Built;
+use model_build::spec::TERMS_TABLE;
+use model_build::store::store_terms;
+use operator_product::product::SUM_PLACES;
 use refusal::Answer;
 use refusal::Refusal;
-use sums::clear::clear_lanes;
-use sums::clear::clear_numbers;
 use word::flat::WORD_LANES;
 
 // Adds a matrix that was tested. Without operators there is nothing to add and no work place to use.

@@ -5,7 +5,5 @@
 // model that stands.
 pub mod check;
 pub mod kossakowski;
-pub mod lengths;
-pub mod matrix;
 pub mod operators;
 pub mod pairs;

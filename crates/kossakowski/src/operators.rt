@@ -7,12 +7,14 @@ ghost use mathlib.Core.Path.{_≡_};
 ghost use Prim.Native.Nat.{_*_, _≤_};
 ghost use lib.ListN.{length};
 ghost use Rattle.sums.specs.Numbers.{complexes};
-ghost use Rattle.model.specs.Given.{each, readOperator};
-ghost use Rattle.model.specs.Built.{parts, termItems};
-ghost use Rattle.model.specs.Items.{answerOf, total};
-use model::items::check_operator;
-use model::items::sum_of;
+ghost use Rattle.model_build.specs.Given.{readOperator};
+ghost use Rattle.model_build.specs.Built.{parts, termItems};
+ghost use Rattle.model_build.specs.Items.{answerOf};
+use model_build::items::check_operator;
+use model_build::items::sum_of;
 use refusal::Answer;
+ghost use Rattle.lent.specs.Read.{each};
+ghost use Rattle.lent.specs.Laid.{total};
 
 // The operators: a count of terms for each.
 pub fn check_operators(

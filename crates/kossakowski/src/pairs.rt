@@ -10,30 +10,30 @@ ghost use Prim.Native.Nat.{ℕ, _+_, _<_, _≤_};
 ghost use lib.ListN.{length};
 ghost use Rattle.number.specs.Floats.{cx};
 ghost use Rattle.sums.specs.Numbers.{complexes};
-ghost use Rattle.sums.specs.Sums.{sumRows};
-ghost use Rattle.model.specs.Items.{total};
-ghost use Rattle.model.specs.Product.{onto, termsOf, PairRoom};
-ghost use Rattle.model.specs.Built as Compiled;
-ghost use Rattle.model.specs.Thinned.{thinned, LaysTerms, StoreRoom, KeepRoom, Keeps};
-ghost use Rattle.model.specs.Work.{JumpRoom, StoresJump, JumpsRoom, StoresJumps};
-ghost use Rattle.kossakowski.specs.Pairs.{factorOf, factorsOf, scaled, compilePair, rangeOf, pairsOf};
-ghost use Rattle.kossakowski.specs.Work.{Square, OperatorsRoom, operatorsIn, FactorsRoom, CountsPair, WorkStays};
-use crate::matrix::makes_pair;
-use model::items::sum_of;
-use model::product::Term;
-use model::product::precompute_adag_b;
-use model::product::term_at;
-use model::store::count_kept;
+ghost use Rattle.lent.specs.Laid.{total};
+ghost use Rattle.operator_product.specs.Product.{PairRoom};
+ghost use Rattle.model_build.specs.Built as Compiled;
+ghost use Rattle.model_build.specs.Thinned.{LaysTerms, StoreRoom};
+ghost use Rattle.model_build.specs.Work.{JumpRoom, StoresJump, JumpsRoom, StoresJumps};
+ghost use Rattle.k_matrix.specs.Pairs.{factorOf, factorsOf, compilePair, rangeOf, pairsOf};
+ghost use Rattle.k_matrix.specs.Work.{Square, OperatorsRoom, operatorsIn, FactorsRoom, CountsPair, WorkStays};
+use k_matrix::matrix::makes_pair;
+use k_matrix::scaled::store_scaled;
 use model::stored::Range;
 use model::stored::lay_entry;
+use model::term::Term;
+use model::term::term_at;
+use model_build::items::sum_of;
+use model_build::store::count_kept;
 use number::scalar::Complex;
 use number::scalar::conj;
 use number::scalar::mul;
-use number::scalar::negligible;
-use number::scalar::norm_sqr;
+use operator_product::product::precompute_adag_b;
 use sums::numbers::complex_at;
 use sums::numbers::set_complex;
 use word::flat::set_word;
+ghost use Rattle.model.specs.Terms.{termsOf};
+ghost use Rattle.model.specs.Between.{onto};
 
 // The conjugate of a's number × b's number × K, with b's word.
 fn factor_of(a: Term, b: Term, k: Complex) -> Term
@@ -100,38 +100,6 @@ fn store_factors(
         place += width;
         i += 1;
     }
-}
-
-// Lays K × those sums of the first `len` that thinning leaves, at `at` and after it: the place after
-// the last.
-fn store_scaled(
-    words: &[u64],
-    numbers: &[f64],
-    len: usize,
-    k: Complex,
-    t_words: &mut [u64],
-    t_numbers: &mut [f64],
-    at: usize,
-) -> usize
-    requires { ⌜ KeepRoom len (now words) (now numbers) at (now «t_words») (now «t_numbers») ⌝ }
-    ensures { λ r. ⌜ Keeps (map (scaled (cx k)) (thinned (sumRows len (now (words .entry)) (now (numbers .entry))))) at (now («t_words» .entry)) (now («t_numbers» .entry)) r (now («t_words» .exit)) (now («t_numbers» .exit)) ⌝ }
-{
-    let mut place = at;
-    let mut i = 0;
-    while i < len {
-        let t = term_at(words, numbers, i);
-        let z = t.number;
-        if negligible(norm_sqr(z)) {
-            i += 1;
-        } else {
-            let w = t.word;
-            set_word(t_words, place, w);
-            set_complex(t_numbers, place, mul(k, z));
-            place += 1;
-            i += 1;
-        }
-    }
-    place
 }
 
 // How many terms are stored for the pair of the operators in two ranges of the work table.

@@ -12,11 +12,14 @@ use Rattle.refusal.specs.declared.Refusal.{Refusal}
 use Rattle.refusal.specs.declared.Refusal.the-variants.{CountAboveLimit, LengthMismatch, NumberOutOfRange}
 use Rattle.refusal.specs.declared.Answer.{Answer}
 use Rattle.refusal.specs.declared.Answer.the-variants.{Accepted, Refused}
+use Rattle.word.specs.Flat.{wordLanes}
 use Rattle.model.specs.Stored.{ModelTables}
-use Rattle.model.specs.Tested.{lent, whereAny, testModel}
+use Rattle.model.specs.Tested.{testModel}
 use Rattle.model.specs.declared.stored.Model.{Model}
-use Rattle.action.specs.Counts.{maxWords, rowLanes, insideTo}
-use Rattle.truncate.specs.Tests.{finiteTo}
+use Rattle.action.specs.Counts.{rowLanes}
+use Rattle.lent.specs.Tests.{lent, whereAny}
+use Rattle.lent.specs.Words.{maxWords, insideTo}
+use Rattle.lent.specs.Numbers.{finiteTo}
 use Rattle.number.specs.Floats.{float0, isFinite}
 use Rattle.leakage.specs.Leakages.{Basis, Work, limitOf, tauOf, limitTests, tauTests, workTests, entryTests, leakTests}
 use Rattle.leakage.specs.declared.limits.Limits.{Limits}
@@ -73,10 +76,10 @@ module _ (m : Model) (t : ModelTables) (b : Basis) (l : Limits) (w : Work) where
   tests = leakTests m t b l w
 
   abbrev count : ℕ
-  count = length (b .protected) / 4
+  count = length (b .protected) / wordLanes
 
   abbrev places : ℕ
-  places = length (b .lanes) / 4
+  places = length (b .lanes) / wordLanes
 
   pub model-refused : (r : Refusal) → testModel m t ≡ Refused r → Refused r ≡ tests
   unfolding leakTests
@@ -108,11 +111,11 @@ module _ (m : Model) (t : ModelTables) (b : Basis) (l : Limits) (w : Work) where
             coeffs-short h = rw (ok, le-ltb maxWords (b .len) h1, le-ltb maxWords count h2, h3, le-ltb places (b .len) h4, lt-ltb (length (b .coeffs)) (b .len) h)
 
             module _ (h5 : b .len ≤ length (b .coeffs)) where
-              pub lanes-over : eqb (length (b .protected)) (count * 4) ≡ false → Refused (LengthMismatch (count * 4) (length (b .protected))) ≡ tests
+              pub lanes-over : eqb (length (b .protected)) (count * wordLanes) ≡ false → Refused (LengthMismatch (count * wordLanes) (length (b .protected))) ≡ tests
               unfolding leakTests
               lanes-over h = rw (ok, le-ltb maxWords (b .len) h1, le-ltb maxWords count h2, h3, le-ltb places (b .len) h4, le-ltb (length (b .coeffs)) (b .len) h5, h)
 
-              module _ (h6 : eqb (length (b .protected)) (count * 4) ≡ true) where
+              module _ (h6 : eqb (length (b .protected)) (count * wordLanes) ≡ true) where
                 pub work-refused : (r : Refusal) → workTests (m .qubits) (b .len) count w ≡ Refused r → Refused r ≡ tests
                 unfolding leakTests
                 work-refused r e = rw (ok, le-ltb maxWords (b .len) h1, le-ltb maxWords count h2, h3, le-ltb places (b .len) h4, le-ltb (length (b .coeffs)) (b .len) h5, h6, e)
@@ -126,7 +129,7 @@ module _ (m : Model) (t : ModelTables) (b : Basis) (l : Limits) (w : Work) where
                   unfolding leakTests
                   threshold-left e = rw (ok, le-ltb maxWords (b .len) h1, le-ltb maxWords count h2, h3, le-ltb places (b .len) h4, le-ltb (length (b .coeffs)) (b .len) h5, h6, h7, e)
 
-pub entries-are : (n : ℕ) (b : Basis) {r : Answer} → insideTo (b .len) (b .lanes) n (insideTo (length (b .protected) / 4) (b .protected) n (finiteTo 0 (b .len) (b .coeffs) Accepted)) ≡ r → entryTests n b ≡ r
+pub entries-are : (n : ℕ) (b : Basis) {r : Answer} → insideTo (b .len) (b .lanes) n (insideTo (length (b .protected) / wordLanes) (b .protected) n (finiteTo 0 (b .len) (b .coeffs) Accepted)) ≡ r → entryTests n b ≡ r
 unfolding entryTests
 entries-are n b e = e
 

@@ -13,44 +13,48 @@ use lib.Ieee.{Float}
 use lib.ListN.{length}
 use Rattle.refusal.specs.declared.Refusal.the-variants.{WordOutsideRegister}
 use Rattle.refusal.specs.declared.Answer.the-variants.{Accepted}
+use Rattle.word.specs.Flat.{wordLanes}
 use Rattle.model.specs.Stored.{ModelTables}
-use Rattle.model.specs.Tested.{whereAny, firstTo, testModel}
+use Rattle.model.specs.Tested.{testModel}
 use Rattle.model.specs.declared.stored.Model.{Model}
-use Rattle.model.proofs.NeedLaws.{need-some}
-use Rattle.model.proofs.Firsts.{first-before}
-use Rattle.model.proofs.BuildLaws.{passed, both, equal-passed, lent-passed, counted-passed}
-use Rattle.action.specs.Counts.{maxWords, rowLanes, outsideAt, insideTo}
-use Rattle.passes.specs.Leaks.{ActionRoom, Holding}
-use Rattle.leakage.specs.Leakages.{Basis, Work, limitTests, workTests, entryTests, leakTests, actionPlaces, rowPlaces, BasisLent, FixedLent}
+use Rattle.lent.specs.Tests.{whereAny, firstTo}
+use Rattle.lent.proofs.NeedLaws.{need-some}
+use Rattle.lent.proofs.Firsts.{first-before}
+use Rattle.lent.proofs.Passed.{passed, both, equal-passed, lent-passed, counted-passed}
+use Rattle.lent.specs.Words.{maxWords, outsideAt, insideTo}
+use Rattle.action.specs.Counts.{rowLanes}
+use Rattle.passes.specs.Between.{ActionRoom, Holding}
+use Rattle.leakage.specs.Between.{BasisLent, FixedLent}
+use Rattle.leakage.specs.Leakages.{Basis, Work, limitTests, workTests, entryTests, leakTests, actionPlaces, rowPlaces}
 use Rattle.leakage.specs.declared.limits.Limits.{Limits}
 
 pub record Passed (m : Model) (t : ModelTables) (b : Basis) (w : Work) : Type 0 where
   pub model : testModel m t ≡ Accepted
-  pub words-long : b .len ≤ length (b .lanes) / 4
+  pub words-long : b .len ≤ length (b .lanes) / wordLanes
   pub coeffs-long : b .len ≤ length (b .coeffs)
-  pub protected-whole : length (b .protected) ≡ length (b .protected) / 4 * 4
+  pub protected-whole : length (b .protected) ≡ length (b .protected) / wordLanes * wordLanes
   pub h-long : 0 < b .len → 64 * m .qubits ≤ length (w .hIndex)
   pub j-long : 0 < b .len → 64 * m .qubits ≤ length (w .jIndex)
   pub mask-long : 0 < b .len → 64 ≤ length (w .mask)
   pub order-long : b .len ≤ length (w .order)
   pub heads-long : b .len ≤ length (w .heads)
   pub nexts-long : b .len ≤ length (w .nexts)
-  pub fixed-heads-long : 0 < b .len → length (b .protected) / 4 ≤ length (w .fixedHeads)
-  pub fixed-nexts-long : whereAny (b .len) (length (b .protected) / 4) ≤ length (w .fixedNexts)
+  pub fixed-heads-long : 0 < b .len → length (b .protected) / wordLanes ≤ length (w .fixedHeads)
+  pub fixed-nexts-long : whereAny (b .len) (length (b .protected) / wordLanes) ≤ length (w .fixedNexts)
   pub inside : (k : ℕ) → k < b .len → outsideAt (b .lanes) (m .qubits) k ≡ false
 
 pub leak-passed : (m : Model) (t : ModelTables) (b : Basis) (l : Limits) (w : Work) → leakTests m t b l w ≡ Accepted → Passed m t b w
 unfolding leakTests workTests entryTests insideTo
 leak-passed m t b l w e =
-    let count : ℕ = length (b .protected) / 4 in
+    let count : ℕ = length (b .protected) / wordLanes in
     let first : ℕ = firstTo (b .len) (outsideAt (b .lanes) (m .qubits)) in
     let e0 = both (testModel m t) _ e in
     let e1 = counted-passed maxWords (b .len) _ (e0 .1) in
     let e2 = counted-passed maxWords count _ (e1 .1) in
     let e3 = both (limitTests l) _ (e2 .1) in
-    let e4 = lent-passed (b .len) (length (b .lanes) / 4) _ (e3 .1) in
+    let e4 = lent-passed (b .len) (length (b .lanes) / wordLanes) _ (e3 .1) in
     let e5 = lent-passed (b .len) (length (b .coeffs)) _ (e4 .1) in
-    let e6 = equal-passed (count * 4) (length (b .protected)) _ (e5 .1) in
+    let e6 = equal-passed (count * wordLanes) (length (b .protected)) _ (e5 .1) in
     let e7 = both _ _ (e6 .1) in
     let rows : ℕ = rowLanes * m .qubits in
     let w0 = lent-passed (whereAny (b .len) rows) (length (w .hIndex)) _ (e7 .0) in
@@ -86,7 +90,7 @@ module _ (m : Model) (t : ModelTables) (b : Basis) (w : Work) (p : Passed m t b 
   basis-lent = record { lanes-long = p .words-long; coeffs-long = p .coeffs-long; order-long = p .order-long; nexts-long = p .nexts-long; slots-enough = p .heads-long }
 
   pub fixed-lent : 0 < b .len → FixedLent (b .protected) (w .fixedHeads) (w .fixedNexts)
-  fixed-lent h = record { whole = p .protected-whole; nexts-long = need-some (b .len) (length (b .protected) / 4) (length (w .fixedNexts)) h (p .fixed-nexts-long); slots-enough = p .fixed-heads-long h }
+  fixed-lent h = record { whole = p .protected-whole; nexts-long = need-some (b .len) (length (b .protected) / wordLanes) (length (w .fixedNexts)) h (p .fixed-nexts-long); slots-enough = p .fixed-heads-long h }
 
 -- ---- the places of the tables of the passes
 module _ (workWords : List ℕ) (workSums : List Float) (logWords : List ℕ) (logValues : List Float) (placeOrder placeWork : List ℕ) where

@@ -11,26 +11,30 @@ use lib.Ieee.{Float}
 use lib.ListN.{length, getD, take, drop, length-take}
 use lib.Seq.{length-take-le, getD-take, take-at}
 use Rattle.word.specs.Word.{identity}
-use Rattle.word.specs.Flat.{words}
+use Rattle.word.specs.Flat.{words, wordLanes}
 use Rattle.word.specs.Register.{reaches}
 use Rattle.word.specs.declared.word.Word.{Word}
-use Rattle.order.specs.Merge.{positions, sortBy, AllBelow}
+use Rattle.order.specs.Merge.{positions, sortBy}
 use Rattle.order.specs.Magnitudes.{byMagnitude, fallsBefore}
 use Rattle.order.proofs.Members.{all-sort, positions-below}
 use Rattle.candidates.specs.Log.{Rows}
-use Rattle.candidates.proofs.LogLaws.{words-take}
+use Rattle.word.proofs.FlatLaws.{words-take}
 use Rattle.model.specs.Stored.{ModelTables}
-use Rattle.model.specs.Given.{Read}
-use Rattle.model.specs.Tested.{whereAny}
+use Rattle.lent.specs.Read.{Read}
+use Rattle.lent.specs.Tests.{whereAny}
+use Rattle.lent.proofs.NeedLaws.{need-is}
+use Rattle.lent.specs.Words.{outsideAt}
 use Rattle.model.specs.declared.stored.Model.{Model}
-use Rattle.model.proofs.NeedLaws.{need-is}
-use Rattle.action.specs.Counts.{outsideAt, AllInside}
 use Rattle.rules_by_index.specs.Near.{ModelIndexed}
-use Rattle.passes.specs.Leaks.{passes, passCount, touchedAt, leaksAt, candidatesOf, ModelReady, BasisReady, Took}
+use Rattle.passes.specs.Leaks.{passes, passCount, touchedAt, leaksAt, candidatesOf}
 use Rattle.passes.specs.declared.taken.Taken.{Taken}
-use Rattle.leakage.specs.Leakages.{Basis, Work, limitOf, leakCourse, sumPlaces, candidatePlaces, BasisLaid}
+use Rattle.leakage.specs.Leakages.{Basis, Work, limitOf, leakCourse, sumPlaces, candidatePlaces}
 use Rattle.leakage.specs.declared.limits.Limits.{Limits}
 use Rattle.leakage.proofs.GatherLaws.{Passed}
+use Rattle.lent.specs.Between.{AllInside}
+use Rattle.passes.specs.Between.{ModelReady, BasisReady, Took}
+use Rattle.leakage.specs.Between.{BasisLaid}
+use Rattle.order.specs.Between.{AllBelow}
 
 -- ---- what is laid in the first places of lent tables
 pub laid-first : (n : ℕ) (x y : List ℕ) → length x ≡ n → take n (x ++ drop n y) ≡ x
@@ -52,7 +56,7 @@ some-word n order h = omega (arith, length-take n order)
 -- ---- what the passes ask for
 module _ (m : Model) (t : ModelTables) (b : Basis) (w : Work) (p : Passed m t b w) where
   abbrev lanes : List ℕ
-  lanes = take (b .len * 4) (b .lanes)
+  lanes = take (b .len * wordLanes) (b .lanes)
 
   abbrev coeffs : List Float
   coeffs = take (b .len) (b .coeffs)
@@ -60,14 +64,14 @@ module _ (m : Model) (t : ModelTables) (b : Basis) (w : Work) (p : Passed m t b 
   pub model-ready : 0 < b .len → (hIndex jIndex : List ℕ) → ModelIndexed m t hIndex jIndex → length hIndex ≡ length (w .hIndex) → length jIndex ≡ length (w .jIndex) → ModelReady m t hIndex jIndex (w .mask)
   model-ready h hIndex jIndex i eh ej = record { tested = p .model; indexed = i; h-rows = omega (arith, p .h-long h, eh); j-rows = omega (arith, p .j-long h, ej); row = p .mask-long h }
 
-  lanes-long : length lanes ≡ b .len * 4
-  lanes-long = length-take-le (b .len * 4) (b .lanes) (omega (arith, p .words-long))
+  lanes-long : length lanes ≡ b .len * wordLanes
+  lanes-long = length-take-le (b .len * wordLanes) (b .lanes) (omega (arith, p .words-long))
 
   coeffs-long : length coeffs ≡ b .len
   coeffs-long = length-take-le (b .len) (b .coeffs) (p .coeffs-long)
 
   words-are : words lanes ≡ take (b .len) (words (b .lanes))
-  words-are = let e : b .len * 4 ≡ 4 * b .len = omega arith in ap (λ (k : ℕ). words (take k (b .lanes))) e ∙ words-take (b .len) (b .lanes)
+  words-are = let e : b .len * wordLanes ≡ wordLanes * b .len = omega arith in ap (λ (k : ℕ). words (take k (b .lanes))) e ∙ words-take (b .len) (b .lanes)
 
   all-inside : AllInside lanes (m .qubits)
   unfolding outsideAt
@@ -76,9 +80,9 @@ module _ (m : Model) (t : ModelTables) (b : Basis) (w : Work) (p : Passed m t b 
       ap (λ (v : Word). reaches v (m .qubits)) (ap (λ (ws : List Word). getD ws k identity) words-are ∙ getD-take (b .len) (words (b .lanes)) k identity l) ∙ p .inside k l
 
   module _ (order heads nexts fixedHeads fixedNexts : List ℕ) (laid : 0 < b .len → BasisLaid (b .len) (b .lanes) (b .coeffs) (b .protected) order heads nexts fixedHeads fixedNexts) where
-    pub basis-ready : 0 < b .len → {slots : ℕ} → slots ≡ whereAny (b .len) (length (b .protected) / 4) → BasisReady (m .qubits) lanes coeffs heads (take (b .len) nexts) (b .protected) fixedHeads (take slots fixedNexts)
+    pub basis-ready : 0 < b .len → {slots : ℕ} → slots ≡ whereAny (b .len) (length (b .protected) / wordLanes) → BasisReady (m .qubits) lanes coeffs heads (take (b .len) nexts) (b .protected) fixedHeads (take slots fixedNexts)
     basis-ready h e =
-        let f : length (b .protected) / 4 ≡ _ = sym (e ∙ need-is (b .len) (length (b .protected) / 4) h) in
+        let f : length (b .protected) / wordLanes ≡ _ = sym (e ∙ need-is (b .len) (length (b .protected) / wordLanes) h) in
         record { basis-slots = laid h .basis-slots; fixed-slots = rw f at (laid h .fixed-slots); each = omega (arith, lanes-long, coeffs-long); inside = all-inside }
 
     pub order-below : 0 < b .len → AllBelow (length coeffs) (take (b .len) order)

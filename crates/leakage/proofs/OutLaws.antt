@@ -11,28 +11,30 @@ use lib.Ieee.{Float}
 use lib.ListN.{length, set, replicate}
 use Rattle.refusal.specs.declared.Refusal.{Refusal}
 use Rattle.refusal.specs.declared.Refusal.the-variants.{TableFull}
-use Rattle.word.specs.Flat.{layWord}
+use Rattle.word.specs.Flat.{layWord, wordLanes}
 use Rattle.number.specs.Floats.{float0}
 use Rattle.candidates.specs.Log.{Rows}
 use Rattle.refusal.specs.declared.Answer.the-variants as Tests
 use Rattle.model.specs.Stored.{ModelTables}
 use Rattle.model.specs.declared.stored.Model.{Model}
-use Rattle.model.specs.Given.{Read, got, refused}
-use Rattle.model.specs.Laid.{laid}
+use Rattle.lent.specs.Read.{Read, got, refused}
+use Rattle.lent.specs.Laid.{laid}
 use Rattle.action.specs.Acts.{listPlaces}
 use Rattle.action.specs.declared.act.Acted.the-variants.{Listed, Refused}
-use Rattle.passes.specs.Leaks.{above, wordsOf, sumsOf, Took}
-use Rattle.leakage.specs.Leakages.{Basis, Work, workOf, zeroed, PassWork, passWork, zeroedPass, Out, actionPlaces, rowPlaces, tauOf, leakTests, leakCourse, listing, leak, stepRows, HeldInside}
+use Rattle.passes.specs.Leaks.{above, wordsOf, sumsOf}
+use Rattle.leakage.specs.Leakages.{Basis, Work, workOf, zeroed, Out, actionPlaces, rowPlaces, tauOf, leakTests, leakCourse, listing, leak}
 use Rattle.leakage.specs.declared.limits.Limits.{Limits}
 use Rattle.passes.specs.declared.taken.Taken.{Taken}
 use Rattle.passes.specs.declared.taken.Taken.the-variants as Steps
+use Rattle.passes.specs.Between.{Took}
+use Rattle.leakage.specs.Between.{PassWork, passWork, zeroedPass, stepRows, HeldInside}
 
 -- ---- the places of the tables that 13 names
-pub action-places-are : (ww ws lw lv po pw : ℕ) {a b c d r : ℕ} → a ≡ min (ww / 4) (ws / 2) → b ≡ min (lw / 4) lv → c ≡ min po pw → d ≡ min b c → r ≡ min a d → r ≡ actionPlaces ww ws lw lv po pw
+pub action-places-are : (ww ws lw lv po pw : ℕ) {a b c d r : ℕ} → a ≡ min (ww / wordLanes) (ws / 2) → b ≡ min (lw / wordLanes) lv → c ≡ min po pw → d ≡ min b c → r ≡ min a d → r ≡ actionPlaces ww ws lw lv po pw
 unfolding actionPlaces
 action-places-are ww ws lw lv po pw ea eb ec ed er = rw (er, ea, ed, eb, ec)
 
-pub row-places-are : (cw cs nw ns po pw pk : ℕ) {a b c d e r : ℕ} → a ≡ min (cw / 4) cs → b ≡ min (nw / 4) ns → c ≡ min a b → d ≡ min po pw → e ≡ min d pk → r ≡ min c e → r ≡ rowPlaces cw cs nw ns po pw pk
+pub row-places-are : (cw cs nw ns po pw pk : ℕ) {a b c d e r : ℕ} → a ≡ min (cw / wordLanes) cs → b ≡ min (nw / wordLanes) ns → c ≡ min a b → d ≡ min po pw → e ≡ min d pk → r ≡ min c e → r ≡ rowPlaces cw cs nw ns po pw pk
 unfolding rowPlaces
 row-places-are cw cs nw ns po pw pk ea eb ec ed ee er = rw (er, ec, ea, eb, ee, ed)
 
@@ -57,7 +59,7 @@ pub took-rows : (room : ℕ) (course : Read Rows) (lanes : List ℕ) (sums : Lis
 took-rows room course lanes sums (Steps.Held n) k = sym (k .held n refl .0)
 took-rows room course lanes sums (Steps.Refused q) k = sym (k .stopped q refl)
 
-pub took-inside : (room : ℕ) (course : Read Rows) (lanes : List ℕ) (sums : List Float) (r : Taken) → Took room course lanes sums r → 4 * room ≤ length lanes → room ≤ length sums → HeldInside r lanes sums
+pub took-inside : (room : ℕ) (course : Read Rows) (lanes : List ℕ) (sums : List Float) (r : Taken) → Took room course lanes sums r → wordLanes * room ≤ length lanes → room ≤ length sums → HeldInside r lanes sums
 took-inside room course lanes sums r k a b = record { inside = λ n e. record { lanes-long = omega (arith, k .held n e .1); sums-long = omega (arith, k .held n e .1); inside = omega arith } }
 
 -- ---- the call

@@ -3,35 +3,32 @@
 
 -- Leakage over a lent model, basis and protected list: limits and their defaults, refusals in their order, the answer, and every
 -- lent table afterwards.
-use Prim.Native.Nat.{ℕ, _-_, _*_, _/_, _≤_, min, max}
-use mathlib.Core.Path.{_≡_}
+use Prim.Native.Nat.{ℕ, _-_, _*_, _/_, min, max}
 use mathlib.Core.Bool.{cond}
-use mathlib.Core.List.{List}
+use mathlib.Core.List.{List, [], _∷_}
 use lib.Dec.{ltb, eqb}
 use lib.Ieee.{Float}
 use lib.ListN.{length, take, set, replicate}
 use Rattle.refusal.specs.declared.Refusal.the-variants.{TableFull}
 use Rattle.refusal.specs.declared.Answer.{Answer}
 use Rattle.refusal.specs.declared.Answer.the-variants as Tests
-use Rattle.word.specs.Flat.{words, layWord}
+use Rattle.word.specs.Flat.{words, layWord, wordLanes}
 use Rattle.number.specs.Floats.{float0}
-use Rattle.order.specs.Magnitudes.{byMagnitude}
-use Rattle.slots.specs.Slots.{Slotted}
-use Rattle.candidates.specs.Log.{Rows, candidateRows}
+use Rattle.candidates.specs.Log.{Rows}
 use Rattle.model.specs.Stored.{ModelTables}
-use Rattle.model.specs.Given.{Read, got, refused}
-use Rattle.model.specs.Tested.{counted, lent, whereAny, testModel}
-use Rattle.model.specs.Built.{andThen, equal}
-use Rattle.model.specs.Laid.{laid}
+use Rattle.lent.specs.Read.{Read, got, refused}
+use Rattle.lent.specs.Laid.{laid}
+use Rattle.model.specs.Tested.{testModel}
+use Rattle.lent.specs.Tests.{counted, lent, whereAny, andThen, equal, inTurn}
+use Rattle.lent.specs.Words.{maxWords, insideTo}
+use Rattle.lent.specs.Numbers.{finiteTo, finiteThreshold}
 use Rattle.model.specs.declared.stored.Model.{Model}
 use Rattle.action.specs.Acts.{listPlaces}
-use Rattle.action.specs.Counts.{maxWords, rowLanes, insideTo}
+use Rattle.action.specs.Counts.{rowLanes}
 use Rattle.action.specs.declared.act.Acted.{Acted}
 use Rattle.action.specs.declared.act.Acted.the-variants.{Listed, Refused}
-use Rattle.truncate.specs.Tests.{finiteTo, finiteThreshold}
-use Rattle.passes.specs.Leaks.{candidatesOf, above, wordsOf, sumsOf, Holding}
+use Rattle.passes.specs.Leaks.{candidatesOf, above, wordsOf, sumsOf}
 use Rattle.leakage.specs.declared.limits.Limits.{Limits}
-use Rattle.passes.specs.declared.taken.Taken.{Taken}
 use Rattle.passes.specs.declared.taken.Taken.the-variants as Steps
 
 -- ---- limits
@@ -131,10 +128,10 @@ zeroed w = record {
 -- the places of table 1, words touched by one action, and of table 2, candidates: those of the shortest table that holds them, by
 -- the lengths of the tables
 unfoldable pub actionPlaces : (workWords workSums logWords logValues placeOrder placeWork : ℕ) → ℕ
-actionPlaces workWords workSums logWords logValues placeOrder placeWork = min (min (workWords / 4) (workSums / 2)) (min (min (logWords / 4) logValues) (min placeOrder placeWork))
+actionPlaces workWords workSums logWords logValues placeOrder placeWork = min (min (workWords / wordLanes) (workSums / 2)) (min (min (logWords / wordLanes) logValues) (min placeOrder placeWork))
 
 unfoldable pub rowPlaces : (candWords candSums nextWords nextSums placeOrder placeWork placeKept : ℕ) → ℕ
-rowPlaces candWords candSums nextWords nextSums placeOrder placeWork placeKept = min (min (min (candWords / 4) candSums) (min (nextWords / 4) nextSums)) (min (min placeOrder placeWork) placeKept)
+rowPlaces candWords candSums nextWords nextSums placeOrder placeWork placeKept = min (min (min (candWords / wordLanes) candSums) (min (nextWords / wordLanes) nextSums)) (min (min placeOrder placeWork) placeKept)
 
 abbrev pub sumPlaces : Work → ℕ
 sumPlaces w = actionPlaces (length (w .workWords)) (length (w .workSums)) (length (w .logWords)) (length (w .logValues)) (length (w .placeOrder)) (length (w .placeWork))
@@ -148,33 +145,35 @@ candidatePlaces w =
 -- basis asks for no place
 unfoldable pub workTests : ℕ → ℕ → ℕ → Work → Answer
 workTests n len count w =
+    inTurn (
     lent (whereAny len (rowLanes * n)) (length (w .hIndex))
-    (lent (whereAny len (rowLanes * n)) (length (w .jIndex))
-    (lent (whereAny len rowLanes) (length (w .mask))
-    (lent len (length (w .order))
-    (lent len (length (w .heads))
-    (lent len (length (w .nexts))
-    (lent (whereAny len count) (length (w .fixedHeads))
-    (lent (whereAny len count) (length (w .fixedNexts))
-    Tests.Accepted)))))))
+    ∷ lent (whereAny len (rowLanes * n)) (length (w .jIndex))
+    ∷ lent (whereAny len rowLanes) (length (w .mask))
+    ∷ lent len (length (w .order))
+    ∷ lent len (length (w .heads))
+    ∷ lent len (length (w .nexts))
+    ∷ lent (whereAny len count) (length (w .fixedHeads))
+    ∷ lent (whereAny len count) (length (w .fixedNexts))
+    ∷ []) Tests.Accepted
 
 -- 11, 7
 unfoldable pub entryTests : ℕ → Basis → Answer
-entryTests n b = insideTo (b .len) (b .lanes) n (insideTo (length (b .protected) / 4) (b .protected) n (finiteTo 0 (b .len) (b .coeffs) Tests.Accepted))
+entryTests n b = insideTo (b .len) (b .lanes) n (insideTo (length (b .protected) / wordLanes) (b .protected) n (finiteTo 0 (b .len) (b .coeffs) Tests.Accepted))
 
 -- the model, 8, 9, 11, 7
 unfoldable pub leakTests : Model → ModelTables → Basis → Limits → Work → Answer
 leakTests m t b l w =
+    inTurn (
     andThen (testModel m t)
-    (counted maxWords (b .len)
-    (counted maxWords (length (b .protected) / 4)
-    (andThen (limitTests l)
-    (lent (b .len) (length (b .lanes) / 4)
-    (lent (b .len) (length (b .coeffs))
-    (equal (length (b .protected) / 4 * 4) (length (b .protected))
-    (andThen (workTests (m .qubits) (b .len) (length (b .protected) / 4) w)
-    (andThen (entryTests (m .qubits) b)
-    (tauTests (b .len) l)))))))))
+    ∷ counted maxWords (b .len)
+    ∷ counted maxWords (length (b .protected) / wordLanes)
+    ∷ andThen (limitTests l)
+    ∷ lent (b .len) (length (b .lanes) / wordLanes)
+    ∷ lent (b .len) (length (b .coeffs))
+    ∷ equal (length (b .protected) / wordLanes * wordLanes) (length (b .protected))
+    ∷ andThen (workTests (m .qubits) (b .len) (length (b .protected) / wordLanes) w)
+    ∷ andThen (entryTests (m .qubits) b)
+    ∷ []) (tauTests (b .len) l)
 
 -- ---- the answer, the list, and the lent tables afterwards
 pub record Out : Type 0 where
@@ -209,73 +208,3 @@ module _ (outWords : List ℕ) (outValues : List Float) (w : Work) where
   leak m t b l = tested (leakTests m t b l w) (listing (tauOf l) outWords outValues (leakCourse m t b l w))
 
 -- ---- for the functions that work on lent tables
--- a word, a coefficient and a place of each table for each of so many positions, and at least as many slots
-pub record BasisLent (len : ℕ) (lanes : List ℕ) (coeffs : List Float) (order heads nexts : List ℕ) : Type 0 where
-  pub lanes-long : len ≤ length lanes / 4
-  pub coeffs-long : len ≤ length coeffs
-  pub order-long : len ≤ length order
-  pub nexts-long : len ≤ length nexts
-  pub slots-enough : len ≤ length heads
-
-pub record FixedLent (protected heads nexts : List ℕ) : Type 0 where
-  pub whole : length protected ≡ length protected / 4 * 4
-  pub nexts-long : length protected / 4 ≤ length nexts
-  pub slots-enough : length protected / 4 ≤ length heads
-
--- positions in falling magnitude, and the slots of the basis words and of the protected ones
-pub record BasisLaid (len : ℕ) (lanes : List ℕ) (coeffs : List Float) (protected order heads nexts fixedHeads fixedNexts : List ℕ) : Type 0 where
-  pub order-is : take len order ≡ byMagnitude (take len coeffs)
-  pub basis-slots : Slotted (words (take (len * 4) lanes)) heads (take len nexts)
-  pub fixed-slots : Slotted (words protected) fixedHeads (take (length protected / 4) fixedNexts)
-
--- the tables that the passes write, but for the candidates
-pub record PassWork : Type 0 where
-  pub mask : List ℕ
-  pub workWords : List ℕ
-  pub workSums : List Float
-  pub logWords : List ℕ
-  pub logValues : List Float
-  pub nextWords : List ℕ
-  pub nextSums : List Float
-  pub placeOrder : List ℕ
-  pub placeWork : List ℕ
-  pub placeKept : List ℕ
-
-abbrev pub passWork : List ℕ → List ℕ → List Float → List ℕ → List Float → List ℕ → List Float → List ℕ → List ℕ → List ℕ → PassWork
-passWork mask workWords workSums logWords logValues nextWords nextSums placeOrder placeWork placeKept =
-    record {
-      mask = mask;
-      workWords = workWords;
-      workSums = workSums;
-      logWords = logWords;
-      logValues = logValues;
-      nextWords = nextWords;
-      nextSums = nextSums;
-      placeOrder = placeOrder;
-      placeWork = placeWork;
-      placeKept = placeKept;
-    }
-
-abbrev pub zeroedPass : PassWork → PassWork
-zeroedPass w =
-    record {
-      mask = replicate (length (w .mask)) 0;
-      workWords = replicate (length (w .workWords)) 0;
-      workSums = replicate (length (w .workSums)) float0;
-      logWords = replicate (length (w .logWords)) 0;
-      logValues = replicate (length (w .logValues)) float0;
-      nextWords = replicate (length (w .nextWords)) 0;
-      nextSums = replicate (length (w .nextSums)) float0;
-      placeOrder = replicate (length (w .placeOrder)) 0;
-      placeWork = replicate (length (w .placeWork)) 0;
-      placeKept = replicate (length (w .placeKept)) 0;
-    }
-
--- the candidates that a step left in lent tables
-abbrev pub stepRows : Taken → List ℕ → List Float → Read Rows
-stepRows (Steps.Held n) lanes sums = got (candidateRows n lanes sums)
-stepRows (Steps.Refused r) lanes sums = refused r
-
--- as many rows as a step says that it holds
-pub record HeldInside (r : Taken) (lanes : List ℕ) (sums : List Float) : Type 0 where
-  pub inside : (n : ℕ) → r ≡ Steps.Held n → Holding n n lanes sums

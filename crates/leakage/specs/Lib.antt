@@ -3,3 +3,4 @@
 
 -- Leakage out of a lent basis as a call: limits, what is listed, refused and left in the lent tables.
 pub mod Leakages
+pub mod Between

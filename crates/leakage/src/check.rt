@@ -5,19 +5,20 @@
 ghost use mathlib.Core.Path.{_≡_};
 ghost use Prim.Native.Nat.{_≤_};
 ghost use lib.ListN.{length};
-ghost use Rattle.model.specs.Stored.{tables};
+ghost use Rattle.word.specs.Word.{maxQubits};
+ghost use Rattle.model.specs.Between.{modelTables};
 ghost use Rattle.leakage.specs.Leakages.{limitTests, tauTests, workTests, leakTests, basisOf, Work};
 use crate::limits::Limits;
-use action::words::MAX_WORDS;
 use action::words::ROW_LANES;
-use truncate::checks::check_entries;
-use model::lengths::mismatch;
-use model::lengths::where_any;
+use lent::tests::mismatch;
+use lent::tests::where_any;
+use lent::words::MAX_WORDS;
 use model::stored::Model;
 use model::test::test_model;
 use number::scalar::is_finite;
 use refusal::Answer;
 use refusal::Refusal;
+use truncate::checks::check_entries;
 use word::flat::WORD_LANES;
 
 fn check_limits(limits: Limits) -> Answer
@@ -66,7 +67,7 @@ fn check_work(
     fixed_heads: usize,
     fixed_nexts: usize,
 ) -> Answer
-    requires { ⌜ n ≤ 128 ⌝ }
+    requires { ⌜ n ≤ maxQubits ⌝ }
     ensures { λ r. ⌜ ((w : Work) → (length (w .hIndex) ≡ «h_index») → (length (w .jIndex) ≡ «j_index») → (length (w .mask) ≡ mask) → (length (w .order) ≡ order) → (length (w .heads) ≡ heads) → (length (w .nexts) ≡ nexts) → (length (w .fixedHeads) ≡ «fixed_heads») → (length (w .fixedNexts) ≡ «fixed_nexts») → r ≡ workTests n len count w) ⌝ }
 {
     let rows = where_any(len, ROW_LANES * n);
@@ -121,7 +122,7 @@ pub fn check_leakage(
     fixed_heads: usize,
     fixed_nexts: usize,
 ) -> Answer
-    ensures { λ r. ⌜ ((w : Work) → (length (w .hIndex) ≡ «h_index») → (length (w .jIndex) ≡ «j_index») → (length (w .mask) ≡ mask) → (length (w .order) ≡ order) → (length (w .heads) ≡ heads) → (length (w .nexts) ≡ nexts) → (length (w .fixedHeads) ≡ «fixed_heads») → (length (w .fixedNexts) ≡ «fixed_nexts») → r ≡ leakTests m (tables (now («h_words» .entry)) (now («h_coeffs» .entry)) (now (jumps .entry)) (now (rates .entry)) (now («t_words» .entry)) (now («t_numbers» .entry))) (basisOf (now (words .entry)) (now (coeffs .entry)) len (now (protected .entry))) limits w) ⌝ }
+    ensures { λ r. ⌜ ((w : Work) → (length (w .hIndex) ≡ «h_index») → (length (w .jIndex) ≡ «j_index») → (length (w .mask) ≡ mask) → (length (w .order) ≡ order) → (length (w .heads) ≡ heads) → (length (w .nexts) ≡ nexts) → (length (w .fixedHeads) ≡ «fixed_heads») → (length (w .fixedNexts) ≡ «fixed_nexts») → r ≡ leakTests m (modelTables (now («h_words» .entry)) (now («h_coeffs» .entry)) (now (jumps .entry)) (now (rates .entry)) (now («t_words» .entry)) (now («t_numbers» .entry))) (basisOf (now (words .entry)) (now (coeffs .entry)) len (now (protected .entry))) limits w) ⌝ }
 {
     let model = test_model(m, h_words, h_coeffs, jumps, rates, t_words, t_numbers);
     let Answer::Accepted = model else {

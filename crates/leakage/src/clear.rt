@@ -5,8 +5,8 @@
 ghost use mathlib.Core.Path.{_≡_};
 ghost use lib.ListN.{length, replicate};
 ghost use Rattle.number.specs.Floats.{float0};
-use sums::clear::clear_lanes;
-use sums::clear::clear_numbers;
+use lent::clear::clear_lanes;
+use lent::clear::clear_numbers;
 
 pub fn clear_rows(words: &mut [u64], numbers: &mut [f64])
     ensures { λ _. ⌜ (now (words .exit) ≡ replicate (length (now (words .entry))) 0) × (now (numbers .exit) ≡ replicate (length (now (numbers .entry))) float0) ⌝ }

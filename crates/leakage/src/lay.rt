@@ -4,7 +4,7 @@
 // What is laid once before the passes: positions in falling magnitude, and slots to find words by. Nothing for an
 // empty basis, which has no pass.
 ghost use Prim.Native.Nat.{_<_};
-ghost use Rattle.leakage.specs.Leakages.{BasisLent, FixedLent, BasisLaid};
+ghost use Rattle.leakage.specs.Between.{BasisLent, FixedLent, BasisLaid};
 use order::magnitudes::order_by_desc_mag;
 use slots::lay_slots;
 use word::flat::WORD_LANES;

@@ -3,7 +3,7 @@
 
 // Leakage as a call: tests, what is laid once, the passes, the list; work tables are zero afterwards.
 ghost use mathlib.Core.Path.{_≡_};
-ghost use Rattle.model.specs.Stored.{tables};
+ghost use Rattle.model.specs.Between.{modelTables};
 ghost use Rattle.leakage.specs.Leakages.{workOf, basisOf, leak};
 use crate::check::check_leakage;
 use crate::clear::clear_five;
@@ -14,11 +14,11 @@ use crate::limits::word_room;
 use crate::listing::list_candidates;
 use crate::run::run_and_clear;
 use action::act::Acted;
-use rules_by_index::indexed::index_model;
-use model::lengths::where_any;
+use lent::clear::clear_lanes;
+use lent::tests::where_any;
 use model::stored::Model;
 use refusal::Answer;
-use sums::clear::clear_lanes;
+use rules_by_index::indexed::index_model;
 use word::flat::WORD_LANES;
 
 pub fn leakage_with_prune(
@@ -56,7 +56,7 @@ pub fn leakage_with_prune(
     out_words: &mut [u64],
     out_values: &mut [f64],
 ) -> Acted
-    ensures { λ r. ⌜ record { out = record { answer = r; outWords = now («out_words» .exit); outValues = now («out_values» .exit) }; work = workOf (now («h_index» .exit)) (now («j_index» .exit)) (now (mask .exit)) (now («work_words» .exit)) (now («work_sums» .exit)) (now (order .exit)) (now (heads .exit)) (now (nexts .exit)) (now («fixed_heads» .exit)) (now («fixed_nexts» .exit)) (now («log_words» .exit)) (now («log_values» .exit)) (now («cand_words» .exit)) (now («cand_sums» .exit)) (now («next_words» .exit)) (now («next_sums» .exit)) (now («place_order» .exit)) (now («place_work» .exit)) (now («place_kept» .exit)) } ≡ leak (now («out_words» .entry)) (now («out_values» .entry)) (workOf (now («h_index» .entry)) (now («j_index» .entry)) (now (mask .entry)) (now («work_words» .entry)) (now («work_sums» .entry)) (now (order .entry)) (now (heads .entry)) (now (nexts .entry)) (now («fixed_heads» .entry)) (now («fixed_nexts» .entry)) (now («log_words» .entry)) (now («log_values» .entry)) (now («cand_words» .entry)) (now («cand_sums» .entry)) (now («next_words» .entry)) (now («next_sums» .entry)) (now («place_order» .entry)) (now («place_work» .entry)) (now («place_kept» .entry))) m (tables (now («h_words» .entry)) (now («h_coeffs» .entry)) (now (jumps .entry)) (now (rates .entry)) (now («t_words» .entry)) (now («t_numbers» .entry))) (basisOf (now (words .entry)) (now (coeffs .entry)) len (now (protected .entry))) limits ⌝ }
+    ensures { λ r. ⌜ record { out = record { answer = r; outWords = now («out_words» .exit); outValues = now («out_values» .exit) }; work = workOf (now («h_index» .exit)) (now («j_index» .exit)) (now (mask .exit)) (now («work_words» .exit)) (now («work_sums» .exit)) (now (order .exit)) (now (heads .exit)) (now (nexts .exit)) (now («fixed_heads» .exit)) (now («fixed_nexts» .exit)) (now («log_words» .exit)) (now («log_values» .exit)) (now («cand_words» .exit)) (now («cand_sums» .exit)) (now («next_words» .exit)) (now («next_sums» .exit)) (now («place_order» .exit)) (now («place_work» .exit)) (now («place_kept» .exit)) } ≡ leak (now («out_words» .entry)) (now («out_values» .entry)) (workOf (now («h_index» .entry)) (now («j_index» .entry)) (now (mask .entry)) (now («work_words» .entry)) (now («work_sums» .entry)) (now (order .entry)) (now (heads .entry)) (now (nexts .entry)) (now («fixed_heads» .entry)) (now («fixed_nexts» .entry)) (now («log_words» .entry)) (now («log_values» .entry)) (now («cand_words» .entry)) (now («cand_sums» .entry)) (now («next_words» .entry)) (now («next_sums» .entry)) (now («place_order» .entry)) (now («place_work» .entry)) (now («place_kept» .entry))) m (modelTables (now («h_words» .entry)) (now («h_coeffs» .entry)) (now (jumps .entry)) (now (rates .entry)) (now («t_words» .entry)) (now («t_numbers» .entry))) (basisOf (now (words .entry)) (now (coeffs .entry)) len (now (protected .entry))) limits ⌝ }
 {
     let answer = check_leakage(
         m,

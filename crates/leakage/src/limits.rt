@@ -5,8 +5,8 @@
 ghost use mathlib.Core.Path.{_≡_};
 ghost use Prim.Native.Nat.{_-_};
 ghost use Rattle.leakage.specs.Leakages.{limitOf, tauOf};
-use action::count::larger_count;
-use truncate::checks::room_left;
+use lent::sizes::larger;
+use lent::sizes::room_left;
 
 // max_basis, and beside it an admit_basis and a tau_add; each of the two counts where the number before
 // it is not 0.
@@ -26,7 +26,7 @@ pub fn word_limit(limits: Limits) -> usize
     if limits.admit_given == 0 {
         return limits.max_basis;
     }
-    larger_count(limits.max_basis, limits.admit_basis)
+    larger(limits.max_basis, limits.admit_basis)
 }
 
 // Room for words beside so many in the basis.

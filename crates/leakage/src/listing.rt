@@ -4,14 +4,15 @@
 // The list after the last pass.
 ghost use mathlib.Core.Path.{_≡_};
 ghost use Rattle.candidates.specs.Log.{candidateRows};
-ghost use Rattle.model.specs.Given.{got};
-ghost use Rattle.passes.specs.Leaks.{Holding};
-ghost use Rattle.leakage.specs.Leakages.{HeldInside, listing, stepRows, tauOf};
+ghost use Rattle.lent.specs.Read.{got};
+ghost use Rattle.passes.specs.Between.{Holding};
+ghost use Rattle.leakage.specs.Between.{HeldInside, stepRows};
+ghost use Rattle.leakage.specs.Leakages.{listing, tauOf};
 use crate::limits::Limits;
 use crate::limits::threshold;
 use action::act::Acted;
-use action::act::LIST_TABLE;
-use model::test::smaller;
+use lent::sizes::LIST_TABLE;
+use lent::sizes::smaller;
 use passes::list::count_above;
 use passes::list::list_above;
 use passes::taken::Taken;

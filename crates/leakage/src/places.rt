@@ -4,7 +4,7 @@
 // The places of the tables that 13 names, from the lengths of the lent ones.
 ghost use mathlib.Core.Path.{_≡_};
 ghost use Rattle.leakage.specs.Leakages.{actionPlaces, rowPlaces};
-use model::test::smaller;
+use lent::sizes::smaller;
 use word::flat::WORD_LANES;
 
 // Table 1: those of the shortest table that holds the words of one action.

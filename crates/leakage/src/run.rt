@@ -7,18 +7,20 @@ ghost use mathlib.Core.List.{[]};
 ghost use Prim.Native.Nat.{_<_};
 ghost use lib.ListN.{length};
 ghost use Rattle.word.specs.Flat.{words as wordsIn};
-ghost use Rattle.order.specs.Merge.{AllBelow};
-ghost use Rattle.model.specs.Stored.{tables};
-ghost use Rattle.passes.specs.Leaks.{passes, passCount, touchedAt, leaksAt, ModelReady, BasisReady, Took};
-ghost use Rattle.leakage.specs.Leakages.{actionPlaces, rowPlaces, passWork, zeroedPass};
+ghost use Rattle.order.specs.Between.{AllBelow};
+ghost use Rattle.model.specs.Between.{modelTables};
+ghost use Rattle.passes.specs.Between.{ModelReady, BasisReady, Took};
+ghost use Rattle.leakage.specs.Between.{passWork, zeroedPass};
+ghost use Rattle.passes.specs.Leaks.{passes, passCount, touchedAt, leaksAt};
+ghost use Rattle.leakage.specs.Leakages.{actionPlaces, rowPlaces};
 use crate::clear::clear_rows;
 use crate::clear::clear_three;
 use crate::places::action_places;
 use crate::places::row_places;
+use lent::clear::clear_lanes;
 use model::stored::Model;
 use passes::passes::run_passes;
 use passes::taken::Taken;
-use sums::clear::clear_lanes;
 
 pub fn run_and_clear(
     m: Model,
@@ -52,9 +54,9 @@ pub fn run_and_clear(
     place_work: &mut [u64],
     place_kept: &mut [u64],
 ) -> Taken
-    requires { ⌜ (0 < length (now positions) → ModelReady m (tables (now «h_words») (now «h_coeffs») (now jumps) (now rates) (now «t_words») (now «t_numbers»)) (now «h_index») (now «j_index») (now mask)) ⌝ }
+    requires { ⌜ (0 < length (now positions) → ModelReady m (modelTables (now «h_words») (now «h_coeffs») (now jumps) (now rates) (now «t_words») (now «t_numbers»)) (now «h_index») (now «j_index») (now mask)) ⌝ }
     requires { ⌜ (0 < length (now positions) → BasisReady (m .qubits) (now basis) (now coeffs) (now heads) (now nexts) (now protected) (now «fixed_heads») (now «fixed_nexts») × AllBelow (length (now coeffs)) (now positions)) ⌝ }
-    ensures { λ r. ⌜ Took (rowPlaces (length (now («cand_words» .entry))) (length (now («cand_sums» .entry))) (length (now («next_words» .entry))) (length (now («next_sums» .entry))) (length (now («place_order» .entry))) (length (now («place_work» .entry))) (length (now («place_kept» .entry)))) (passes (touchedAt m (tables (now («h_words» .entry)) (now («h_coeffs» .entry)) (now (jumps .entry)) (now (rates .entry)) (now («t_words» .entry)) (now («t_numbers» .entry))) (wordsIn (now (basis .entry))) (now (coeffs .entry)) (wordsIn (now (protected .entry)))) (leaksAt m (tables (now («h_words» .entry)) (now («h_coeffs» .entry)) (now (jumps .entry)) (now (rates .entry)) (now («t_words» .entry)) (now («t_numbers» .entry))) (wordsIn (now (basis .entry))) (now (coeffs .entry)) (wordsIn (now (protected .entry)))) (actionPlaces (length (now («work_words» .entry))) (length (now («work_sums» .entry))) (length (now («log_words» .entry))) (length (now («log_values» .entry))) (length (now («place_order» .entry))) (length (now («place_work» .entry)))) (rowPlaces (length (now («cand_words» .entry))) (length (now («cand_sums» .entry))) (length (now («next_words» .entry))) (length (now («next_sums» .entry))) (length (now («place_order» .entry))) (length (now («place_work» .entry))) (length (now («place_kept» .entry)))) room (passCount (length (now (positions .entry)))) (now (positions .entry)) []) (now («cand_words» .exit)) (now («cand_sums» .exit)) r × (passWork (now (mask .exit)) (now («work_words» .exit)) (now («work_sums» .exit)) (now («log_words» .exit)) (now («log_values» .exit)) (now («next_words» .exit)) (now («next_sums» .exit)) (now («place_order» .exit)) (now («place_work» .exit)) (now («place_kept» .exit)) ≡ zeroedPass (passWork (now (mask .entry)) (now («work_words» .entry)) (now («work_sums» .entry)) (now («log_words» .entry)) (now («log_values» .entry)) (now («next_words» .entry)) (now («next_sums» .entry)) (now («place_order» .entry)) (now («place_work» .entry)) (now («place_kept» .entry)))) ⌝ }
+    ensures { λ r. ⌜ Took (rowPlaces (length (now («cand_words» .entry))) (length (now («cand_sums» .entry))) (length (now («next_words» .entry))) (length (now («next_sums» .entry))) (length (now («place_order» .entry))) (length (now («place_work» .entry))) (length (now («place_kept» .entry)))) (passes (touchedAt m (modelTables (now («h_words» .entry)) (now («h_coeffs» .entry)) (now (jumps .entry)) (now (rates .entry)) (now («t_words» .entry)) (now («t_numbers» .entry))) (wordsIn (now (basis .entry))) (now (coeffs .entry)) (wordsIn (now (protected .entry)))) (leaksAt m (modelTables (now («h_words» .entry)) (now («h_coeffs» .entry)) (now (jumps .entry)) (now (rates .entry)) (now («t_words» .entry)) (now («t_numbers» .entry))) (wordsIn (now (basis .entry))) (now (coeffs .entry)) (wordsIn (now (protected .entry)))) (actionPlaces (length (now («work_words» .entry))) (length (now («work_sums» .entry))) (length (now («log_words» .entry))) (length (now («log_values» .entry))) (length (now («place_order» .entry))) (length (now («place_work» .entry)))) (rowPlaces (length (now («cand_words» .entry))) (length (now («cand_sums» .entry))) (length (now («next_words» .entry))) (length (now («next_sums» .entry))) (length (now («place_order» .entry))) (length (now («place_work» .entry))) (length (now («place_kept» .entry)))) room (passCount (length (now (positions .entry)))) (now (positions .entry)) []) (now («cand_words» .exit)) (now («cand_sums» .exit)) r × (passWork (now (mask .exit)) (now («work_words» .exit)) (now («work_sums» .exit)) (now («log_words» .exit)) (now («log_values» .exit)) (now («next_words» .exit)) (now («next_sums» .exit)) (now («place_order» .exit)) (now («place_work» .exit)) (now («place_kept» .exit)) ≡ zeroedPass (passWork (now (mask .entry)) (now («work_words» .entry)) (now («work_sums» .entry)) (now («log_words» .entry)) (now («log_values» .entry)) (now («next_words» .entry)) (now («next_sums» .entry)) (now («place_order» .entry)) (now («place_work» .entry)) (now («place_kept» .entry)))) ⌝ }
 {
     let sum_room = action_places(
         work_words.len(),

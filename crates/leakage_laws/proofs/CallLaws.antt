@@ -19,7 +19,7 @@ use Rattle.refusal.specs.declared.Refusal.the-variants.{TableFull, NumberOutOfR
 use Rattle.refusal.specs.declared.Answer.{Answer}
 use Rattle.refusal.specs.declared.Answer.the-variants as Tests
 use Rattle.word.specs.Word.{identity, Sound}
-use Rattle.word.specs.Flat.{words, layWord}
+use Rattle.word.specs.Flat.{words, layWord, wordLanes}
 use Rattle.word.proofs.FlatLaws.{words-high}
 use Rattle.word.specs.declared.word.Word.{Word}
 use Rattle.number.specs.Floats.{float0, isFinite}
@@ -28,24 +28,24 @@ use Rattle.keep.proofs.PruneLaws.{Number}
 use Rattle.candidates.specs.Sums.{Row}
 use Rattle.candidates.specs.Log.{Rows, candidateRows}
 use Rattle.model.specs.Stored.{ModelTables}
-use Rattle.model.specs.Given.{Read, got, refused}
-use Rattle.model.specs.Laid.{laid}
+use Rattle.lent.specs.Read.{Read, got, refused}
+use Rattle.lent.specs.Laid.{laid}
 use Rattle.model.specs.Tested.{testModel}
 use Rattle.model.specs.declared.stored.Model.{Model}
-use Rattle.model.proofs.BuildLaws.{both, equal-passed, lent-passed, counted-passed}
+use Rattle.lent.proofs.Passed.{both, equal-passed, lent-passed, counted-passed}
+use Rattle.lent.specs.Words.{maxWords}
+use Rattle.lent.specs.Numbers.{finiteThreshold}
 use Rattle.in_use.specs.InUse.{SameModel}
 use Rattle.action.specs.Acts.{listPlaces}
-use Rattle.action.specs.Counts.{maxWords}
 use Rattle.action.specs.declared.act.Acted.the-variants.{Listed, Refused}
-use Rattle.model_laws.specs.Every.{Every}
-use Rattle.truncate.specs.Tests.{finiteThreshold}
+use Rattle.lent.specs.Every.{Every}
 use Rattle.truncate.proofs.ThresholdLaws.{finite-number}
 use Rattle.passes.specs.Leaks.{wordsOf, sumsOf, passSize, passCount, above, isAbove}
 use Rattle.leakage.specs.Leakages.{Basis, Work, Out, Leaking, tauOf, limitTests, tauTests, workTests, entryTests, leakTests, listing, leakCourse, sumPlaces, candidatePlaces, leak, tested}
 use Rattle.leakage.specs.declared.limits.Limits.{Limits}
 use Rattle.leakage.proofs.GatherLaws.{leak-passed}
-use Rattle.leakage_laws.specs.Members.{Member, Has}
-use Rattle.leakage_laws.specs.Calls.{basisWords, basisCoeffs, roomOf, stayAfter, heldIn, listOf, RoomForAll, listedBy, LargestStay, LargerListed, SameBasis, Looser, TauFits, TauBelowZero, LosesNobody, Reached, ListsReached}
+use Rattle.order.specs.Members.{Member}
+use Rattle.leakage_laws.specs.Calls.{basisWords, basisCoeffs, roomOf, stayAfter, heldIn, listOf, RoomForAll, listedBy, LargestStay, LargerListed, SameBasis, Looser, TauFits, TauBelowZero, LosesNobody, ReachedOutside, ListsReached}
 use Rattle.leakage_laws.proofs.KeepLaws.{member-fits, member-finite, largest-more, largest-in, above-of, above-in, above-lower, ended-finite}
 use Rattle.leakage_laws.proofs.CourseLaws.{Ends, course-passes, keeps-largest, held-fits}
 use Rattle.leakage_laws.proofs.ReadLaws.{read-back, list-sound}
@@ -136,7 +136,7 @@ module _ (outWords : List ℕ) (outValues : List Float) (w : Work) (m : Model) (
     leakage-count = accepts answers .count ∙ ap (λ (R : Rows). length (above (tauOf l) R)) (course-is .0)
 
     -- ---- reached words
-    pub leakage-only-reached : (u : Word) → Has u (wordsOf (listedBy call n)) → Reached m t b u
+    pub leakage-only-reached : (u : Word) → Member u (wordsOf (listedBy call n)) → ReachedOutside m t b u
     leakage-only-reached u h =
         stay-reached u m t b l coeffs-long (passCount (b .len)) (above-has u (tauOf l) (stayAfter m t b l (passCount (b .len))) (subst (HasRow u) leakage-lists h))
 
@@ -169,14 +169,14 @@ module _ (outWords : List ℕ) (outValues : List Float) (w : Work) (m : Model) (
 tau-tested : (m : Model) (t : ModelTables) (b : Basis) (l : Limits) (w : Work) → leakTests m t b l w ≡ Tests.Accepted → tauTests (b .len) l ≡ Tests.Accepted
 unfolding leakTests
 tau-tested m t b l w e =
-    let count : ℕ = length (b .protected) / 4 in
+    let count : ℕ = length (b .protected) / wordLanes in
     let e0 = both (testModel m t) _ e in
     let e1 = counted-passed maxWords (b .len) _ (e0 .1) in
     let e2 = counted-passed maxWords count _ (e1 .1) in
     let e3 = both (limitTests l) _ (e2 .1) in
-    let e4 = lent-passed (b .len) (length (b .lanes) / 4) _ (e3 .1) in
+    let e4 = lent-passed (b .len) (length (b .lanes) / wordLanes) _ (e3 .1) in
     let e5 = lent-passed (b .len) (length (b .coeffs)) _ (e4 .1) in
-    let e6 = equal-passed (count * 4) (length (b .protected)) _ (e5 .1) in
+    let e6 = equal-passed (count * wordLanes) (length (b .protected)) _ (e5 .1) in
     let e7 = both (workTests (m .qubits) (b .len) count w) _ (e6 .1) in
     both (entryTests (m .qubits) b) _ (e7 .1) .1
 

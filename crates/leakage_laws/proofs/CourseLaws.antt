@@ -15,7 +15,7 @@ use Rattle.order.specs.Magnitudes.{byMagnitude}
 use Rattle.candidates.specs.Sums.{Rising}
 use Rattle.candidates.specs.Log.{Rows}
 use Rattle.model.specs.Stored.{ModelTables}
-use Rattle.model.specs.Given.{Read, got, refused, onward}
+use Rattle.lent.specs.Read.{Read, got, refused, onward}
 use Rattle.model.specs.declared.stored.Model.{Model}
 use Rattle.passes.specs.Leaks.{takenBy, largest, ended, passSize, passCount, passes, touchedAt, candidatesOf}
 use Rattle.passes.proofs.RoomLaws.{largest-count}

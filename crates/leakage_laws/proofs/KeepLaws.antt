@@ -21,7 +21,7 @@ use Rattle.word.specs.Order.{before}
 use Rattle.number.specs.Floats.{floats, magnitude, isFinite}
 use Rattle.number.specs.Key.{nonneg}
 use Rattle.number.proofs.KeyLaws.{magnitude-nonneg, magnitude-fits}
-use Rattle.order.specs.Magnitudes.{byMagnitude, AllFinite, keyAt}
+use Rattle.order.specs.Magnitudes.{byMagnitude, keyAt}
 use Rattle.keep.specs.Retained.{pick}
 use Rattle.keep.specs.Chosen.{flagOf, chosen}
 use Rattle.keep.proofs.FlagLaws.{Kept}
@@ -30,16 +30,17 @@ use Rattle.keep.proofs.PruneLaws.{Number}
 use Rattle.candidates.specs.Sums.{Row, row, putOver, putAll, AllAfter, Rising}
 use Rattle.candidates.specs.Log.{Rows, putRow, putRows}
 use Rattle.candidates.proofs.RisingLaws.{rising-rows}
-use Rattle.model.specs.Given.{got, refused, refuseIf}
-use Rattle.model.specs.Tested.{firstTo}
-use Rattle.model.proofs.Firsts.{first-before}
-use Rattle.truncate.specs.Tests.{notFinite}
+use Rattle.lent.specs.Read.{got, refused, refuseIf}
+use Rattle.lent.specs.Tests.{firstTo}
+use Rattle.lent.proofs.Firsts.{first-before}
+use Rattle.lent.specs.Numbers.{notFinite}
 use Rattle.truncate.specs.Admissions.{admitFlags}
 use Rattle.truncate.proofs.AdmissionLaws.{larger-first}
 use Rattle.truncate.proofs.ThresholdLaws.{finite-number, lower-lt}
 use Rattle.passes.specs.Leaks.{takenBy, sumsOf, largest, ended, isAbove, above}
-use Rattle.leakage_laws.specs.Members.{Member}
+use Rattle.order.specs.Members.{Member}
 use Rattle.leakage_laws.specs.Calls.{gathered}
+use Rattle.order.specs.Between.{AllFinite}
 
 -- ---- the room rule by flags, one for each candidate
 abbrev pub roomFlags : ℕ → Rows → List ℕ

@@ -21,26 +21,27 @@ use Rattle.word.specs.Flat.{words}
 use Rattle.word.specs.declared.word.Word.{Word}
 use Rattle.word.proofs.OrderLaws.{before-self, trichotomy}
 use Rattle.number.specs.Floats.{floats}
-use Rattle.order.specs.Merge.{All, positions}
+use Rattle.order.specs.Merge.{positions}
 use Rattle.order.specs.Magnitudes.{fallsBefore, byMagnitude}
 use Rattle.order.proofs.Fuel.{sort-length}
 use Rattle.order.proofs.Members.{all-sort, all-take, all-drop, all-more, positions-length, positions-below}
 use Rattle.keep.specs.Retained.{pick}
-use Rattle.keep.specs.Chosen.{occurrences}
+use Rattle.order.specs.Between.{All}
+use Rattle.keep.specs.Between.{occurrences}
 use Rattle.truncate.proofs.OrderOnce.{magnitude-once}
 use Rattle.candidates.specs.Sums.{row, putOver, putAll, AllAfter, Rising}
 use Rattle.candidates.specs.Log.{Rows, putRow, putRows}
 use Rattle.model.specs.Stored.{ModelTables}
-use Rattle.model.specs.Given.{Term}
+use Rattle.model.specs.Terms.{Term}
 use Rattle.model.specs.declared.stored.Model.{Model}
-use Rattle.model_laws.specs.Every.{Every}
+use Rattle.lent.specs.Every.{Every}
 use Rattle.action.specs.Acts.{actionOf}
 use Rattle.passes.specs.Leaks.{outside, leaked, wordsOf, largest, passSize, passCount, above, isAbove}
 use Rattle.passes.proofs.RoomLaws.{largest-all}
 use Rattle.leakage.specs.Leakages.{Basis}
 use Rattle.leakage.specs.declared.limits.Limits.{Limits}
-use Rattle.leakage_laws.specs.Members.{Has, Differ}
-use Rattle.leakage_laws.specs.Calls.{gathered, basisWords, basisCoeffs, leaksOf, roomOf, passOf, stayAfter, heldIn, Reached, RoomForAll}
+use Rattle.order.specs.Members.{Member, Differ}
+use Rattle.leakage_laws.specs.Calls.{gathered, basisWords, basisCoeffs, leaksOf, roomOf, passOf, stayAfter, heldIn, ReachedOutside, RoomForAll}
 use Rattle.leakage_laws.proofs.KeepLaws.{roomFlags}
 use Rattle.leakage_laws.proofs.CourseLaws.{stay-largest, held-rising}
 
@@ -50,11 +51,11 @@ NoneDropped m t b l = (k : ℕ) → k < passCount (b .len) → length (heldIn m 
 
 module _ (u : Word) where
   abbrev pub HasRow : Rows → Type 0
-  HasRow R = Has u (wordsOf R)
+  HasRow R = Member u (wordsOf R)
 
   -- ---- one entry
   put-old : (w : Word) (v : Float) (R : Rows) → HasRow R → HasRow (putRow w v R)
-  unfolding Has putOver
+  unfolding Member putOver
   put-old w v [] h = absurd h
   put-old w v (r ∷ R) h = go (put-old w v R) (before (r .word) w) (before w (r .word)) h
     where
@@ -66,7 +67,7 @@ module _ (u : Word) where
       go rest false false k = k
 
   put-new : (w : Word) (v : Float) (R : Rows) → u ≡ w → HasRow (putRow w v R)
-  unfolding Has putOver
+  unfolding Member putOver
   put-new w v [] e = inl e
   put-new w v (r ∷ R) e = go (put-new w v R e) (before (r .word) w) refl (before w (r .word)) refl
     where
@@ -82,7 +83,7 @@ module _ (u : Word) where
       go rest false x false y = inl (equal x y (trichotomy (r .word) w))
 
   put-only : (w : Word) (v : Float) (R : Rows) → HasRow (putRow w v R) → (u ≡ w) ⊎ HasRow R
-  unfolding Has putOver
+  unfolding Member putOver
   put-only w v [] (inl e) = inl e
   put-only w v [] (inr h) = absurd h
   put-only w v (r ∷ R) h = go (put-only w v R) (before (r .word) w) (before w (r .word)) h
@@ -106,13 +107,13 @@ module _ (u : Word) where
   rows-old (e ∷ l) R h = rows-old l (putRow (e .word) (e .sum) R) (put-old (e .word) (e .sum) R h)
 
   rows-new : (l R : Rows) → HasRow l → HasRow (putRows l R)
-  unfolding putAll Has
+  unfolding putAll Member
   rows-new [] R h = absurd h
   rows-new (e ∷ l) R (inl z) = rows-old l (putRow (e .word) (e .sum) R) (put-new (e .word) (e .sum) R z)
   rows-new (e ∷ l) R (inr h) = rows-new l (putRow (e .word) (e .sum) R) h
 
   rows-only : (l R : Rows) → HasRow (putRows l R) → HasRow l ⊎ HasRow R
-  unfolding putAll Has
+  unfolding putAll Member
   rows-only [] R h = inr h
   rows-only (e ∷ l) R h = go (rows-only l (putRow (e .word) (e .sum) R) h)
     where
@@ -147,23 +148,23 @@ module _ (u : Word) where
         go (inr k) = f k
 
   -- ---- one position
-  leaked-of : (out : Word → Bool) (c : Float) (L : List Term) → HasRow (leaked out c L) → Has u (map (λ (x : Term). x .word) L) × (out u ≡ true)
-  unfolding leaked Has
+  leaked-of : (out : Word → Bool) (c : Float) (L : List Term) → HasRow (leaked out c L) → Member u (map (λ (x : Term). x .word) L) × (out u ≡ true)
+  unfolding leaked Member
   leaked-of out c [] h = absurd h
   leaked-of out c (x ∷ L) h = go (leaked-of out c L) (out (x .word)) refl h
     where
-      go : (HasRow (leaked out c L) → Has u (map (λ (y : Term). y .word) L) × (out u ≡ true)) → (b : Bool) → out (x .word) ≡ b
-          → HasRow (cond b (row (x .word) (floats .times c (x .num .re)) ∷ leaked out c L) (leaked out c L)) → Has u (map (λ (y : Term). y .word) (x ∷ L)) × (out u ≡ true)
+      go : (HasRow (leaked out c L) → Member u (map (λ (y : Term). y .word) L) × (out u ≡ true)) → (b : Bool) → out (x .word) ≡ b
+          → HasRow (cond b (row (x .word) (floats .times c (x .num .re)) ∷ leaked out c L) (leaked out c L)) → Member u (map (λ (y : Term). y .word) (x ∷ L)) × (out u ≡ true)
       go rest true e (inl z) = (inl z, ap out z ∙ e)
       go rest true e (inr k) = (inr (rest k .0), rest k .1)
       go rest false e k = (inr (rest k .0), rest k .1)
 
-  leaked-in : (out : Word → Bool) (c : Float) (L : List Term) → Has u (map (λ (x : Term). x .word) L) → out u ≡ true → HasRow (leaked out c L)
-  unfolding leaked Has
+  leaked-in : (out : Word → Bool) (c : Float) (L : List Term) → Member u (map (λ (x : Term). x .word) L) → out u ≡ true → HasRow (leaked out c L)
+  unfolding leaked Member
   leaked-in out c [] h o = absurd h
   leaked-in out c (x ∷ L) h o = go (λ k. leaked-in out c L k o) (out (x .word)) refl h
     where
-      go : (Has u (map (λ (y : Term). y .word) L) → HasRow (leaked out c L)) → (b : Bool) → out (x .word) ≡ b → Has u (map (λ (y : Term). y .word) (x ∷ L))
+      go : (Member u (map (λ (y : Term). y .word) L) → HasRow (leaked out c L)) → (b : Bool) → out (x .word) ≡ b → Member u (map (λ (y : Term). y .word) (x ∷ L))
           → HasRow (cond b (row (x .word) (floats .times c (x .num .re)) ∷ leaked out c L) (leaked out c L))
       go rest true e (inl z) = inl z
       go rest true e (inr k) = inr (rest k)
@@ -172,7 +173,7 @@ module _ (u : Word) where
 
   -- ---- what stays, and what is listed
   pick-has : (ks : List ℕ) (R : Rows) → HasRow (pick ks R) → HasRow R
-  unfolding Has pick
+  unfolding Member pick
   pick-has [] R h = absurd h
   pick-has (k ∷ ks) [] h = absurd h
   pick-has (k ∷ ks) (r ∷ R) h = go (pick-has ks R) (eqb k 0) h
@@ -187,7 +188,7 @@ module _ (u : Word) where
   largest-has room R = pick-has (roomFlags room R) R
 
   pub above-has : (tau : Float) (R : Rows) → HasRow (above tau R) → HasRow R
-  unfolding Has above
+  unfolding Member above
   above-has tau [] h = absurd h
   above-has tau (r ∷ R) h = go (above-has tau R) (isAbove tau (r .sum)) h
     where
@@ -198,7 +199,7 @@ module _ (u : Word) where
 
   -- ---- the passes of a call
   module _ (m : Model) (t : ModelTables) (b : Basis) (l : Limits) where
-    leaks-reached : (p : ℕ) → p < b .len → HasRow (leaksOf m t b p) → Reached m t b u
+    leaks-reached : (p : ℕ) → p < b .len → HasRow (leaksOf m t b p) → ReachedOutside m t b u
     leaks-reached p h k =
         let q = leaked-of (outside (basisWords b) (words (b .protected))) (getD (basisCoeffs b) p nan) (actionOf m t (getD (basisWords b) p identity)) k in
         record { is-outside = q .1; position = p; in-basis = h; by-action = q .0 }
@@ -214,18 +215,18 @@ module _ (u : Word) where
           (all-sort (λ x. x < n) (fallsBefore (basisCoeffs b)) (length (positions n)) (positions n) (positions-below n))
 
       -- every candidate's word is reached
-      from-stay : (k : ℕ) → (HasRow (stayAfter m t b l k) → Reached m t b u) → HasRow (heldIn m t b l k) → Reached m t b u
+      from-stay : (k : ℕ) → (HasRow (stayAfter m t b l k) → ReachedOutside m t b u) → HasRow (heldIn m t b l k) → ReachedOutside m t b u
       from-stay k rest =
-          gathered-only (leaksOf m t b) (Reached m t b u) (passOf b k) (stayAfter m t b l k)
-          (all-more (λ p. p < b .len) (λ p. HasRow (leaksOf m t b p) → Reached m t b u) leaks-reached (passOf b k) (all-take (λ p. p < b .len) passSize (drop (k * passSize) order) (all-drop (λ p. p < b .len) (k * passSize) order order-below)))
+          gathered-only (leaksOf m t b) (ReachedOutside m t b u) (passOf b k) (stayAfter m t b l k)
+          (all-more (λ p. p < b .len) (λ p. HasRow (leaksOf m t b p) → ReachedOutside m t b u) leaks-reached (passOf b k) (all-take (λ p. p < b .len) passSize (drop (k * passSize) order) (all-drop (λ p. p < b .len) (k * passSize) order order-below)))
           rest
 
-      pub stay-reached : (k : ℕ) → HasRow (stayAfter m t b l k) → Reached m t b u
-      unfolding stayAfter Has
+      pub stay-reached : (k : ℕ) → HasRow (stayAfter m t b l k) → ReachedOutside m t b u
+      unfolding stayAfter Member
       stay-reached zero h = absurd h
       stay-reached (suc k) h = from-stay k (stay-reached k) (largest-has (roomOf b l) (heldIn m t b l k) h)
 
-      pub held-reached : (k : ℕ) → HasRow (heldIn m t b l k) → Reached m t b u
+      pub held-reached : (k : ℕ) → HasRow (heldIn m t b l k) → ReachedOutside m t b u
       held-reached k = from-stay k (stay-reached k)
 
       -- ---- with room for all
@@ -269,7 +270,7 @@ module _ (u : Word) where
             let z : suc k + (passCount (b .len) - suc k) ≡ passCount (b .len) = omega (arith, c) in
             subst (λ (j : ℕ). HasRow (stayAfter m t b l j)) z (stays-on (passCount (b .len) - suc k) (suc k) (omega (arith, c)) on)
 
-        pub reached-stays : Reached m t b u → HasRow (stayAfter m t b l (passCount (b .len)))
+        pub reached-stays : ReachedOutside m t b u → HasRow (stayAfter m t b l (passCount (b .len)))
         reached-stays r =
             let x : HasRow (leaksOf m t b (r .position)) = leaked-in (outside (basisWords b) (words (b .protected))) (getD (basisCoeffs b) (r .position) nan) (actionOf m t (getD (basisWords b) (r .position) identity)) (r .by-action) (r .is-outside) in
             place-of (r .position) order (magnitude-once (basisCoeffs b) .once (r .position) (omega (arith, r .in-basis, coeffs-long))) (HasRow (stayAfter m t b l (passCount (b .len))))
@@ -277,17 +278,17 @@ module _ (u : Word) where
 
 -- ---- room for all: what a pass holds are reached words that differ, so no pass drops one
 rising-differ : (R : Rows) → Rising before R → Differ (wordsOf R)
-unfolding Rising Differ AllAfter Has
+unfolding Rising Differ AllAfter Member
 rising-differ [] h = tt
 rising-differ (r ∷ R) h = (not-later (r .word) R (h .0), rising-differ R (h .1))
   where
-    not-later : (w : Word) (R : Rows) → AllAfter before w R → Has w (wordsOf R) → ⊥
+    not-later : (w : Word) (R : Rows) → AllAfter before w R → Member w (wordsOf R) → ⊥
     not-later w [] a h = h
     not-later w (s ∷ R) a (inl e) = holds false (sym (before-self w) ∙ ap (before w) e ∙ a .0)
     not-later w (s ∷ R) a (inr h) = not-later w R (a .1) h
 
-every-has : (P : Word → Type 0) (ws : List Word) → ((w : Word) → Has w ws → P w) → Every P ws
-unfolding Has
+every-has : (P : Word → Type 0) (ws : List Word) → ((w : Word) → Member w ws → P w) → Every P ws
+unfolding Member
 every-has P [] h = tt
 every-has P (w ∷ ws) h = (h w (inl refl), every-has P ws (λ v k. h v (inr k)))
 
@@ -296,5 +297,5 @@ module _ (m : Model) (t : ModelTables) (b : Basis) (l : Limits) (coeffs-long : l
   none-dropped enough k h =
       let R : Rows = heldIn m t b l k in
       let long : length (wordsOf R) ≡ length R = length-map R (λ r. r .word) in
-      let room = enough (wordsOf R) (rising-differ R (held-rising m t b l k)) (every-has (Reached m t b) (wordsOf R) (λ w x. held-reached w m t b l coeffs-long k x)) in
+      let room = enough (wordsOf R) (rising-differ R (held-rising m t b l k)) (every-has (ReachedOutside m t b) (wordsOf R) (λ w x. held-reached w m t b l coeffs-long k x)) in
       omega (arith, long, room)

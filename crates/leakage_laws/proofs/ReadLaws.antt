@@ -16,7 +16,7 @@ use lib.ListN.{length, getD, set, length-map, length-set, List·getD-eq-default}
 use lib.Seq.{ext-getD}
 use Rattle.word.specs.Order.{before, same}
 use Rattle.word.specs.Word.{identity, Sound}
-use Rattle.word.specs.Flat.{words, layWord}
+use Rattle.word.specs.Flat.{words, layWord, wordLanes}
 use Rattle.word.specs.declared.word.Word.{Word}
 use Rattle.word.proofs.OrderLaws.{same-self}
 use Rattle.word.proofs.WordLaws.{sound-identity}
@@ -27,11 +27,12 @@ use Rattle.candidates.specs.Sums.{Row, row, putOver, putAll}
 use Rattle.candidates.specs.Log.{Rows, candidateRows, putRow, putRows}
 use Rattle.candidates.proofs.RowLaws.{noRow, table-at, table-long}
 use Rattle.model.specs.Stored.{ModelTables}
-use Rattle.model.specs.Given.{Term}
-use Rattle.model.specs.Laid.{laid}
+use Rattle.model.specs.Terms.{Term}
+use Rattle.lent.specs.Laid.{laid}
 use Rattle.model.specs.declared.stored.Model.{Model}
-use Rattle.model_laws.specs.Every.{Every}
-use Rattle.model_laws.proofs.LaidLaws.{laid-length, word-length, set-here, words-here}
+use Rattle.lent.specs.Every.{Every}
+use Rattle.lent.proofs.LaidLaws.{laid-length, set-here}
+use Rattle.model_laws.proofs.LaidLaws.{word-length, words-here}
 use Rattle.action.specs.Acts.{actionOf, listPlaces}
 use Rattle.action_laws.proofs.ListedWords.{Formed, OfFormed, listed-formed}
 use Rattle.passes.specs.Leaks.{outside, leaked, sumsOf, wordsOf, largest, above, isAbove}
@@ -53,7 +54,7 @@ read-back R outWords outValues sound room =
     let ns : length (sumsOf R) ≡ length R = length-map R (λ r. r .sum) in
     let lw = laid-length layWord word-length 0 (wordsOf R) outWords in
     let ls = laid-length set length-set 0 (sumsOf R) outValues in
-    let a : 4 * length R ≤ length (laid layWord 0 (wordsOf R) outWords) = omega (arith, lw, room) in
+    let a : wordLanes * length R ≤ length (laid layWord 0 (wordsOf R) outWords) = omega (arith, lw, room) in
     let c : length R ≤ length (laid set 0 (sumsOf R) outValues) = omega (arith, ls, room) in
     let long = table-long (length R) (laid layWord 0 (wordsOf R) outWords) (laid set 0 (sumsOf R) outValues) a c in
     ext-getD noRow (candidateRows (length R) (laid layWord 0 (wordsOf R) outWords) (laid set 0 (sumsOf R) outValues)) R long

@@ -21,14 +21,14 @@ use Rattle.keep.specs.Retained.{pick}
 use Rattle.candidates.specs.Sums.{Row, Rising}
 use Rattle.candidates.specs.Log.{Rows, candidateRows, putRows}
 use Rattle.model.specs.Stored.{ModelTables}
-use Rattle.model.specs.Given.{Term}
+use Rattle.model.specs.Terms.{Term}
 use Rattle.model.specs.declared.stored.Model.{Model}
-use Rattle.model_laws.specs.Every.{Every}
+use Rattle.lent.specs.Every.{Every}
 use Rattle.action.specs.Acts.{actionOf}
 use Rattle.passes.specs.Leaks.{outside, sumsOf, wordsOf, largest, passSize, passCount, above, leaksAt}
 use Rattle.leakage.specs.Leakages.{Basis, Leaking, limitOf, tauOf}
 use Rattle.leakage.specs.declared.limits.Limits.{Limits}
-use Rattle.leakage_laws.specs.Members.{Member, Has, Differ}
+use Rattle.order.specs.Members.{Member, Differ}
 
 -- ---- the passes
 -- positions one after another, each adding what it leaks
@@ -117,17 +117,17 @@ LosesNobody R R′ = (r : Row Word Float) → Member r R → Member r R′
 
 -- ---- reached words
 -- neither in the basis nor protected, and listed by the action on some basis word
-pub record Reached (m : Model) (t : ModelTables) (b : Basis) (w : Word) : Type 0 where
+pub record ReachedOutside (m : Model) (t : ModelTables) (b : Basis) (w : Word) : Type 0 where
   pub is-outside : outside (basisWords b) (words (b .protected)) w ≡ true
   pub position : ℕ
   pub in-basis : position < b .len
-  pub by-action : Has w (map (λ (c : Term). c .word) (actionOf m t (getD (basisWords b) position identity)))
+  pub by-action : Member w (map (λ (c : Term). c .word) (actionOf m t (getD (basisWords b) position identity)))
 
 -- room for every word that leakage adds to: different words that are reached are never more than there is room for
 abbrev pub RoomForAll : Model → ModelTables → Basis → Limits → Type 0
-RoomForAll m t b l = (ws : List Word) → Differ ws → Every (Reached m t b) ws → length ws ≤ roomOf b l
+RoomForAll m t b l = (ws : List Word) → Differ ws → Every (ReachedOutside m t b) ws → length ws ≤ roomOf b l
 
 -- the words of a list are the reached ones
 pub record ListsReached (m : Model) (t : ModelTables) (b : Basis) (R : Rows) : Type 0 where
-  pub every : (w : Word) → Has w (wordsOf R) → Reached m t b w
-  pub all : (w : Word) → Reached m t b w → Has w (wordsOf R)
+  pub every : (w : Word) → Member w (wordsOf R) → ReachedOutside m t b w
+  pub all : (w : Word) → ReachedOutside m t b w → Member w (wordsOf R)

@@ -2,5 +2,4 @@
 -- SPDX-License-Identifier: Apache-2.0
 
 -- What leakage lists.
-pub mod Members
 pub mod Calls

@@ -14,11 +14,12 @@ use lib.Dec.{leb, eqb}
 use lib.Ieee.{Float}
 use Rattle.word.specs.Count.{anyTo}
 use Rattle.model.specs.Stored.{jumpAt, given, holds}
-use Rattle.model.specs.Tested.{firstTo}
-use Rattle.model.specs.Fails.{termFails, numberFails, failsIn, failsOf, givenFails, anyFails}
+use Rattle.lent.specs.Tests.{firstTo}
+use Rattle.lent.proofs.Firsts.{first-none, first-here, first-cong, first-either}
+use Rattle.model.specs.Fails.{numberFails}
 use Rattle.model.specs.declared.stored.Range.{Range}
 use Rattle.model.specs.declared.stored.Jump.the-variants.{Pauli, General, Pair}
-use Rattle.model.proofs.Firsts.{first-none, first-here, first-cong, first-either}
+use Rattle.model.specs.Between.{termFails, failsIn, failsOf, givenFails, anyFails}
 
 -- ---- one place more passes
 module _ (numbers : List Float) where

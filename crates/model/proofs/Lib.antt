@@ -3,25 +3,10 @@
 
 -- Laws of this crate.
 pub mod Entries
-pub mod Parts
-pub mod ItemAnswers
-pub mod FirstRefusal
-pub mod ProductLaws
-pub mod WorkLaws
-pub mod StoreLaws
-pub mod ReadLaws
-pub mod OperatorLaws
-pub mod TakenLaws
-pub mod LengthLaws
-pub mod NeedLaws
-pub mod Firsts
 pub mod Choices
 pub mod Ranges
 pub mod GivenTerms
 pub mod ModelTests
 pub mod TestOrder
-pub mod JumpsLaws
-pub mod SizeLaws
-pub mod BuildLaws
-pub mod CheckLaws
-pub mod FinishLaws
+pub mod TermLaws
+pub mod StandsLaws

@@ -16,9 +16,11 @@ use Rattle.word.specs.declared.word.Word.{Word}
 use Rattle.model.specs.declared.stored.Jump.{Jump}
 use Rattle.number.specs.Floats.{bounded}
 use Rattle.model.specs.Stored.{ModelTables, kindAt, jumpAt}
-use Rattle.model.specs.Tested.{firstTo, badReal, badJump, badEntry, isGiven, badTerm}
-use Rattle.model.specs.Fails.{failsReal, realFails, entryFails, failsTerm, termFails, failsGiven, numberFails, givenFails, anyFails}
-use Rattle.model.proofs.Firsts.{first-cong}
+use Rattle.model.specs.Tested.{badReal, badJump, badEntry, isGiven, badTerm}
+use Rattle.model.specs.Fails.{failsGiven, numberFails}
+use Rattle.lent.specs.Tests.{firstTo}
+use Rattle.lent.proofs.Firsts.{first-cong}
+use Rattle.model.specs.Between.{failsReal, realFails, entryFails, failsTerm, termFails, givenFails, anyFails}
 
 -- ---- what is read at a place
 pub real-at : (n : ℕ) (lanes : List ℕ) (coeffs : List Float) (i : ℕ) {w : Word} {r : Bool}

@@ -2,43 +2,19 @@
 -- SPDX-License-Identifier: Apache-2.0
 
 -- The order of a lent model's tests: each refuses, or leaves the tests after it. Assumes nothing.
-use mathlib.Core.Path.{_≡_, sym}
-use mathlib.Core.Bool.{Bool}
-use Prim.Native.Nat.{ℕ, _/_, _≤_, _<_}
+use mathlib.Core.Path.{_≡_}
+use Prim.Native.Nat.{_/_, _≤_, _<_}
 use borrow.Author.Tests.{lt-ltb, le-ltb}
 use lib.ListN.{length}
-use Rattle.refusal.specs.declared.Refusal.the-variants.{TooManyQubits, NumberOutOfRange, CountAboveLimit, LengthMismatch}
+use Rattle.refusal.specs.declared.Refusal.the-variants.{TooManyQubits}
 use Rattle.refusal.specs.declared.Answer.{Answer}
 use Rattle.refusal.specs.declared.Answer.the-variants.{Accepted, Refused}
+use Rattle.word.specs.Flat.{wordLanes}
 use Rattle.word.specs.Word.{maxQubits}
 use Rattle.model.specs.Stored.{ModelTables}
-use Rattle.model.specs.Tested.{maxHamiltonian, maxJumps, counted, lent, firstTo, entries, badReal, badEntry, badTerm, testModel}
+use Rattle.model.specs.Tested.{maxHamiltonian, maxJumps, badReal, badEntry, badTerm, testModel}
 use Rattle.model.specs.declared.stored.Model.{Model}
-
--- ---- one test
-module _ (limit count : ℕ) (after : Answer) where
-  pub counted-above : limit < count → Refused (CountAboveLimit count) ≡ counted limit count after
-  counted-above h = rw (lt-ltb limit count h)
-
-  pub counted-within : count ≤ limit → after ≡ counted limit count after
-  counted-within h = rw (le-ltb limit count h)
-
-module _ (needed places : ℕ) (after : Answer) where
-  pub lent-short : places < needed → Refused (LengthMismatch needed places) ≡ lent needed places after
-  lent-short h = rw (lt-ltb places needed h)
-
-  pub lent-enough : needed ≤ places → after ≡ lent needed places after
-  lent-enough h = rw (le-ltb places needed h)
-
--- r is the first of n places that fails, or n
-module _ (n : ℕ) (f : ℕ → Bool) (after : Answer) {r : ℕ} (e : r ≡ firstTo n f) where
-  pub entries-refused : r < n → Refused (NumberOutOfRange r) ≡ entries n f after
-  unfolding entries
-  entries-refused l = rw (sym e, lt-ltb r n l)
-
-  pub entries-passed : n ≤ r → after ≡ entries n f after
-  unfolding entries
-  entries-passed l = rw (sym e, le-ltb r n l)
+use Rattle.lent.specs.Tests.{counted, lent, entries}
 
 -- ---- the tests from each on
 module _ (m : Model) (t : ModelTables) where
@@ -55,7 +31,7 @@ module _ (m : Model) (t : ModelTables) where
   term-numbers-on = lent (m .terms) (length (t .tNumbers) / 2) hamiltonian-on
 
   abbrev pub term-words-on : Answer
-  term-words-on = lent (m .terms) (length (t .tWords) / 4) term-numbers-on
+  term-words-on = lent (m .terms) (length (t .tWords) / wordLanes) term-numbers-on
 
   abbrev pub rates-on : Answer
   rates-on = lent (m .jumps) (length (t .rates)) term-words-on
@@ -67,7 +43,7 @@ module _ (m : Model) (t : ModelTables) where
   coefficients-on = lent (m .hamiltonian) (length (t .hCoeffs)) jump-numbers-on
 
   abbrev pub words-on : Answer
-  words-on = lent (m .hamiltonian) (length (t .hWords) / 4) coefficients-on
+  words-on = lent (m .hamiltonian) (length (t .hWords) / wordLanes) coefficients-on
 
   abbrev pub jump-count-on : Answer
   jump-count-on = counted maxJumps (m .jumps) words-on
@@ -75,10 +51,10 @@ module _ (m : Model) (t : ModelTables) where
   abbrev pub count-on : Answer
   count-on = counted maxHamiltonian (m .hamiltonian) jump-count-on
 
-  pub qubits-above : 128 < m .qubits → Refused (TooManyQubits (m .qubits) maxQubits) ≡ testModel m t
+  pub qubits-above : maxQubits < m .qubits → Refused (TooManyQubits (m .qubits) maxQubits) ≡ testModel m t
   unfolding testModel
-  qubits-above h = rw (lt-ltb 128 (m .qubits) h)
+  qubits-above h = rw (lt-ltb maxQubits (m .qubits) h)
 
-  pub qubits-within : m .qubits ≤ 128 → count-on ≡ testModel m t
+  pub qubits-within : m .qubits ≤ maxQubits → count-on ≡ testModel m t
   unfolding testModel
-  qubits-within h = rw (le-ltb 128 (m .qubits) h)
+  qubits-within h = rw (le-ltb maxQubits (m .qubits) h)

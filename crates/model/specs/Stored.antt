@@ -7,7 +7,8 @@ use mathlib.Core.Bool.{Bool, _&&_, _||_}
 use mathlib.Core.List.{List, [], _∷_}
 use lib.Dec.{eqb, ltb, leb}
 use lib.Ieee.{Float, nan}
-use lib.ListN.{getD}
+use lib.ListN.{getD, set}
+use Rattle.lent.specs.Laid.{laid}
 use Rattle.model.specs.declared.stored.Range.{Range}
 use Rattle.model.specs.declared.stored.Jump.{Jump}
 use Rattle.model.specs.declared.stored.Jump.the-variants.{Pauli, General, Pair}
@@ -20,10 +21,6 @@ pub record ModelTables : Type 0 where
   pub rates : List Float
   pub tWords : List ℕ
   pub tNumbers : List Float
-
-abbrev pub tables : List ℕ → List Float → List ℕ → List Float → List ℕ → List Float → ModelTables
-tables hWords hCoeffs jumps rates tWords tNumbers =
-    record { hWords = hWords; hCoeffs = hCoeffs; jumps = jumps; rates = rates; tWords = tWords; tNumbers = tNumbers }
 
 -- the numbers of an entry of the table of jumps and pairs
 abbrev pub jumpNumbers : ℕ
@@ -43,6 +40,10 @@ range s e = record { start = s; end = e }
 abbrev pub entry : ℕ → Range → Range → ℕ → Range → List ℕ
 entry kind left right factors product =
     kind ∷ left .start ∷ left .end ∷ right .start ∷ right .end ∷ factors ∷ product .start ∷ product .end ∷ []
+
+-- the numbers of entry j, laid
+abbrev pub layEntry : List ℕ → ℕ → List ℕ → List ℕ
+layEntry l j e = laid set (j * jumpNumbers) e l
 
 abbrev pub byKind : ℕ → Jump → Jump → Jump → Jump
 byKind zero a b c = a

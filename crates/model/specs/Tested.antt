@@ -2,24 +2,25 @@
 -- SPDX-License-Identifier: Apache-2.0
 
 -- Testing a lent model: 1 and 8, then the tables of Hamiltonian terms, of jumps and pairs, and of terms, entry by entry.
-use Prim.Native.Nat.{ℕ, zero, suc, _+_, _-_, _*_, _/_}
-use mathlib.Core.Bool.{Bool, not, _&&_, _||_, cond}
+use Prim.Native.Nat.{ℕ, _+_, _-_, _*_, _/_}
+use mathlib.Core.Bool.{Bool, not, _&&_, _||_}
 use lib.Dec.{ltb, leb}
 use lib.Ieee.{nan}
 use lib.ListN.{getD, length}
-use Rattle.refusal.specs.declared.Refusal.the-variants.{TooManyQubits, NumberOutOfRange, CountAboveLimit, LengthMismatch}
 use Rattle.refusal.specs.declared.Answer.{Answer}
-use Rattle.refusal.specs.declared.Answer.the-variants.{Accepted, Refused}
+use Rattle.refusal.specs.declared.Answer.the-variants.{Accepted}
 use Rattle.word.specs.Count.{anyTo}
-use Rattle.word.specs.Word.{maxQubits, identity}
+use Rattle.word.specs.Word.{identity}
 use Rattle.word.specs.Register.{reaches}
-use Rattle.word.specs.Flat.{words}
+use Rattle.word.specs.Flat.{words, wordLanes}
 use Rattle.number.specs.Floats.{inRange, bounded}
 use Rattle.model.specs.Stored.{ModelTables, kindAt, jumpAt, given}
 use Rattle.model.specs.declared.stored.Model.{Model}
 use Rattle.model.specs.declared.stored.Range.{Range}
 use Rattle.model.specs.declared.stored.Jump.{Jump}
 use Rattle.model.specs.declared.stored.Jump.the-variants.{Pauli, General, Pair}
+use Rattle.lent.specs.Tests.{inTurn, registered, counted, entries, lent}
+use mathlib.Core.List.{[], _∷_}
 
 -- Limits: 4,096 Hamiltonian terms; 4,096 jumps and pairs together
 abbrev pub maxHamiltonian : ℕ
@@ -27,28 +28,6 @@ maxHamiltonian = 4096
 
 abbrev pub maxJumps : ℕ
 maxJumps = 4096
-
--- 8 where a count is above its limit
-abbrev pub counted : ℕ → ℕ → Answer → Answer
-counted limit count after = cond (ltb limit count) (Refused (CountAboveLimit count)) after
-
--- 9 where fewer places are lent than needed
-abbrev pub lent : ℕ → ℕ → Answer → Answer
-lent needed places after = cond (ltb places needed) (Refused (LengthMismatch needed places)) after
-
--- the places that a table needs for so many jumps, operators or words: none where there is none that could use one
-unfoldable pub whereAny : ℕ → ℕ → ℕ
-whereAny zero places = 0
-whereAny (suc count) places = places
-
--- the first number below n that passes a test; n where there is none
-unfoldable pub firstTo : ℕ → (ℕ → Bool) → ℕ
-firstTo zero f = 0
-firstTo (suc n) f = cond (f 0) 0 (suc (firstTo n (λ k. f (suc k))))
-
--- 7 at the first of n places that fails
-unfoldable pub entries : ℕ → (ℕ → Bool) → Answer → Answer
-entries n fails after = cond (ltb (firstTo n fails) n) (Refused (NumberOutOfRange (firstTo n fails))) after
 
 -- a Hamiltonian term: its word below n, its number in range
 unfoldable pub badReal : ℕ → ModelTables → ℕ → Bool
@@ -84,16 +63,17 @@ badTerm n jumps t i =
 
 unfoldable pub testModel : Model → ModelTables → Answer
 testModel m t =
-    cond (ltb maxQubits (m .qubits)) (Refused (TooManyQubits (m .qubits) maxQubits))
-    (counted maxHamiltonian (m .hamiltonian)
-    (counted maxJumps (m .jumps)
-    (lent (m .hamiltonian) (length (t .hWords) / 4)
-    (lent (m .hamiltonian) (length (t .hCoeffs))
-    (lent (m .jumps) (length (t .jumps) / 8)
-    (lent (m .jumps) (length (t .rates))
-    (lent (m .terms) (length (t .tWords) / 4)
-    (lent (m .terms) (length (t .tNumbers) / 2)
-    (entries (m .hamiltonian) (badReal (m .qubits) t)
-    (entries (m .jumps) (badEntry (m .terms) t)
-    (entries (m .terms) (badTerm (m .qubits) (m .jumps) t)
-    Accepted)))))))))))
+    inTurn (
+    registered (m .qubits)
+    ∷ counted maxHamiltonian (m .hamiltonian)
+    ∷ counted maxJumps (m .jumps)
+    ∷ lent (m .hamiltonian) (length (t .hWords) / wordLanes)
+    ∷ lent (m .hamiltonian) (length (t .hCoeffs))
+    ∷ lent (m .jumps) (length (t .jumps) / 8)
+    ∷ lent (m .jumps) (length (t .rates))
+    ∷ lent (m .terms) (length (t .tWords) / wordLanes)
+    ∷ lent (m .terms) (length (t .tNumbers) / 2)
+    ∷ entries (m .hamiltonian) (badReal (m .qubits) t)
+    ∷ entries (m .jumps) (badEntry (m .terms) t)
+    ∷ entries (m .terms) (badTerm (m .qubits) (m .jumps) t)
+    ∷ []) Accepted

@@ -6,8 +6,7 @@
 ghost use mathlib.Core.Path.{_≡_};
 ghost use Prim.Native.Nat.{_+_, _*_, _<_, _≤_};
 ghost use lib.ListN.{length};
-ghost use Rattle.model.specs.Stored.{jumpAt, entry};
-ghost use Rattle.model.specs.Laid.{layEntry};
+ghost use Rattle.model.specs.Stored.{jumpAt, entry, layEntry};
 
 // The qubits of a model's register and the entries of its three tables.
 #[repr(C)]

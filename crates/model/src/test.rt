@@ -4,18 +4,20 @@
 // Testing a model that is lent: its counts, the lengths of its tables, then table by table the first
 // place that fails.
 ghost use mathlib.Core.Path.{_≡_};
-ghost use Prim.Native.Nat.{_+_, _*_, _<_, _≤_, min};
+ghost use Prim.Native.Nat.{_+_, _*_, _<_, _≤_};
 ghost use lib.Dec.{leb};
 ghost use lib.ListN.{length};
-ghost use Rattle.model.specs.Stored.{tables};
-ghost use Rattle.model.specs.Tested.{inside, badJump, firstTo, testModel};
-ghost use Rattle.model.specs.Fails.{failsReal, realFails, entryFails, failsTerm, termFails, failsGiven, failsIn, failsOf, givenFails, anyFails};
+ghost use Rattle.word.specs.Flat.{wordLanes};
+ghost use Rattle.model.specs.Between.{modelTables, failsReal, realFails, entryFails, failsTerm, termFails, failsIn, failsOf, givenFails, anyFails};
+ghost use Rattle.model.specs.Tested.{inside, badJump, testModel};
+ghost use Rattle.model.specs.Fails.{failsGiven};
 ghost use Rattle.model.specs.declared.stored.Jump.the-variants.{Pauli, General, Pair};
 use crate::stored::JUMP_NUMBERS;
 use crate::stored::Jump;
 use crate::stored::Model;
 use crate::stored::Range;
 use crate::stored::jump_at;
+use lent::sizes::smaller;
 use number::scalar::bounded;
 use number::scalar::in_range;
 use refusal::Answer;
@@ -25,20 +27,12 @@ use word::flat::word_at;
 use word::word::MAX_QUBITS;
 use word::word::Word;
 use word::word::reaches_beyond;
+ghost use Rattle.lent.specs.Tests.{firstTo};
 
 // The entries that the table of Hamiltonian terms and that of jumps and pairs may have.
 pub const MAX_HAMILTONIAN: usize = 4096;
 
 pub const MAX_JUMPS: usize = 4096;
-
-pub fn smaller(a: usize, b: usize) -> usize
-    ensures { λ r. ⌜ r ≡ min a b ⌝ }
-{
-    if a < b {
-        return a;
-    }
-    b
-}
 
 // A Hamiltonian term: its word stays below qubit n, and its number is in range.
 fn bad_real(w: Word, x: f64, n: usize) -> bool
@@ -52,7 +46,7 @@ fn bad_real(w: Word, x: f64, n: usize) -> bool
 
 // The first Hamiltonian term that fails, or their count.
 fn test_hamiltonian(n: usize, count: usize, words: &[u64], coeffs: &[f64]) -> usize
-    requires { ⌜ (4 * count ≤ length (now words)) × (count ≤ length (now coeffs)) ⌝ }
+    requires { ⌜ (wordLanes * count ≤ length (now words)) × (count ≤ length (now coeffs)) ⌝ }
     ensures { λ r. ⌜ r ≡ firstTo count (realFails n (now (words .entry)) (now (coeffs .entry))) ⌝ }
 {
     let mut i = 0;
@@ -191,7 +185,7 @@ fn bad_term(w: Word, re: f64, im: f64, n: usize) -> bool
 
 // The first term that fails this, or their count.
 fn test_each(n: usize, terms: usize, words: &[u64], numbers: &[f64]) -> usize
-    requires { ⌜ (4 * terms ≤ length (now words)) × (2 * terms ≤ length (now numbers)) ⌝ }
+    requires { ⌜ (wordLanes * terms ≤ length (now words)) × (2 * terms ≤ length (now numbers)) ⌝ }
     ensures { λ r. ⌜ r ≡ firstTo terms (termFails n (now (words .entry)) (now (numbers .entry))) ⌝ }
 {
     let mut i = 0;
@@ -294,7 +288,7 @@ fn test_terms(
     words: &[u64],
     numbers: &[f64],
 ) -> usize
-    requires { ⌜ (8 * count ≤ length (now jumps)) × (count ≤ length (now rates)) × (4 * terms ≤ length (now words)) × (2 * terms ≤ length (now numbers)) ⌝ }
+    requires { ⌜ (8 * count ≤ length (now jumps)) × (count ≤ length (now rates)) × (wordLanes * terms ≤ length (now words)) × (2 * terms ≤ length (now numbers)) ⌝ }
     ensures { λ r. ⌜ r ≡ firstTo terms (anyFails n count (now (jumps .entry)) (now (rates .entry)) (now (words .entry)) (now (numbers .entry))) ⌝ }
 {
     let each = test_each(n, terms, words, numbers);
@@ -312,7 +306,7 @@ pub fn test_model(
     t_words: &[u64],
     t_numbers: &[f64],
 ) -> Answer
-    ensures { λ r. ⌜ r ≡ testModel m (tables (now («h_words» .entry)) (now («h_coeffs» .entry)) (now (jumps .entry)) (now (rates .entry)) (now («t_words» .entry)) (now («t_numbers» .entry))) ⌝ }
+    ensures { λ r. ⌜ r ≡ testModel m (modelTables (now («h_words» .entry)) (now («h_coeffs» .entry)) (now (jumps .entry)) (now (rates .entry)) (now («t_words» .entry)) (now («t_numbers» .entry))) ⌝ }
 {
     if MAX_QUBITS < m.qubits {
         return Answer::Refused(Refusal::TooManyQubits {

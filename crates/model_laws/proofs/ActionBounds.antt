@@ -16,9 +16,9 @@ use Rattle.number.specs.Bounds.{AtMost, AtMostC}
 use Rattle.number.proofs.RangeLaws.{atMost-finite, atMost-neg, atMost-mul, atMost-nought, atMost-unit, atMost-two, atMostC-mono, atMostC-mul, atMostC-neg, atMostC-conj, atMostC-real, atMostC-unit, atMostC-settled}
 use Rattle.gksl.specs.Table.{putAllOver}
 use Rattle.gksl.specs.Words.{pauli}
-use Rattle.model.specs.Given.{Term}
-use Rattle.model_laws.specs.Every.{Every}
-use Rattle.model_laws.proofs.Lists.{every-weaken}
+use Rattle.model.specs.Terms.{Term}
+use Rattle.lent.specs.Every.{Every}
+use Rattle.lent.proofs.Lists.{every-weaken}
 use Rattle.model_laws.proofs.RelatedLaws.{like-put-all, Own, every-like, like-every}
 
 -- ---- the value that each rule adds

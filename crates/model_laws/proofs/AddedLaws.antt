@@ -20,29 +20,30 @@ use Rattle.sums.proofs.NumberLaws.{complexes-at}
 use Rattle.model.specs.Stored.{ModelTables}
 use Rattle.model.specs.Tested.{maxJumps, testModel}
 use Rattle.model.specs.Fails.{numberFails}
-use Rattle.model.specs.Given.{got, Term, readOperator}
-use Rattle.model.specs.Compiled.{Compiled}
-use Rattle.model.specs.Laid.{laid}
-use Rattle.model.specs.Built.{entriesFrom, termsOf, ratesOf, termPlaces}
-use Rattle.model.specs.Items.{total}
-use Rattle.model.specs.Work.{operatorTaken}
+use Rattle.model_build.specs.Given.{readOperator}
+use Rattle.model_build.specs.Compiled.{Compiled}
+use Rattle.lent.specs.Read.{got}
+use Rattle.model.specs.Terms.{Term}
+use Rattle.lent.specs.Laid.{laid, total}
+use Rattle.model.specs.Stands.{InRange}
+use Rattle.model.proofs.StandsLaws.{none-bad, tested-stands}
+use Rattle.model_build.specs.Built.{entriesFrom, termsOf, ratesOf, termPlaces}
+use Rattle.lent.specs.Every.{Every}
+use Rattle.lent.proofs.Lists.{every-at, every-weaken, every-append, every-map}
+use Rattle.model_build.specs.Work.{operatorTaken}
 use Rattle.model.specs.declared.stored.Model.{Model}
-use Rattle.model.specs.declared.spec.Built.the-variants as Answers
-use Rattle.model.proofs.BuildLaws.{both, counted-passed}
-use Rattle.model.proofs.Firsts.{NoneBefore}
-use Rattle.model.proofs.Parts.{length-parts, length-complexes}
-use Rattle.kossakowski.specs.Matrix.{isPair, pairPlaces}
-use Rattle.kossakowski.specs.Pairs.{rangeOf, pairAt, pairsOf}
-use Rattle.kossakowski.specs.Added.{Input, operators, operatorsGiven, matrix, maxOperators, lengthsAnswer, readOperators, allTerms, matrixTests, pairsTest, stored, compiledMatrix, add}
-use Rattle.kossakowski.proofs.MatrixLaws.{row-below, column-below, entry-place, pairs-few}
-use Rattle.kossakowski.proofs.MatrixLengths.{LengthsFit, lengths-fit}
+use Rattle.model_build.specs.declared.spec.Built.the-variants as Answers
+use Rattle.lent.proofs.Passed.{both, counted-passed}
+use Rattle.lent.proofs.Firsts.{NoneBefore}
+use Rattle.model_build.proofs.Parts.{length-parts, length-complexes}
+use Rattle.k_matrix.specs.Matrix.{isPair, pairPlaces}
+use Rattle.k_matrix.specs.Pairs.{rangeOf, pairAt, pairsOf}
+use Rattle.k_matrix.specs.Added.{Input, operators, operatorsGiven, matrix, maxOperators, lengthsAnswer, readOperators, allTerms, matrixTests, pairsTest, stored, compiledMatrix, add}
+use Rattle.k_matrix.proofs.MatrixLaws.{row-below, column-below, entry-place, pairs-few}
+use Rattle.k_matrix.proofs.MatrixLengths.{LengthsFit, lengths-fit}
 use Rattle.kossakowski.proofs.PairsLaws.{range-fits}
 use Rattle.kossakowski.proofs.AddLaws.{part-count, operators-are, all-are, all-length}
-use Rattle.model_laws.specs.Every.{Every}
-use Rattle.model_laws.specs.Stands.{InRange}
 use Rattle.model_laws.specs.Extended.{Additions, larger, extended, Extends}
-use Rattle.model_laws.proofs.Lists.{every-at, every-weaken, every-append, every-map}
-use Rattle.model_laws.proofs.StandsLaws.{none-bad, tested-stands}
 use Rattle.model_laws.proofs.ExtendedLaws.{extended-passes}
 use Rattle.model_laws.proofs.FormedBounds.{inRange-atMostC}
 use Rattle.model_laws.proofs.ReadItems.{GivenGood, operator-read, each-every}

@@ -17,10 +17,10 @@ use Rattle.refusal.specs.declared.Answer.{Answer}
 use Rattle.refusal.specs.declared.Answer.the-variants as Tests
 use Rattle.model.specs.Stored.{ModelTables}
 use Rattle.model.specs.Tested.{testModel}
-use Rattle.model.specs.Given.{Read, got, refused}
-use Rattle.model.specs.Built.{Building, refusal, finished, tested, whenRead}
+use Rattle.lent.specs.Read.{Read, got, refused}
+use Rattle.model_build.specs.Built.{Building, refusal, finished, tested, whenRead}
 use Rattle.model.specs.declared.stored.Model.{Model}
-use Rattle.model.specs.declared.spec.Built.the-variants as Answers
+use Rattle.model_build.specs.declared.spec.Built.the-variants as Answers
 
 abbrev pub Passes : Building → Type 0
 Passes b = (m : Model) → b .answer ≡ Answers.Model m → testModel m (b .tables) ≡ Tests.Accepted

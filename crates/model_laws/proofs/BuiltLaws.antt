@@ -19,23 +19,25 @@ use Rattle.gksl.specs.Words.{pauli}
 use Rattle.sums.specs.Numbers.{complexes}
 use Rattle.model.specs.Stored.{ModelTables}
 use Rattle.model.specs.Tested.{maxHamiltonian, maxJumps, testModel}
-use Rattle.model.specs.Given.{got, GivenTerm, readReal, readJump}
-use Rattle.model.specs.Compiled.{Compiled, compileJump}
-use Rattle.model.specs.Taken.{realTaken, jumpTaken}
-use Rattle.model.specs.Built.{Input, hamiltonian, jumpsGiven, realItems, termItems, jumpItems, parts, readHamiltonian, readJumps, entriesFrom, termsOf, ratesOf, stored, termPlaces, build}
+use Rattle.model_build.specs.Given.{GivenTerm, readReal, readJump}
+use Rattle.model_build.specs.Compiled.{Compiled, compileJump}
+use Rattle.model_build.specs.Taken.{realTaken, jumpTaken}
+use Rattle.model_build.specs.Built.{Input, hamiltonian, jumpsGiven, realItems, termItems, jumpItems, parts, readHamiltonian, readJumps, entriesFrom, termsOf, ratesOf, stored, termPlaces, build}
 use Rattle.model.specs.declared.stored.Model.{Model}
-use Rattle.model.specs.declared.spec.Built.the-variants as Answers
-use Rattle.model.proofs.BuildLaws.{passed, counted-passed, LengthsFit, lengths-fit}
-use Rattle.model.proofs.TakenLaws.{reals-taken, jumps-taken}
-use Rattle.model_laws.specs.Every.{Every}
-use Rattle.model_laws.specs.Stands.{Stands}
+use Rattle.model_build.specs.declared.spec.Built.the-variants as Answers
+use Rattle.model_build.proofs.BuildLaws.{LengthsFit, lengths-fit}
+use Rattle.model_build.proofs.TakenLaws.{reals-taken, jumps-taken}
+use Rattle.lent.specs.Every.{Every}
+use Rattle.lent.proofs.Lists.{every-weaken, every-map}
+use Rattle.lent.specs.Read.{got}
+use Rattle.model.specs.Stands.{Stands}
+use Rattle.model.proofs.StandsLaws.{stands-tested}
 use Rattle.model_laws.specs.Extended.{Additions, larger, extended, Extends}
-use Rattle.model_laws.proofs.Lists.{every-weaken, every-map}
-use Rattle.model_laws.proofs.StandsLaws.{stands-tested}
 use Rattle.model_laws.proofs.ExtendedLaws.{extended-stands}
 use Rattle.model_laws.proofs.ReadItems.{JumpGood, real-read, jump-read, each-every}
 use Rattle.model_laws.proofs.Answered.{by-test, by-read, by-room}
 use Rattle.model_laws.proofs.CompiledLaws.{CompiledGood, compiled-good, entries-length, terms-good, entries-good}
+use Rattle.lent.proofs.Passed.{passed, counted-passed}
 
 -- a model without items
 abbrev pub empty : ℕ → Model

@@ -23,15 +23,15 @@ use Rattle.gksl.specs.Rules.{formedOver}
 use Rattle.gksl.specs.Words.{pauli}
 use Rattle.model.specs.Stored.{jumpAt}
 use Rattle.model.specs.Tested.{badJump}
-use Rattle.model.specs.Given.{Term}
-use Rattle.model.specs.Compiled.{Compiled, compileJump, pauliJump, generalJump}
-use Rattle.model.specs.Built.{entriesFrom, termsOf, ratesOf}
-use Rattle.model.specs.Work.{isPauli}
-use Rattle.model.proofs.OperatorLaws.{pauli-length, compile-pauli, compile-general}
-use Rattle.model_laws.specs.Every.{Every}
-use Rattle.model_laws.specs.Stands.{InRange, GoodTerm}
+use Rattle.model.specs.Terms.{Term}
+use Rattle.model.specs.Stands.{InRange, GoodTerm}
+use Rattle.model_build.specs.Compiled.{Compiled, compileJump, pauliJump, generalJump}
+use Rattle.model_build.specs.Built.{entriesFrom, termsOf, ratesOf}
+use Rattle.model_build.specs.Work.{isPauli}
+use Rattle.model_build.proofs.OperatorLaws.{pauli-length, compile-pauli, compile-general}
+use Rattle.lent.specs.Every.{Every}
+use Rattle.lent.proofs.Lists.{every-at, every-weaken, every-append}
 use Rattle.model_laws.specs.Extended.{noTerm, GoodEntry}
-use Rattle.model_laws.proofs.Lists.{every-at, every-weaken, every-append}
 use Rattle.model_laws.proofs.JumpTests.{both, together, fits-more, given-inside}
 use Rattle.model_laws.proofs.WordsBelow.{reaches-mul}
 use Rattle.model_laws.proofs.FormedBounds.{inRange-atMostC, atMostC-bounded, formed-bound, rate-bounded}

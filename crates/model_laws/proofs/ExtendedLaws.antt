@@ -13,25 +13,25 @@ use lib.ListN.{length, getD, set, length-set, length-map, List·getD-map}
 use Rattle.refusal.specs.declared.Answer.the-variants.{Accepted}
 use Rattle.word.specs.Word.{identity, Sound}
 use Rattle.word.specs.Register.{reaches}
-use Rattle.word.specs.Flat.{words, layWord}
+use Rattle.word.specs.Flat.{words, layWord, wordLanes}
 use Rattle.word.specs.declared.word.Word.{Word}
 use Rattle.number.specs.Numbers.{Cx}
 use Rattle.number.specs.Floats.{floats, inRange}
 use Rattle.gksl.specs.Model.{RealTerm}
 use Rattle.gksl.specs.Words.{pauli}
 use Rattle.sums.specs.Numbers.{layNumber, noNumber}
-use Rattle.model.specs.Stored.{ModelTables, kindAt, jumpAt, given}
+use Rattle.model.specs.Stored.{ModelTables, kindAt, jumpAt, given, layEntry}
 use Rattle.model.specs.Tested.{badJump, testModel}
-use Rattle.model.specs.Given.{Term}
-use Rattle.model.specs.Laid.{layEntry}
+use Rattle.model.specs.Terms.{Term}
+use Rattle.model.specs.Stands.{InRange, GoodReal, GoodTerm, Bounded, numberAt, Stands}
+use Rattle.model.proofs.StandsLaws.{tested-stands, stands-tested}
 use Rattle.model.specs.declared.stored.Jump.{Jump}
 use Rattle.model.specs.declared.stored.Model.{Model}
-use Rattle.model_laws.specs.Every.{Every}
-use Rattle.model_laws.specs.Stands.{InRange, GoodReal, GoodTerm, Bounded, numberAt, Stands}
+use Rattle.lent.specs.Every.{Every}
+use Rattle.lent.proofs.Lists.{every-at, every-of, every-weaken, every-map}
+use Rattle.lent.proofs.LaidLaws.{laid-length, set-other, set-here}
 use Rattle.model_laws.specs.Extended.{Additions, larger, extended, noTerm, Extends}
-use Rattle.model_laws.proofs.Lists.{every-at, every-of, every-weaken, every-map}
-use Rattle.model_laws.proofs.LaidLaws.{laid-length, set-other, set-here, word-length, words-other, words-here, number-length, numbers-other, numbers-here, entry-length, entries-other, entries-here, kind-same, jump-same}
-use Rattle.model_laws.proofs.StandsLaws.{tested-stands, stands-tested}
+use Rattle.model_laws.proofs.LaidLaws.{word-length, words-other, words-here, number-length, numbers-other, numbers-here, entry-length, entries-other, entries-here, kind-same, jump-same}
 use Rattle.model_laws.proofs.JumpTests.{fits-more, given-inside}
 
 -- ---- the same item, read from another table
@@ -68,7 +68,7 @@ module _ (m : Model) (t : ModelTables) (a : Additions) (s : Stands m t) (x : Ext
   unfolding extended
   real-good i l = go (decLt i (m .hamiltonian))
     where
-      word-room : 4 * (m .hamiltonian + length realWords) ≤ length (t .hWords)
+      word-room : wordLanes * (m .hamiltonian + length realWords) ≤ length (t .hWords)
       word-room = omega (arith, x .h-words-room, real-words-many)
 
       number-room : m .hamiltonian + length realNumbers ≤ length (t .hCoeffs)
@@ -105,7 +105,7 @@ module _ (m : Model) (t : ModelTables) (a : Additions) (s : Stands m t) (x : Ext
   terms-sound : Every Sound termWords
   terms-sound = every-map Sound (λ (z : Term). z .word) (a .terms) (every-weaken _ _ (λ h g. g .0) (a .terms) (x .terms))
 
-  term-word-room : 4 * (m .terms + length termWords) ≤ length (t .tWords)
+  term-word-room : wordLanes * (m .terms + length termWords) ≤ length (t .tWords)
   term-word-room = omega (arith, x .t-words-room, term-words-many)
 
   term-number-room : 2 * (m .terms + length termNumbers) ≤ length (t .tNumbers)

@@ -20,10 +20,10 @@ use Rattle.number.specs.Bounds.{UpToC, AtMostC}
 use Rattle.number.proofs.RangeLaws.{inRange-atMost, atMost-bounded, atMost-mul, atMostC-mul, atMostC-conj, atMostC-unit, upToC-nought, upToC-more, upToC-mono, upToC-atMost}
 use Rattle.gksl.specs.Rules.{formedOver}
 use Rattle.gksl.specs.Words.{pauli}
-use Rattle.model.specs.Given.{Term}
-use Rattle.model_laws.specs.Every.{Every}
-use Rattle.model_laws.specs.Stands.{InRange, Bounded}
-use Rattle.model_laws.proofs.Lists.{every-weaken}
+use Rattle.model.specs.Terms.{Term}
+use Rattle.model.specs.Stands.{InRange, Bounded}
+use Rattle.lent.specs.Every.{Every}
+use Rattle.lent.proofs.Lists.{every-weaken}
 use Rattle.model_laws.proofs.RelatedLaws.{like-formed, Own, every-like, like-every}
 
 pub inRange-atMostC : {z : Cx floats} → InRange z → AtMostC 200 z

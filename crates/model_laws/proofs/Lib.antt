@@ -2,9 +2,7 @@
 -- SPDX-License-Identifier: Apache-2.0
 
 -- Laws of this crate.
-pub mod Lists
 pub mod LaidLaws
-pub mod StandsLaws
 pub mod JumpTests
 pub mod ExtendedLaws
 pub mod RelatedLaws

@@ -19,16 +19,16 @@ use Rattle.gksl.specs.Rules.{pairsOver, formedOver}
 use Rattle.gksl.specs.Words.{pauli}
 use Rattle.model.specs.Stored.{kindAt, jumpAt, holds, given}
 use Rattle.model.specs.Tested.{badJump}
-use Rattle.model.specs.Given.{Term}
-use Rattle.model.specs.Compiled.{Compiled}
-use Rattle.model.specs.Built.{entriesFrom, termsOf, ratesOf}
+use Rattle.model.specs.Terms.{Term}
+use Rattle.model.specs.Stands.{InRange}
+use Rattle.model_build.specs.Compiled.{Compiled}
+use Rattle.model_build.specs.Built.{entriesFrom, termsOf, ratesOf}
 use Rattle.model.specs.declared.stored.Range.{Range}
-use Rattle.kossakowski.specs.Matrix.{passing}
-use Rattle.kossakowski.specs.Pairs.{factorOf, factorsOf, scaled, productAfter, compilePair}
-use Rattle.model_laws.specs.Every.{Every}
-use Rattle.model_laws.specs.Stands.{InRange}
+use Rattle.lent.specs.Every.{Every}
+use Rattle.lent.proofs.Lists.{every-at, every-weaken, every-append, every-map}
+use Rattle.k_matrix.specs.Matrix.{passing}
+use Rattle.k_matrix.specs.Pairs.{factorOf, factorsOf, scaled, productAfter, compilePair}
 use Rattle.model_laws.specs.Extended.{noTerm, GoodEntry}
-use Rattle.model_laws.proofs.Lists.{every-at, every-weaken, every-append, every-map}
 use Rattle.model_laws.proofs.RelatedLaws.{pairs-length}
 use Rattle.model_laws.proofs.JumpTests.{both, together, either}
 use Rattle.model_laws.proofs.FormedBounds.{inRange-atMostC, factor-bounded, product-bounded}

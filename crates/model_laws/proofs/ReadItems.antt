@@ -22,11 +22,13 @@ use Rattle.word.proofs.Sums.{or-left, or-right}
 use Rattle.number.specs.Floats.{floats, float0, inRange}
 use Rattle.gksl.specs.Model.{RealTerm, JumpOver}
 use Rattle.gksl.specs.Words.{pauli}
-use Rattle.model.specs.Given.{Read, got, onward, each, GivenReal, GivenTerm, GivenJump, Term, readWord, readParsed, readReal, readTerm, readOperator, readJump}
-use Rattle.model.specs.Taken.{termTaken}
-use Rattle.model.proofs.TakenLaws.{got-is, refuse-got, onward-got, terms-taken, operator-tested, operator-few}
-use Rattle.model_laws.specs.Every.{Every}
-use Rattle.model_laws.specs.Stands.{InRange, GoodReal}
+use Rattle.model_build.specs.Given.{GivenReal, GivenTerm, GivenJump, readWord, readParsed, readReal, readTerm, readOperator, readJump}
+use Rattle.model_build.specs.Taken.{termTaken}
+use Rattle.model_build.proofs.TakenLaws.{got-is, refuse-got, onward-got, terms-taken, operator-tested, operator-few}
+use Rattle.lent.specs.Every.{Every}
+use Rattle.lent.specs.Read.{Read, got, onward, each}
+use Rattle.model.specs.Terms.{Term}
+use Rattle.model.specs.Stands.{InRange, GoodReal}
 use Rattle.model_laws.proofs.WordsBelow.{none-reaches}
 
 -- a word of n qubits, as it is stored

@@ -14,7 +14,7 @@ use Rattle.number.specs.Numbers.{Numbers, Cx, addC, mulC, conjC, zeroC, square,
 use Rattle.gksl.specs.Operator.{Words, Onto}
 use Rattle.gksl.specs.Table.{putOver, putAllOver, withoutOver}
 use Rattle.gksl.specs.Rules.{pairsOver, onWord, bare, formedOver}
-use Rattle.model_laws.specs.Every.{Every}
+use Rattle.lent.specs.Every.{Every}
 use Rattle.model_laws.specs.Related.{Like}
 
 pub pairs-length : (N : Numbers) (S : Words) (f : Onto N S → Onto N S → Onto N S) (A B : List (Onto N S)) → length (pairsOver N S f A B) ≡ length A * length B

@@ -17,44 +17,48 @@ use lib.ListN.{length, getD, drop, length-map}
 use Rattle.refusal.specs.declared.Refusal.the-variants.{TooManyQubits, CountAboveLimit, LengthMismatch, TableFull}
 use Rattle.refusal.specs.declared.Answer.{Answer}
 use Rattle.refusal.specs.declared.Answer.the-variants.{Accepted, Refused}
+use Rattle.word.specs.Flat.{wordLanes}
 use Rattle.word.specs.Word.{maxQubits}
 use Rattle.number.specs.Floats.{floats}
 use Rattle.gksl.specs.Model.{RealTerm, JumpOver}
 use Rattle.gksl.specs.Words.{pauli}
 use Rattle.sums.specs.Numbers.{complexes}
 use Rattle.model.specs.Stored.{ModelTables}
-use Rattle.model.specs.Tested.{maxHamiltonian, maxJumps, counted, lent, whereAny, entries, testModel}
+use Rattle.model.specs.Tested.{maxHamiltonian, maxJumps, testModel}
 use Rattle.model.specs.Fails.{numberFails}
-use Rattle.model.specs.Given.{Read, got, refused, GivenTerm, Term, maxTerms, readOperator, readJump}
-use Rattle.model.specs.Compiled.{Compiled, compileJump}
-use Rattle.model.specs.Taken.{termTaken, jumpTaken}
-use Rattle.model.specs.Built.{parts, termItems, jumpItems, partsFit, andThen, equal, termPlaces, workPlaces, termsOf, Building, finished, tested, whenRead}
-use Rattle.model.specs.Built as Compiling
-use Rattle.model.specs.Work.{operatorTaken}
+use Rattle.model_build.specs.Given.{GivenTerm, maxTerms, readOperator, readJump}
+use Rattle.model_build.specs.Compiled.{Compiled, compileJump}
+use Rattle.model_build.specs.Taken.{termTaken, jumpTaken}
+use Rattle.model_build.specs.Built.{parts, termItems, jumpItems, partsFit, termPlaces, workPlaces, termsOf, Building, finished, tested, whenRead}
+use Rattle.model_build.specs.Built as Compiling
+use Rattle.model_build.specs.Work.{operatorTaken}
 use Rattle.model.specs.declared.stored.Model.{Model}
-use Rattle.model.specs.declared.spec.Built.{Built}
-use Rattle.model.specs.declared.spec.Built.the-variants as Answers
-use Rattle.model.proofs.BuildLaws.{passed, both, counted-passed}
-use Rattle.model.proofs.NeedLaws.{need-mono}
-use Rattle.model.proofs.Parts.{fit-total, length-parts}
-use Rattle.model.proofs.TakenLaws.{jumps-taken}
-use Rattle.kossakowski.specs.Matrix.{hermitian, pairPlaces}
-use Rattle.kossakowski.specs.Pairs.{pairsOf}
-use Rattle.kossakowski.specs.Added.{operators, operatorsGiven, matrix, maxOperators, entriesNeeded, workNeeded, readOperators, allTerms, matrixTests, compiledMatrix}
-use Rattle.kossakowski.specs.Added as Adding
-use Rattle.kossakowski.specs.Work.{matrixAnswer}
+use Rattle.model_build.specs.declared.spec.Built.{Built}
+use Rattle.model_build.specs.declared.spec.Built.the-variants as Answers
+use Rattle.lent.specs.Tests.{counted, lent, whereAny, entries, andThen, equal}
+use Rattle.lent.proofs.Passed.{passed, both, counted-passed}
+use Rattle.lent.proofs.NeedLaws.{need-mono}
+use Rattle.model_build.proofs.Parts.{fit-total, length-parts}
+use Rattle.model_build.proofs.TakenLaws.{jumps-taken}
+use Rattle.k_matrix.specs.Matrix.{hermitian, pairPlaces}
+use Rattle.k_matrix.specs.Pairs.{pairsOf}
+use Rattle.k_matrix.specs.Added.{operators, operatorsGiven, matrix, maxOperators, entriesNeeded, workNeeded, readOperators, allTerms, matrixTests, compiledMatrix}
+use Rattle.k_matrix.specs.Added as Adding
+use Rattle.k_matrix.specs.Work.{matrixAnswer}
 use Rattle.kossakowski.proofs.AddLaws.{operators-are}
 use Rattle.kossakowski.proofs.CompiledLaws.{total-most}
 use Rattle.kossakowski.proofs.MatrixAccepted.{matrix-accepted}
-use Rattle.model_laws.specs.Every.{Every}
+use Rattle.lent.specs.Every.{Every}
+use Rattle.lent.proofs.Lists.{every-weaken, every-both, every-map}
 use Rattle.model_laws.specs.BuiltFrom.{answered, answeredRead, builtFrom, ModelCounts, ModelRoom}
 use Rattle.model_laws.specs.BuiltFrom as BuiltFrom
 use Rattle.model_laws.specs.AddedFrom.{addedFrom, matrixPlaces, MatrixCounts, MatrixRoom}
 use Rattle.model_laws.specs.AddedFrom as AddedFrom
-use Rattle.model_laws.proofs.Lists.{every-weaken, every-both, every-map}
 use Rattle.model_laws.proofs.ReadItems.{JumpGood, operator-read, jump-read, each-every}
 use Rattle.model_laws.proofs.BuiltLaws.{jumps-few}
 use Rattle.model_laws.proofs.SizesLaws.{parts-every, jumps-fit, pairs-up, pairs-fit}
+use Rattle.lent.specs.Read.{Read, got, refused}
+use Rattle.model.specs.Terms.{Term}
 
 -- ---- tests with the same answer after them, where they are passed
 equal-same : (needed have : ℕ) (a b : Answer) → (have ≡ needed → a ≡ b) → equal needed have a ≡ equal needed have b
@@ -99,12 +103,12 @@ module _ (n h j c : ℕ) (i : Compiling.Input) (few : ModelCounts h j c i) (t : 
   lengths-built : length (i .hNumbers) ≤ maxHamiltonian → length (i .rates) ≤ maxJumps → Compiling.lengthsAnswer i t workWords workNumbers ≡ BuiltFrom.ownLengths i
   unfolding Compiling.lengthsAnswer BuiltFrom.ownLengths
   lengths-built p q =
-      let h1 : length (i .hNumbers) ≤ length (t .hWords) / 4 = omega (arith, few .reals, room .h-words) in
+      let h1 : length (i .hNumbers) ≤ length (t .hWords) / wordLanes = omega (arith, few .reals, room .h-words) in
       let h2 : length (i .hNumbers) ≤ length (t .hCoeffs) = omega (arith, few .reals, room .h-coeffs) in
       let h3 : length (i .rates) ≤ length (t .jumps) / 8 = omega (arith, few .jumps, room .jumps) in
       let h4 : length (i .rates) ≤ length (t .rates) = omega (arith, few .jumps, room .rates) in
       let up = need-mono (length (i .rates)) j workPlaces workPlaces (omega (arith, few .jumps, q)) (omega arith) in
-      let h5 : whereAny (length (i .rates)) workPlaces ≤ length workWords / 4 = omega (arith, up, room .work-words) in
+      let h5 : whereAny (length (i .rates)) workPlaces ≤ length workWords / wordLanes = omega (arith, up, room .work-words) in
       let h6 : whereAny (length (i .rates)) workPlaces ≤ length workNumbers / 2 = omega (arith, up, room .work-numbers) in
       rw (le-ltb _ _ h1, le-ltb _ _ h2, le-ltb _ _ h3, le-ltb _ _ h4, le-ltb _ _ h5, le-ltb _ _ h6)
 
@@ -187,13 +191,13 @@ module _ (k c : ℕ) (m : Model) (i : Adding.Input) (few : MatrixCounts k c i) (
 
     lent-same : partsFit (i .counts) terms-given ≡ Accepted
         → lent (entriesNeeded m (operators i)) (length (t .jumps) / 8) (lent (entriesNeeded m (operators i)) (length (t .rates))
-        (lent (workNeeded (operators i) terms-given) (length workWords / 4) (lent (workNeeded (operators i) terms-given) (length workNumbers / 2) Accepted))) ≡ Accepted
+        (lent (workNeeded (operators i) terms-given) (length workWords / wordLanes) (lent (workNeeded (operators i) terms-given) (length workNumbers / 2) Accepted))) ≡ Accepted
     lent-same e =
         let up = pairs-up (operators i) k ops-few in
         let w = work-few e in
         let h1 : entriesNeeded m (operators i) ≤ length (t .jumps) / 8 = omega (arith, up, room .jumps) in
         let h2 : entriesNeeded m (operators i) ≤ length (t .rates) = omega (arith, up, room .rates) in
-        let h3 : workNeeded (operators i) terms-given ≤ length workWords / 4 = omega (arith, w, room .work-words) in
+        let h3 : workNeeded (operators i) terms-given ≤ length workWords / wordLanes = omega (arith, w, room .work-words) in
         let h4 : workNeeded (operators i) terms-given ≤ length workNumbers / 2 = omega (arith, w, room .work-numbers) in
         rw (le-ltb _ _ h1, le-ltb _ _ h2, le-ltb _ _ h3, le-ltb _ _ h4)
 

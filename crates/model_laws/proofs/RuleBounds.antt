@@ -21,10 +21,10 @@ use Rattle.gksl.specs.Model.{RealTerm, JumpOver, MatrixOver, ModelOver, Row, ro
 use Rattle.gksl.specs.Table.{putAllOver, withoutOver}
 use Rattle.gksl.specs.Rules.{pairsOver, gatherOver, signed, factored, overlapsOver, formedOver, termsOver, clashOver, generalOver, shapeOver, jumpsOver, diagonalOver, bothOver, oneOver, pairOver, rowOver, matrixOver, matricesOver, rulesOver, actionOver}
 use Rattle.gksl.specs.Words.{pauli}
-use Rattle.model.specs.Given.{Term}
-use Rattle.model_laws.specs.Every.{Every}
+use Rattle.model.specs.Terms.{Term}
+use Rattle.lent.specs.Every.{Every}
+use Rattle.lent.proofs.Lists.{every-at, every-weaken, every-append, every-map}
 use Rattle.model_laws.specs.Ranged.{RangedOp, Ranged}
-use Rattle.model_laws.proofs.Lists.{every-at, every-weaken, every-append, every-map}
 use Rattle.model_laws.proofs.FormedBounds.{formed-bound}
 use Rattle.model_laws.proofs.ActionBounds.{factored-value, pauli-value, sandwich-value, product-value, factor-value, twice-value, diagonal-value, both-value, two-minus, sign-minus, sums-finite}
 

@@ -13,18 +13,18 @@ use Rattle.number.specs.Floats.{floats}
 use Rattle.gksl.specs.Model.{JumpOver}
 use Rattle.gksl.specs.Rules.{formedOver}
 use Rattle.gksl.specs.Words.{pauli}
-use Rattle.model.specs.Given.{Term}
-use Rattle.model.specs.Compiled.{Compiled, compileJump}
-use Rattle.model.specs.Built.{parts, termsOf}
+use Rattle.model.specs.Terms.{Term}
+use Rattle.model_build.specs.Compiled.{Compiled, compileJump}
+use Rattle.model_build.specs.Built.{parts, termsOf}
 use Rattle.model.specs.declared.stored.Range.{Range}
-use Rattle.model.proofs.SizeLaws.{formed-few, compiled-few}
-use Rattle.kossakowski.specs.Matrix.{pairPlaces}
-use Rattle.kossakowski.specs.Pairs.{factorOf, factorsOf, scaled, productAfter, compilePair, pairAt, pairsOf}
-use Rattle.kossakowski.specs.Added.{allTerms}
-use Rattle.kossakowski.proofs.MatrixLaws.{pairs-few}
-use Rattle.model_laws.specs.Every.{Every}
+use Rattle.model_build.proofs.SizeLaws.{formed-few, compiled-few}
+use Rattle.lent.specs.Every.{Every}
+use Rattle.lent.proofs.Lists.{every-all, every-weaken, every-map}
+use Rattle.k_matrix.specs.Matrix.{pairPlaces}
+use Rattle.k_matrix.specs.Pairs.{factorOf, factorsOf, scaled, productAfter, compilePair, pairAt, pairsOf}
+use Rattle.k_matrix.specs.Added.{allTerms}
+use Rattle.k_matrix.proofs.MatrixLaws.{pairs-few}
 use Rattle.model_laws.specs.AddedFrom.{pairsUpTo, matrixPlaces}
-use Rattle.model_laws.proofs.Lists.{every-all, every-weaken, every-map}
 use Rattle.model_laws.proofs.RelatedLaws.{pairs-length}
 
 -- ---- terms one after another

@@ -18,7 +18,7 @@ use Rattle.model.specs.Tested.{inside, badJump}
 use Rattle.model.specs.declared.stored.Model.{Model}
 use Rattle.model.specs.declared.stored.Range.{Range}
 use Rattle.model.specs.declared.stored.Jump.the-variants.{Pauli, General}
-use Rattle.model_laws.specs.Stands.{Bounded, numberAt, Stands}
+use Rattle.model.specs.Stands.{Bounded, numberAt, Stands}
 use Rattle.model_laws.proofs.FormedBounds.{inRange-atMostC}
 use Rattle.model_laws.proofs.JumpTests.{both}
 

@@ -21,11 +21,11 @@ use Rattle.gksl.specs.Operator.{Onto}
 use Rattle.gksl.specs.Model.{JumpOver}
 use Rattle.gksl.specs.Rules.{pairsOver, formedOver, bare, onWord}
 use Rattle.gksl.specs.Words.{pauli}
-use Rattle.model.specs.Given.{Term}
-use Rattle.model.specs.Compiled.{compileJump, pauliJump, generalJump}
+use Rattle.model.specs.Terms.{Term}
+use Rattle.model_build.specs.Compiled.{compileJump, pauliJump, generalJump}
 use Rattle.model.specs.declared.stored.Range.{Range}
-use Rattle.kossakowski.specs.Matrix.{isPair, passing, pairPlaces}
-use Rattle.kossakowski.specs.Pairs.{factorOf, scaled, compilePair}
+use Rattle.k_matrix.specs.Matrix.{isPair, passing, pairPlaces}
+use Rattle.k_matrix.specs.Pairs.{factorOf, scaled, compilePair}
 use Rattle.kossakowski.specs.Whole.{WholeEntries}
 use Rattle.kossakowski.proofs.WholeMatrix.{skipped-is}
 use Rattle.model_laws.specs.Exactly.{Exactly}

@@ -1,7 +1,7 @@
 -- SPDX-FileCopyrightText: 2026 The PPVM Authors
 -- SPDX-License-Identifier: Apache-2.0
 
--- A model with more Hamiltonian terms, entries and terms, laid after those that stand, and what is asked of these.
+-- Statements between laws: a model with more Hamiltonian terms, entries and terms, laid after those that stand, and what is asked of these.
 use Prim.Native.Nat.{ℕ, _+_, _-_, _*_, _≤_, _<_}
 use mathlib.Core.Path.{_≡_}
 use mathlib.Core.Bool.{true, false}
@@ -9,18 +9,18 @@ use mathlib.Core.List.{List, [], _∷_, map}
 use lib.Ieee.{Float, nan}
 use lib.ListN.{getD, length, set}
 use Rattle.word.specs.Word.{identity, Sound}
-use Rattle.word.specs.Flat.{layWord}
+use Rattle.word.specs.Flat.{layWord, wordLanes}
 use Rattle.number.specs.Floats.{floats}
 use Rattle.gksl.specs.Model.{RealTerm}
 use Rattle.gksl.specs.Words.{pauli}
 use Rattle.sums.specs.Numbers.{layNumber, noNumber}
-use Rattle.model.specs.Stored.{ModelTables, kindAt, jumpAt, given}
+use Rattle.model.specs.Stored.{ModelTables, kindAt, jumpAt, given, layEntry}
 use Rattle.model.specs.Tested.{maxHamiltonian, maxJumps, badJump}
-use Rattle.model.specs.Given.{Term}
-use Rattle.model.specs.Laid.{laid, layEntry}
+use Rattle.model.specs.Terms.{Term}
+use Rattle.lent.specs.Laid.{laid}
+use Rattle.model.specs.Stands.{InRange, GoodReal, GoodTerm}
 use Rattle.model.specs.declared.stored.Model.{Model}
-use Rattle.model_laws.specs.Every.{Every}
-use Rattle.model_laws.specs.Stands.{InRange, GoodReal, GoodTerm}
+use Rattle.lent.specs.Every.{Every}
 
 pub record Additions : Type 0 where
   pub reals : List (RealTerm floats pauli)
@@ -67,9 +67,9 @@ pub record Extends (m : Model) (t : ModelTables) (a : Additions) : Type 0 where
   pub terms : Every (λ z. Sound (z .word) × GoodTerm (m .qubits) (z .word) (z .num)) (a .terms)
   pub few-reals : m .hamiltonian + length (a .reals) ≤ maxHamiltonian
   pub few-jumps : m .jumps + length (a .entries) ≤ maxJumps
-  pub h-words-room : 4 * (m .hamiltonian + length (a .reals)) ≤ length (t .hWords)
+  pub h-words-room : wordLanes * (m .hamiltonian + length (a .reals)) ≤ length (t .hWords)
   pub h-coeffs-room : m .hamiltonian + length (a .reals) ≤ length (t .hCoeffs)
   pub jumps-room : 8 * (m .jumps + length (a .entries)) ≤ length (t .jumps)
   pub rates-room : m .jumps + length (a .entries) ≤ length (t .rates)
-  pub t-words-room : 4 * (m .terms + length (a .terms)) ≤ length (t .tWords)
+  pub t-words-room : wordLanes * (m .terms + length (a .terms)) ≤ length (t .tWords)
   pub t-numbers-room : 2 * (m .terms + length (a .terms)) ≤ length (t .tNumbers)

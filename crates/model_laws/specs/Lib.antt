@@ -2,8 +2,6 @@
 -- SPDX-License-Identifier: Apache-2.0
 
 -- What a tested model is, and a model with more laid after it.
-pub mod Every
-pub mod Stands
 pub mod Extended
 pub mod Related
 pub mod Exactly

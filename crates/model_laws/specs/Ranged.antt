@@ -1,7 +1,7 @@
 -- SPDX-FileCopyrightText: 2026 The PPVM Authors
 -- SPDX-License-Identifier: Apache-2.0
 
--- A model over f64 with numbers of at most 2^200 and operators of at most 16 terms.
+-- Statements between laws: a model over f64 with numbers of at most 2^200 and operators of at most 16 terms.
 use Prim.Native.Nat.{_≤_}
 use mathlib.Core.List.{List}
 use lib.ListN.{length}
@@ -9,8 +9,9 @@ use Rattle.number.specs.Floats.{floats}
 use Rattle.number.specs.Bounds.{AtMost, AtMostC}
 use Rattle.gksl.specs.Model.{ModelOver}
 use Rattle.gksl.specs.Words.{pauli}
-use Rattle.model.specs.Given.{Term, maxTerms}
-use Rattle.model_laws.specs.Every.{Every}
+use Rattle.model_build.specs.Given.{maxTerms}
+use Rattle.lent.specs.Every.{Every}
+use Rattle.model.specs.Terms.{Term}
 
 pub record RangedOp (op : List Term) : Type 0 where
   pub few : length op ≤ maxTerms

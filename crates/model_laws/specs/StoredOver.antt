@@ -1,8 +1,7 @@
 -- SPDX-FileCopyrightText: 2026 The PPVM Authors
 -- SPDX-License-Identifier: Apache-2.0
 
--- The numbers that are stored for a jump and for a pair, over any numbers: the rules of `compileJump` and `compilePair` without
--- the places.
+-- Statements between laws: the numbers that are stored for a jump and for a pair, over any numbers.
 use mathlib.Core.Bool.{cond}
 use mathlib.Core.List.{List, [], _∷_, _++_, map}
 use Rattle.number.specs.Numbers.{Numbers, Cx, mulC}

@@ -19,12 +19,13 @@ use Rattle.expm.specs.declared.Degree.{Degree}
 use Rattle.model.specs.Stored.{ModelTables}
 use Rattle.model.specs.declared.stored.Model.{Model}
 use Rattle.action.specs.Counts.{most, touchedBy}
-use Rattle.norm.specs.Columns.{meanOf, largest, columnNorm, columnNorms, rawBy, diagBy, muOf, normOf, Fills}
-use Rattle.norm.specs.Norms.{Work, workOf, zeroed, normTested, degreeTested, normAnswer, normFrom, partition, degreeAnswer, normCourse, norming, selecting}
+use Rattle.norm.specs.Columns.{meanOf, largest, columnNorm, rawBy, diagBy, muOf, normOf}
+use Rattle.norm.specs.Norms.{Work, workOf, zeroed, normTested, degreeTested, normAnswer, partition, degreeAnswer, normCourse, norming, selecting}
 use Rattle.norm.specs.declared.norm.Normed.{Normed}
 use Rattle.norm.specs.declared.norm.Normed.the-variants.{Norm, Refused}
 use Rattle.norm.specs.declared.degree.Selected.{Selected}
 use Rattle.norm.specs.declared.degree.Selected.the-variants as Choice
+use Rattle.norm.specs.Between.{columnNorms, Fills, normFrom}
 
 -- ---- from raws and diagonals
 module _ (filled : Answer) (raws diags : List Float) where

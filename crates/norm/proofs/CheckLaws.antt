@@ -15,15 +15,17 @@ use Rattle.refusal.specs.declared.Refusal.{Refusal}
 use Rattle.refusal.specs.declared.Refusal.the-variants.{CountAboveLimit, LengthMismatch, NumberOutOfRange, WordOutsideRegister}
 use Rattle.refusal.specs.declared.Answer.{Answer}
 use Rattle.refusal.specs.declared.Answer.the-variants.{Accepted, Refused}
+use Rattle.word.specs.Flat.{wordLanes}
 use Rattle.number.specs.Floats.{isFinite}
 use Rattle.model.specs.Stored.{ModelTables}
-use Rattle.model.specs.Tested.{whereAny, firstTo, testModel}
-use Rattle.model.specs.Built.{andThen}
+use Rattle.model.specs.Tested.{testModel}
+use Rattle.lent.specs.Tests.{whereAny, firstTo, andThen}
+use Rattle.lent.proofs.NeedLaws.{need-some}
+use Rattle.lent.proofs.Firsts.{first-before}
+use Rattle.lent.proofs.Passed.{passed, both, lent-passed, counted-passed}
+use Rattle.lent.specs.Words.{maxWords, outsideAt, insideTo}
 use Rattle.model.specs.declared.stored.Model.{Model}
-use Rattle.model.proofs.NeedLaws.{need-some}
-use Rattle.model.proofs.Firsts.{first-before}
-use Rattle.model.proofs.BuildLaws.{passed, both, lent-passed, counted-passed}
-use Rattle.action.specs.Counts.{maxWords, rowLanes, outsideAt, insideTo}
+use Rattle.action.specs.Counts.{rowLanes}
 use Rattle.norm.specs.Norms.{normTests, finiteTests}
 
 module _ (m : Model) (t : ModelTables) (lanes : List ℕ) (len h j k r d : ℕ) where
@@ -40,39 +42,39 @@ module _ (m : Model) (t : ModelTables) (lanes : List ℕ) (len h j k r d : ℕ) 
     words-many l = rw (ok, lt-ltb maxWords len l)
 
     module _ (few : len ≤ maxWords) where
-      pub words-short : length lanes / 4 < len → Refused (LengthMismatch len (length lanes / 4)) ≡ tests
+      pub words-short : length lanes / wordLanes < len → Refused (LengthMismatch len (length lanes / wordLanes)) ≡ tests
       unfolding normTests
-      words-short l = rw (ok, le-ltb maxWords len few, lt-ltb (length lanes / 4) len l)
+      words-short l = rw (ok, le-ltb maxWords len few, lt-ltb (length lanes / wordLanes) len l)
 
-      module _ (words-long : len ≤ length lanes / 4) {rows row : ℕ} (rows-are : rows ≡ whereAny len (rowLanes * m .qubits)) (row-is : row ≡ whereAny len rowLanes) where
+      module _ (words-long : len ≤ length lanes / wordLanes) {rows row : ℕ} (rows-are : rows ≡ whereAny len (rowLanes * m .qubits)) (row-is : row ≡ whereAny len rowLanes) where
         pub h-index-short : h < rows → Refused (LengthMismatch rows h) ≡ tests
         unfolding normTests
-        h-index-short l = rw (ok, le-ltb maxWords len few, le-ltb (length lanes / 4) len words-long, ← rows-are, lt-ltb h rows l)
+        h-index-short l = rw (ok, le-ltb maxWords len few, le-ltb (length lanes / wordLanes) len words-long, ← rows-are, lt-ltb h rows l)
 
         module _ (h-long : rows ≤ h) where
           pub j-index-short : j < rows → Refused (LengthMismatch rows j) ≡ tests
           unfolding normTests
-          j-index-short l = rw (ok, le-ltb maxWords len few, le-ltb (length lanes / 4) len words-long, ← rows-are, le-ltb h rows h-long, lt-ltb j rows l)
+          j-index-short l = rw (ok, le-ltb maxWords len few, le-ltb (length lanes / wordLanes) len words-long, ← rows-are, le-ltb h rows h-long, lt-ltb j rows l)
 
           module _ (j-long : rows ≤ j) where
             pub mask-short : k < row → Refused (LengthMismatch row k) ≡ tests
             unfolding normTests
-            mask-short l = rw (ok, le-ltb maxWords len few, le-ltb (length lanes / 4) len words-long, ← rows-are, le-ltb h rows h-long, le-ltb j rows j-long, ← row-is, lt-ltb k row l)
+            mask-short l = rw (ok, le-ltb maxWords len few, le-ltb (length lanes / wordLanes) len words-long, ← rows-are, le-ltb h rows h-long, le-ltb j rows j-long, ← row-is, lt-ltb k row l)
 
             module _ (mask-long : row ≤ k) where
               pub raws-short : r < len → Refused (LengthMismatch len r) ≡ tests
               unfolding normTests
-              raws-short l = rw (ok, le-ltb maxWords len few, le-ltb (length lanes / 4) len words-long, ← rows-are, le-ltb h rows h-long, le-ltb j rows j-long, ← row-is, le-ltb k row mask-long, lt-ltb r len l)
+              raws-short l = rw (ok, le-ltb maxWords len few, le-ltb (length lanes / wordLanes) len words-long, ← rows-are, le-ltb h rows h-long, le-ltb j rows j-long, ← row-is, le-ltb k row mask-long, lt-ltb r len l)
 
               module _ (raws-long : len ≤ r) where
                 pub diags-short : d < len → Refused (LengthMismatch len d) ≡ tests
                 unfolding normTests
-                diags-short l = rw (ok, le-ltb maxWords len few, le-ltb (length lanes / 4) len words-long, ← rows-are, le-ltb h rows h-long, le-ltb j rows j-long, ← row-is, le-ltb k row mask-long, le-ltb r len raws-long, lt-ltb d len l)
+                diags-short l = rw (ok, le-ltb maxWords len few, le-ltb (length lanes / wordLanes) len words-long, ← rows-are, le-ltb h rows h-long, le-ltb j rows j-long, ← row-is, le-ltb k row mask-long, le-ltb r len raws-long, lt-ltb d len l)
 
                 module _ (diags-long : len ≤ d) (first : ℕ) (is : first ≡ firstTo len (outsideAt lanes (m .qubits))) where
                   reached : insideTo len lanes (m .qubits) Accepted ≡ tests
                   unfolding normTests
-                  reached = rw (ok, le-ltb maxWords len few, le-ltb (length lanes / 4) len words-long, ← rows-are, le-ltb h rows h-long, le-ltb j rows j-long, ← row-is, le-ltb k row mask-long, le-ltb r len raws-long, le-ltb d len diags-long)
+                  reached = rw (ok, le-ltb maxWords len few, le-ltb (length lanes / wordLanes) len words-long, ← rows-are, le-ltb h rows h-long, le-ltb j rows j-long, ← row-is, le-ltb k row mask-long, le-ltb r len raws-long, le-ltb d len diags-long)
 
                   pub word-outside : first < len → Refused (WordOutsideRegister first) ≡ tests
                   unfolding insideTo
@@ -108,7 +110,7 @@ first-accepted a b e = rw e
 pub record Passed (m : Model) (t : ModelTables) (lanes : List ℕ) (len h j k r d : ℕ) : Type 0 where
   pub model : testModel m t ≡ Accepted
   pub few : len ≤ maxWords
-  pub words-long : len ≤ length lanes / 4
+  pub words-long : len ≤ length lanes / wordLanes
   pub h-long : 0 < len → rowLanes * m .qubits ≤ h
   pub j-long : 0 < len → rowLanes * m .qubits ≤ j
   pub mask-long : 0 < len → rowLanes ≤ k
@@ -122,7 +124,7 @@ norm-passed m t lanes len h j k r d e =
     let first : ℕ = firstTo len (outsideAt lanes (m .qubits)) in
     let e0 = both (testModel m t) _ e in
     let e1 = counted-passed maxWords len _ (e0 .1) in
-    let e2 = lent-passed len (length lanes / 4) _ (e1 .1) in
+    let e2 = lent-passed len (length lanes / wordLanes) _ (e1 .1) in
     let rows : ℕ = rowLanes * m .qubits in
     let e3 = lent-passed (whereAny len rows) h _ (e2 .1) in
     let e4 = lent-passed (whereAny len rows) j _ (e3 .1) in

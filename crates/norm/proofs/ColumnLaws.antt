@@ -9,12 +9,12 @@ use Prim.Native.Nat.{ℕ, _+_, _*_, _≤_, _<_}
 use native.Mathlib.Omega.{arith}
 use lib.Ieee.{Float}
 use lib.ListN.{length}
+use Rattle.word.specs.Flat.{wordLanes}
 use Rattle.word.specs.Order.{same}
 use Rattle.word.specs.declared.word.Word.{Word}
 use Rattle.number.specs.Floats.{floats, float0, magnitude}
 use Rattle.sums.specs.Sums.{sumRows}
-use Rattle.model.specs.Given.{Term}
-use Rattle.model.specs.Product.{termAt}
+use Rattle.model.specs.Terms.{Term, termAt}
 use Rattle.action.specs.Acts.{listed}
 use Rattle.action.proofs.ListLaws.{left, left-none, left-passed, left-listed}
 use Rattle.norm.specs.Columns.{sumFrom, rawOf, diagOf}
@@ -40,7 +40,7 @@ module _ (len : ℕ) (lanes : List ℕ) (sums : List Float) where
   pub diag-start : (w : Word) → DiagState w 0
   diag-start w = record { high = omega arith; ahead = refl }
 
-  module _ (hl : 4 * len ≤ length lanes) (hs : 2 * len ≤ length sums) (i : ℕ) where
+  module _ (hl : wordLanes * len ≤ length lanes) (hs : 2 * len ≤ length sums) (i : ℕ) where
     module _ (h : i < len) (t : Term) (e : t ≡ termAt lanes sums i) where
       module _ (f : floats .isZero (t .num .re) ≡ true) where
         pub raw-passes : (raw : Float) → RawState raw i → RawState raw (i + 1)

@@ -12,18 +12,21 @@ use lib.Ieee.{Float, nan, inf, fin, binary64, lt, mul, ofBits}
 use lib.ListN.{length}
 use Rattle.refusal.specs.declared.Answer.{Answer}
 use Rattle.refusal.specs.declared.Answer.the-variants as Tests
+use Rattle.word.specs.Flat.{wordLanes}
 use Rattle.number.specs.Floats.{float0, magnitude}
 use Rattle.number.proofs.ExactLaws.{is-nought}
 use Rattle.number.proofs.WholeFloats.{whole-nought, is-lt}
 use Rattle.expm.proofs.LeastLaws.{degree-none}
 use Rattle.model.specs.Stored.{ModelTables}
-use Rattle.model.specs.Tested.{lent, whereAny, firstTo, testModel}
+use Rattle.model.specs.Tested.{testModel}
 use Rattle.model.specs.declared.stored.Model.{Model}
-use Rattle.action.specs.Counts.{insideTo, most}
+use Rattle.action.specs.Counts.{most}
 use Rattle.norm.specs.Columns.{meanOf, largestFrom, muOf, normOf}
 use Rattle.norm.specs.Norms.{Work, zeroed, normTests, finiteTests, normTested, normAnswer, partition, degreeAnswer, norming, selecting}
 use Rattle.norm.specs.declared.norm.Normed.the-variants.{Norm}
 use Rattle.norm.specs.declared.degree.Selected.the-variants.{Partition}
+use Rattle.lent.specs.Tests.{lent, whereAny, firstTo}
+use Rattle.lent.specs.Words.{insideTo}
 
 none : (room : ℕ) (m : Model) (t : ModelTables) → normAnswer room m t [] ≡ Norm float0 float0
 unfolding normAnswer most meanOf largestFrom muOf normOf
@@ -49,7 +52,7 @@ module _ (w : Work) (m : Model) (t : ModelTables) (lanes : List ℕ) (ok : testM
   none-asked : normTested m t lanes 0 w ≡ Tests.Accepted
   unfolding normTests insideTo firstTo whereAny
   none-asked = rw ok (
-      lent-none (length lanes / 4) _ ∙ lent-none (length (w .hIndex)) _ ∙ lent-none (length (w .jIndex)) _ ∙ lent-none (length (w .mask)) _ ∙ lent-none (length (w .raws)) _ ∙ lent-none (length (w .diags)) _)
+      lent-none (length lanes / wordLanes) _ ∙ lent-none (length (w .hIndex)) _ ∙ lent-none (length (w .jIndex)) _ ∙ lent-none (length (w .mask)) _ ∙ lent-none (length (w .raws)) _ ∙ lent-none (length (w .diags)) _)
 
   pub norm-empty : norming w m t lanes 0 ≡ record { answer = Norm float0 float0; work = zeroed w }
   unfolding norming

@@ -17,18 +17,20 @@ use Rattle.refusal.specs.declared.Refusal.the-variants.{TableFull}
 use Rattle.refusal.specs.declared.Answer.{Answer}
 use Rattle.refusal.specs.declared.Answer.the-variants.{Accepted, Refused}
 use Rattle.word.specs.Word.{identity}
-use Rattle.word.specs.Flat.{words}
+use Rattle.word.specs.Flat.{words, wordLanes}
 use Rattle.word.specs.Register.{reaches}
 use Rattle.word.specs.declared.word.Word.{Word}
 use Rattle.word.proofs.FlatLaws.{words-high}
 use Rattle.model.specs.Stored.{ModelTables}
 use Rattle.model.specs.declared.stored.Model.{Model}
-use Rattle.model.proofs.BuildLaws.{refused-not}
-use Rattle.action.specs.Counts.{most, touchedBy, outsideAt}
-use Rattle.norm.specs.Columns.{rawBy, diagBy, Fills}
+use Rattle.lent.proofs.Passed.{refused-not}
+use Rattle.lent.specs.Words.{outsideAt}
+use Rattle.action.specs.Counts.{most, touchedBy}
+use Rattle.norm.specs.Columns.{rawBy, diagBy}
+use Rattle.norm.specs.Between.{Fills}
 
 -- ---- the first len words of a lent basis
-pub words-are : (lanes : List ℕ) (len : ℕ) → 4 * len ≤ length lanes → length (take len (words lanes)) ≡ len
+pub words-are : (lanes : List ℕ) (len : ℕ) → wordLanes * len ≤ length lanes → length (take len (words lanes)) ≡ len
 words-are lanes len h = length-take-le len (words lanes) (omega (arith, words-high lanes))
 
 pub word-taken : (lanes : List ℕ) (len k : ℕ) → k < len → {p : Word} → p ≡ getD (words lanes) k identity → p ≡ getD (take len (words lanes)) k identity

@@ -4,26 +4,27 @@
 -- Norm and degree over a lent model and basis: refusals in their order, the answer, and every lent table afterwards.
 use Prim.Native.Nat.{ℕ, _*_, _/_}
 use mathlib.Core.Bool.{cond}
-use mathlib.Core.List.{List}
+use mathlib.Core.List.{List, [], _∷_}
 use lib.Dec.{ltb}
 use lib.Ieee.{Float}
 use lib.ListN.{length, take, replicate}
 use Rattle.refusal.specs.declared.Refusal.the-variants.{TableFull}
 use Rattle.refusal.specs.declared.Answer.{Answer}
 use Rattle.refusal.specs.declared.Answer.the-variants as Tests
-use Rattle.word.specs.Flat.{words}
+use Rattle.word.specs.Flat.{words, wordLanes}
 use Rattle.word.specs.declared.word.Word.{Word}
 use Rattle.number.specs.Floats.{floats, float0, magnitude}
 use Rattle.expm.specs.Selects.{degreeBy, tableFor}
 use Rattle.expm.specs.declared.Degree.{Degree}
 use Rattle.model.specs.Stored.{ModelTables}
-use Rattle.model.specs.Tested.{counted, lent, whereAny, testModel}
-use Rattle.model.specs.Built.{andThen}
+use Rattle.model.specs.Tested.{testModel}
+use Rattle.lent.specs.Tests.{counted, lent, whereAny, andThen, inTurn}
+use Rattle.lent.specs.Words.{maxWords, insideTo}
+use Rattle.lent.specs.Numbers.{finiteThreshold}
 use Rattle.model.specs.declared.stored.Model.{Model}
 use Rattle.action.specs.Acts.{sumPlaces}
-use Rattle.action.specs.Counts.{maxWords, rowLanes, insideTo, most, touchedBy}
-use Rattle.truncate.specs.Tests.{finiteThreshold}
-use Rattle.norm.specs.Columns.{meanOf, largest, columnNorms, muOf, normOf}
+use Rattle.action.specs.Counts.{rowLanes, most, touchedBy}
+use Rattle.norm.specs.Columns.{muOf, normOf}
 use Rattle.norm.specs.declared.norm.Normed.{Normed}
 use Rattle.norm.specs.declared.norm.Normed.the-variants.{Norm, Refused}
 use Rattle.norm.specs.declared.degree.Selected.{Selected}
@@ -58,16 +59,17 @@ zeroed w = record {
 -- the model, 8, 9, 11, over the first len words and tables of so many places; no words ask for no place
 unfoldable pub normTests : Model → ModelTables → List ℕ → ℕ → ℕ → ℕ → ℕ → ℕ → ℕ → Answer
 normTests m t lanes len hIndex jIndex mask raws diags =
+    inTurn (
     andThen (testModel m t)
-    (counted maxWords len
-    (lent len (length lanes / 4)
-    (lent (whereAny len (rowLanes * m .qubits)) hIndex
-    (lent (whereAny len (rowLanes * m .qubits)) jIndex
-    (lent (whereAny len rowLanes) mask
-    (lent len raws
-    (lent len diags
-    (insideTo len lanes (m .qubits)
-    Tests.Accepted))))))))
+    ∷ counted maxWords len
+    ∷ lent len (length lanes / wordLanes)
+    ∷ lent (whereAny len (rowLanes * m .qubits)) hIndex
+    ∷ lent (whereAny len (rowLanes * m .qubits)) jIndex
+    ∷ lent (whereAny len rowLanes) mask
+    ∷ lent len raws
+    ∷ lent len diags
+    ∷ insideTo len lanes (m .qubits)
+    ∷ []) Tests.Accepted
 
 abbrev pub normTested : Model → ModelTables → List ℕ → ℕ → Work → Answer
 normTested m t lanes len w = normTests m t lanes len (length (w .hIndex)) (length (w .jIndex)) (length (w .mask)) (length (w .raws)) (length (w .diags))
@@ -86,11 +88,6 @@ normAnswer room m t ps = cond (ltb room (most (touchedBy m t) ps)) (Refused (Tab
 
 abbrev pub partition : Float → Float → Degree → Selected
 partition mu norm d = Choice.Partition mu norm (d .m) (d .s)
-
--- the same from raws and diagonals side by side
-abbrev pub normFrom : Answer → List Float → List Float → Normed
-normFrom (Tests.Refused r) raws diags = Refused r
-normFrom Tests.Accepted raws diags = Norm (meanOf diags) (largest (columnNorms (meanOf diags) raws diags))
 
 -- the degree for t = |dt| × norm
 unfoldable pub degreeAnswer : Float → Float → Normed → Selected

@@ -4,14 +4,14 @@
 // What norm and degree ask of what they are lent: the model, 8, 9, 11; then 7 for the numbers of a
 // degree.
 ghost use mathlib.Core.Path.{_≡_};
-ghost use Rattle.model.specs.Stored.{tables};
-ghost use Rattle.model.specs.Built.{andThen};
+ghost use Rattle.model.specs.Between.{modelTables};
+ghost use Rattle.lent.specs.Tests.{andThen};
 ghost use Rattle.norm.specs.Norms.{normTests, finiteTests};
-use action::words::MAX_WORDS;
 use action::words::ROW_LANES;
-use action::words::first_outside;
-use model::lengths::mismatch;
-use model::lengths::where_any;
+use lent::tests::mismatch;
+use lent::tests::where_any;
+use lent::words::MAX_WORDS;
+use lent::words::first_outside;
 use model::stored::Model;
 use model::test::test_model;
 use number::scalar::is_finite;
@@ -35,7 +35,7 @@ pub fn check_norm(
     raws: usize,
     diags: usize,
 ) -> Answer
-    ensures { λ r. ⌜ r ≡ normTests m (tables (now («h_words» .entry)) (now («h_coeffs» .entry)) (now (jumps .entry)) (now (rates .entry)) (now («t_words» .entry)) (now («t_numbers» .entry))) (now (words .entry)) len «h_index» «j_index» mask raws diags ⌝ }
+    ensures { λ r. ⌜ r ≡ normTests m (modelTables (now («h_words» .entry)) (now («h_coeffs» .entry)) (now (jumps .entry)) (now (rates .entry)) (now («t_words» .entry)) (now («t_numbers» .entry))) (now (words .entry)) len «h_index» «j_index» mask raws diags ⌝ }
 {
     let model = test_model(m, h_words, h_coeffs, jumps, rates, t_words, t_numbers);
     let Answer::Accepted = model else {
@@ -105,7 +105,7 @@ pub fn check_degree(
     raws: usize,
     diags: usize,
 ) -> Answer
-    ensures { λ r. ⌜ r ≡ andThen (normTests m (tables (now («h_words» .entry)) (now («h_coeffs» .entry)) (now (jumps .entry)) (now (rates .entry)) (now («t_words» .entry)) (now («t_numbers» .entry))) (now (words .entry)) len «h_index» «j_index» mask raws diags) (finiteTests dt «drop_tol») ⌝ }
+    ensures { λ r. ⌜ r ≡ andThen (normTests m (modelTables (now («h_words» .entry)) (now («h_coeffs» .entry)) (now (jumps .entry)) (now (rates .entry)) (now («t_words» .entry)) (now («t_numbers» .entry))) (now (words .entry)) len «h_index» «j_index» mask raws diags) (finiteTests dt «drop_tol») ⌝ }
 {
     let lent = check_norm(
         m,

@@ -6,19 +6,20 @@
 ghost use mathlib.Core.Path.{_≡_};
 ghost use Prim.Native.Nat.{_*_, _≤_};
 ghost use lib.ListN.{length, take};
-ghost use Rattle.word.specs.Flat.{words as wordsIn};
+ghost use Rattle.word.specs.Flat.{words as wordsIn, wordLanes};
 ghost use Rattle.sums.specs.Sums.{sumRows};
-ghost use Rattle.model.specs.Stored.{tables};
+ghost use Rattle.model.specs.Between.{modelTables};
+ghost use Rattle.norm.specs.Between.{ColumnRoom, Fills};
 ghost use Rattle.action.specs.Acts.{listed};
-ghost use Rattle.norm.specs.Columns.{rawOf, diagOf, ColumnRoom, Fills};
-use action::act::SUMS_TABLE;
-use rules_by_index::near::put_rules_near;
-use model::product::term_at;
+ghost use Rattle.norm.specs.Columns.{rawOf, diagOf};
+use lent::sizes::SUMS_TABLE;
 use model::stored::Model;
+use model::term::term_at;
 use number::scalar::is_zero;
 use number::scalar::magnitude;
 use refusal::Answer;
 use refusal::Refusal;
+use rules_by_index::near::put_rules_near;
 use sums::sums::Added;
 use word::flat::word_at;
 use word::word::Word;
@@ -26,7 +27,7 @@ use word::word::same_word;
 
 // The magnitudes of the first `len` sums, added in word order.
 fn raw_of(words: &[u64], sums: &[f64], len: usize) -> f64
-    requires { ⌜ (4 * len ≤ length (now words)) × (2 * len ≤ length (now sums)) ⌝ }
+    requires { ⌜ (wordLanes * len ≤ length (now words)) × (2 * len ≤ length (now sums)) ⌝ }
     ensures { λ r. ⌜ r ≡ rawOf (listed (sumRows len (now (words .entry)) (now (sums .entry)))) ⌝ }
 {
     let mut raw = 0.0;
@@ -46,7 +47,7 @@ fn raw_of(words: &[u64], sums: &[f64], len: usize) -> f64
 
 // The one onto a word, or 0.
 fn diagonal_of(words: &[u64], sums: &[f64], len: usize, w: Word) -> f64
-    requires { ⌜ (4 * len ≤ length (now words)) × (2 * len ≤ length (now sums)) ⌝ }
+    requires { ⌜ (wordLanes * len ≤ length (now words)) × (2 * len ≤ length (now sums)) ⌝ }
     ensures { λ r. ⌜ r ≡ diagOf w (listed (sumRows len (now (words .entry)) (now (sums .entry)))) ⌝ }
 {
     let mut i = 0;
@@ -85,8 +86,8 @@ pub fn fill_columns(
     raws: &mut [f64],
     diags: &mut [f64],
 ) -> Answer
-    requires { ⌜ ColumnRoom m (tables (now «h_words») (now «h_coeffs») (now jumps) (now rates) (now «t_words») (now «t_numbers»)) (now «h_index») (now «j_index») (now mask) (now «work_words») (now «work_sums») room (now words) len (now raws) (now diags) ⌝ }
-    ensures { λ r. ⌜ Fills room m (tables (now («h_words» .entry)) (now («h_coeffs» .entry)) (now (jumps .entry)) (now (rates .entry)) (now («t_words» .entry)) (now («t_numbers» .entry))) (take len (wordsIn (now (words .entry)))) len (now (raws .exit)) (now (diags .exit)) r ⌝ }
+    requires { ⌜ ColumnRoom m (modelTables (now «h_words») (now «h_coeffs») (now jumps) (now rates) (now «t_words») (now «t_numbers»)) (now «h_index») (now «j_index») (now mask) (now «work_words») (now «work_sums») room (now words) len (now raws) (now diags) ⌝ }
+    ensures { λ r. ⌜ Fills room m (modelTables (now («h_words» .entry)) (now («h_coeffs» .entry)) (now (jumps .entry)) (now (rates .entry)) (now («t_words» .entry)) (now («t_numbers» .entry))) (take len (wordsIn (now (words .entry)))) len (now (raws .exit)) (now (diags .exit)) r ⌝ }
 {
     let mut k = 0;
     while k < len {

@@ -4,7 +4,7 @@
 // The Taylor degree and the number of steps for exp(dt·M) over a lent basis, M being the generator with
 // its diagonal shifted by mu.
 ghost use mathlib.Core.Path.{_≡_};
-ghost use Rattle.model.specs.Stored.{tables};
+ghost use Rattle.model.specs.Between.{modelTables};
 ghost use Rattle.norm.specs.Norms.{workOf, degreeAnswer, selecting};
 use crate::check::check_degree;
 use crate::norm::Normed;
@@ -58,7 +58,7 @@ pub fn expm_degree(
     raws: &mut [f64],
     diags: &mut [f64],
 ) -> Selected
-    ensures { λ r. ⌜ record { answer = r; work = workOf (now («h_index» .exit)) (now («j_index» .exit)) (now (mask .exit)) (now («work_words» .exit)) (now («work_sums» .exit)) (now (raws .exit)) (now (diags .exit)) } ≡ selecting (workOf (now («h_index» .entry)) (now («j_index» .entry)) (now (mask .entry)) (now («work_words» .entry)) (now («work_sums» .entry)) (now (raws .entry)) (now (diags .entry))) m (tables (now («h_words» .entry)) (now («h_coeffs» .entry)) (now (jumps .entry)) (now (rates .entry)) (now («t_words» .entry)) (now («t_numbers» .entry))) (now (words .entry)) len dt «drop_tol» ⌝ }
+    ensures { λ r. ⌜ record { answer = r; work = workOf (now («h_index» .exit)) (now («j_index» .exit)) (now (mask .exit)) (now («work_words» .exit)) (now («work_sums» .exit)) (now (raws .exit)) (now (diags .exit)) } ≡ selecting (workOf (now («h_index» .entry)) (now («j_index» .entry)) (now (mask .entry)) (now («work_words» .entry)) (now («work_sums» .entry)) (now (raws .entry)) (now (diags .entry))) m (modelTables (now («h_words» .entry)) (now («h_coeffs» .entry)) (now (jumps .entry)) (now (rates .entry)) (now («t_words» .entry)) (now («t_numbers» .entry))) (now (words .entry)) len dt «drop_tol» ⌝ }
 {
     let answer = check_degree(
         m,

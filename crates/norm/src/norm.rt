@@ -8,21 +8,22 @@ ghost use lib.ListN.{length, take, replicate};
 ghost use Rattle.refusal.specs.declared.Answer.the-variants.{Accepted};
 ghost use Rattle.word.specs.Flat.{words as wordsIn};
 ghost use Rattle.number.specs.Floats.{float0};
-ghost use Rattle.model.specs.Stored.{tables};
+ghost use Rattle.model.specs.Between.{modelTables};
+ghost use Rattle.norm.specs.Between.{columnNorms, Fills, normFrom};
 ghost use Rattle.action.specs.Acts.{sumPlaces};
-ghost use Rattle.norm.specs.Columns.{columnNorm, columnNorms, meanOf, largest, Fills};
-ghost use Rattle.norm.specs.Norms.{workOf, zeroed, normTests, normFrom, normCourse, norming};
+ghost use Rattle.norm.specs.Columns.{columnNorm, meanOf, largest};
+ghost use Rattle.norm.specs.Norms.{workOf, zeroed, normTests, normCourse, norming};
 use crate::check::check_norm;
 use crate::columns::fill_columns;
-use rules_by_index::indexed::index_model;
+use lent::clear::clear_lanes;
+use lent::clear::clear_numbers;
+use lent::sizes::smaller;
 use model::stored::Model;
-use model::test::smaller;
 use number::scalar::larger;
 use number::scalar::magnitude;
 use refusal::Answer;
 use refusal::Refusal;
-use sums::clear::clear_lanes;
-use sums::clear::clear_numbers;
+use rules_by_index::indexed::index_model;
 use word::flat::WORD_LANES;
 
 // The mean diagonal and the largest column norm.
@@ -101,8 +102,8 @@ fn fill_and_clear(
     raws: &mut [f64],
     diags: &mut [f64],
 ) -> Answer
-    requires { ⌜ normTests m (tables (now «h_words») (now «h_coeffs») (now jumps) (now rates) (now «t_words») (now «t_numbers»)) (now words) len (length (now «h_index»)) (length (now «j_index»)) (length (now mask)) (length (now raws)) (length (now diags)) ≡ Accepted ⌝ }
-    ensures { λ r. ⌜ Fills (sumPlaces (now («work_words» .entry)) (now («work_sums» .entry))) m (tables (now («h_words» .entry)) (now («h_coeffs» .entry)) (now (jumps .entry)) (now (rates .entry)) (now («t_words» .entry)) (now («t_numbers» .entry))) (take len (wordsIn (now (words .entry)))) len (now (raws .exit)) (now (diags .exit)) r × (now («h_index» .exit) ≡ replicate (length (now («h_index» .entry))) 0) × (now («j_index» .exit) ≡ replicate (length (now («j_index» .entry))) 0) × (now (mask .exit) ≡ replicate (length (now (mask .entry))) 0) × (now («work_words» .exit) ≡ replicate (length (now («work_words» .entry))) 0) × (now («work_sums» .exit) ≡ replicate (length (now («work_sums» .entry))) float0) ⌝ }
+    requires { ⌜ normTests m (modelTables (now «h_words») (now «h_coeffs») (now jumps) (now rates) (now «t_words») (now «t_numbers»)) (now words) len (length (now «h_index»)) (length (now «j_index»)) (length (now mask)) (length (now raws)) (length (now diags)) ≡ Accepted ⌝ }
+    ensures { λ r. ⌜ Fills (sumPlaces (now («work_words» .entry)) (now («work_sums» .entry))) m (modelTables (now («h_words» .entry)) (now («h_coeffs» .entry)) (now (jumps .entry)) (now (rates .entry)) (now («t_words» .entry)) (now («t_numbers» .entry))) (take len (wordsIn (now (words .entry)))) len (now (raws .exit)) (now (diags .exit)) r × (now («h_index» .exit) ≡ replicate (length (now («h_index» .entry))) 0) × (now («j_index» .exit) ≡ replicate (length (now («j_index» .entry))) 0) × (now (mask .exit) ≡ replicate (length (now (mask .entry))) 0) × (now («work_words» .exit) ≡ replicate (length (now («work_words» .entry))) 0) × (now («work_sums» .exit) ≡ replicate (length (now («work_sums» .entry))) float0) ⌝ }
 {
     index_model(h_index, j_index, m, h_words, jumps, rates, t_words, len);
     let room = smaller(work_words.len() / WORD_LANES, work_sums.len() / 2);
@@ -152,8 +153,8 @@ pub fn norm_tested(
     raws: &mut [f64],
     diags: &mut [f64],
 ) -> Normed
-    requires { ⌜ normTests m (tables (now «h_words») (now «h_coeffs») (now jumps) (now rates) (now «t_words») (now «t_numbers»)) (now words) len (length (now «h_index»)) (length (now «j_index»)) (length (now mask)) (length (now raws)) (length (now diags)) ≡ Accepted ⌝ }
-    ensures { λ r. ⌜ (r ≡ normCourse (workOf (now («h_index» .entry)) (now («j_index» .entry)) (now (mask .entry)) (now («work_words» .entry)) (now («work_sums» .entry)) (now (raws .entry)) (now (diags .entry))) m (tables (now («h_words» .entry)) (now («h_coeffs» .entry)) (now (jumps .entry)) (now (rates .entry)) (now («t_words» .entry)) (now («t_numbers» .entry))) (now (words .entry)) len) × (workOf (now («h_index» .exit)) (now («j_index» .exit)) (now (mask .exit)) (now («work_words» .exit)) (now («work_sums» .exit)) (now (raws .exit)) (now (diags .exit)) ≡ zeroed (workOf (now («h_index» .entry)) (now («j_index» .entry)) (now (mask .entry)) (now («work_words» .entry)) (now («work_sums» .entry)) (now (raws .entry)) (now (diags .entry)))) ⌝ }
+    requires { ⌜ normTests m (modelTables (now «h_words») (now «h_coeffs») (now jumps) (now rates) (now «t_words») (now «t_numbers»)) (now words) len (length (now «h_index»)) (length (now «j_index»)) (length (now mask)) (length (now raws)) (length (now diags)) ≡ Accepted ⌝ }
+    ensures { λ r. ⌜ (r ≡ normCourse (workOf (now («h_index» .entry)) (now («j_index» .entry)) (now (mask .entry)) (now («work_words» .entry)) (now («work_sums» .entry)) (now (raws .entry)) (now (diags .entry))) m (modelTables (now («h_words» .entry)) (now («h_coeffs» .entry)) (now (jumps .entry)) (now (rates .entry)) (now («t_words» .entry)) (now («t_numbers» .entry))) (now (words .entry)) len) × (workOf (now («h_index» .exit)) (now («j_index» .exit)) (now (mask .exit)) (now («work_words» .exit)) (now («work_sums» .exit)) (now (raws .exit)) (now (diags .exit)) ≡ zeroed (workOf (now («h_index» .entry)) (now («j_index» .entry)) (now (mask .entry)) (now («work_words» .entry)) (now («work_sums» .entry)) (now (raws .entry)) (now (diags .entry)))) ⌝ }
 {
     let filled = fill_and_clear(
         m,
@@ -197,7 +198,7 @@ pub fn norm(
     raws: &mut [f64],
     diags: &mut [f64],
 ) -> Normed
-    ensures { λ r. ⌜ record { answer = r; work = workOf (now («h_index» .exit)) (now («j_index» .exit)) (now (mask .exit)) (now («work_words» .exit)) (now («work_sums» .exit)) (now (raws .exit)) (now (diags .exit)) } ≡ norming (workOf (now («h_index» .entry)) (now («j_index» .entry)) (now (mask .entry)) (now («work_words» .entry)) (now («work_sums» .entry)) (now (raws .entry)) (now (diags .entry))) m (tables (now («h_words» .entry)) (now («h_coeffs» .entry)) (now (jumps .entry)) (now (rates .entry)) (now («t_words» .entry)) (now («t_numbers» .entry))) (now (words .entry)) len ⌝ }
+    ensures { λ r. ⌜ record { answer = r; work = workOf (now («h_index» .exit)) (now («j_index» .exit)) (now (mask .exit)) (now («work_words» .exit)) (now («work_sums» .exit)) (now (raws .exit)) (now (diags .exit)) } ≡ norming (workOf (now («h_index» .entry)) (now («j_index» .entry)) (now (mask .entry)) (now («work_words» .entry)) (now («work_sums» .entry)) (now (raws .entry)) (now (diags .entry))) m (modelTables (now («h_words» .entry)) (now («h_coeffs» .entry)) (now (jumps .entry)) (now (rates .entry)) (now («t_words» .entry)) (now («t_numbers» .entry))) (now (words .entry)) len ⌝ }
 {
     let answer = check_norm(
         m,

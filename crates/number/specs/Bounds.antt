@@ -1,7 +1,7 @@
 -- SPDX-FileCopyrightText: 2026 The PPVM Authors
 -- SPDX-License-Identifier: Apache-2.0
 
--- Floats, and complex numbers of them, that are bounded by a whole number, and by a power of two.
+-- Statements between laws: floats, and complex numbers of them, that are bounded by a whole number, and by a power of two.
 use Prim.Native.Nat.{ℕ, _*_, _^_, _≤_}
 use lib.Ieee.{Float, nan, inf, fin, up, down}
 use Rattle.number.specs.Numbers.{Cx}

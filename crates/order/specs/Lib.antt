@@ -5,3 +5,5 @@
 pub mod Merge
 pub mod Magnitudes
 pub mod Places
+pub mod Members
+pub mod Between

@@ -15,7 +15,7 @@ use lib.ListN.{length, getD, set, take, length-append}
 use lib.Seq.{length-take-le, take-suc, take-suc-set, take-append-le}
 use Rattle.sums.specs.declared.sums.Added.{Added}
 use Rattle.sums.specs.declared.sums.Added.the-variants.{Full, Held}
-use Rattle.word.specs.Flat.{words}
+use Rattle.word.specs.Flat.{words, wordLanes}
 use Rattle.word.specs.Word.{identity}
 use Rattle.word.specs.declared.word.Word.{Word}
 use Rattle.word.proofs.FlatLaws.{words-high}
@@ -23,10 +23,10 @@ use Rattle.candidates.specs.Sums.{row}
 use Rattle.candidates.specs.Log.{Rows, rows, candidateRows, answer, Holds}
 use Rattle.candidates.proofs.RowLaws.{noRow, rows-set, rows-at, rows-long}
 use Rattle.candidates.proofs.LogLaws.{first-entries}
-use Rattle.passes.specs.Leaks.{Holding}
+use Rattle.passes.specs.Between.{Holding}
 
 -- ---- one row more is copied
-pub copied : (from to to′ : List ℕ) (sums copies : List Float) (i : ℕ) (w : Word) → 4 * i + 4 ≤ length from → i < length sums → 4 * i + 4 ≤ length to → i < length copies
+pub copied : (from to to′ : List ℕ) (sums copies : List Float) (i : ℕ) (w : Word) → wordLanes * i + wordLanes ≤ length from → i < length sums → wordLanes * i + wordLanes ≤ length to → i < length copies
     → w ≡ getD (words from) i identity → words to′ ≡ set (words to) i w → candidateRows i to copies ≡ candidateRows i from sums
     → candidateRows (i + 1) to′ (set copies i (getD sums i nan)) ≡ candidateRows (i + 1) from sums
 copied from to to′ sums copies i w a b c d is-w laid e =
@@ -45,10 +45,10 @@ rows-front (suc m) [] s u h = refl
 rows-front (suc m) (w ∷ ws) [] u h = absurd (omega arith)
 rows-front (suc m) (w ∷ ws) (x ∷ s) u h = ap (λ (t : Rows). row w x ∷ t) (rows-front m ws s u (omega arith))
 
-pub table-front : (m : ℕ) (a b : List ℕ) (s u : List Float) → 4 * m ≤ length a → m ≤ length s → candidateRows m (a ++ b) (s ++ u) ≡ candidateRows m a s
+pub table-front : (m : ℕ) (a b : List ℕ) (s u : List Float) → wordLanes * m ≤ length a → m ≤ length s → candidateRows m (a ++ b) (s ++ u) ≡ candidateRows m a s
 table-front m a b s u h k =
     sym (first-entries m (a ++ b) (s ++ u))
-    ∙ rw (take-append-le (m * 4) a b (omega arith)) (first-entries m a (s ++ u))
+    ∙ rw (take-append-le (m * wordLanes) a b (omega arith)) (first-entries m a (s ++ u))
     ∙ rows-front m (words a) s u k
 
 -- ---- what an answer says
@@ -74,7 +74,7 @@ module _ (room : ℕ) (next : List Float) (long : room ≤ length next) (g : Row
     pub flush-inside : m ≤ room
     flush-inside = omega (arith, whole, held-inside (length (take room next)) m g (sym e ∙ h .answers) .1)
 
-    pub flush-front : (b : List ℕ) (u : List Float) → length out ≡ 4 * room → length sums ≡ length (take room next) → Holding m m (out ++ b) (sums ++ u)
+    pub flush-front : (b : List ℕ) (u : List Float) → length out ≡ wordLanes * room → length sums ≡ length (take room next) → Holding m m (out ++ b) (sums ++ u)
     flush-front b u el es =
         record {
           lanes-long = omega (arith, flush-inside, length-append out b);
@@ -82,7 +82,7 @@ module _ (room : ℕ) (next : List Float) (long : room ≤ length next) (g : Row
           inside = omega arith;
         }
 
-    pub flush-held : (b out′ : List ℕ) (u sums′ : List Float) → length out ≡ 4 * room → length sums ≡ length (take room next) → candidateRows m out′ sums′ ≡ candidateRows m (out ++ b) (sums ++ u) → Holds room g out′ sums′ (Held m)
+    pub flush-held : (b out′ : List ℕ) (u sums′ : List Float) → length out ≡ wordLanes * room → length sums ≡ length (take room next) → candidateRows m out′ sums′ ≡ candidateRows m (out ++ b) (sums ++ u) → Holds room g out′ sums′ (Held m)
     flush-held b out′ u sums′ el es copy =
         record {
           answers = rw (← whole) (sym e ∙ h .answers);

@@ -11,14 +11,15 @@ use native.Mathlib.Omega.{arith}
 use lib.Ieee.{Float, nan}
 use lib.ListN.{length, getD, drop, set, drop-of-length-le}
 use lib.Seq.{drop-cons}
-use Rattle.word.specs.Flat.{words, layWord}
+use Rattle.word.specs.Flat.{words, layWord, wordLanes}
 use Rattle.word.specs.Word.{identity}
 use Rattle.word.specs.declared.word.Word.{Word}
 use Rattle.candidates.specs.Sums.{Row, row}
 use Rattle.candidates.specs.Log.{Rows, candidateRows}
 use Rattle.candidates.proofs.RowLaws.{noRow, table-long, table-at}
-use Rattle.model.specs.Laid.{laid}
-use Rattle.passes.specs.Leaks.{isAbove, above, wordsOf, sumsOf, Holding}
+use Rattle.lent.specs.Laid.{laid}
+use Rattle.passes.specs.Leaks.{isAbove, above, wordsOf, sumsOf}
+use Rattle.passes.specs.Between.{Holding}
 
 module _ (tau : Float) (n : ℕ) (lanes : List ℕ) (sums : List Float) where
   abbrev held : Rows
@@ -91,7 +92,7 @@ module _ (tau : Float) (n : ℕ) (lanes : List ℕ) (sums : List Float) (outWord
   pub list-start : State outWords₀ outValues₀ 0 0
   list-start = record { words-same = refl; values-same = refl; count = omega arith; words-left = refl; values-left = refl }
 
-  module _ (room : Holding n n lanes sums × (4 * length (above tau (candidateRows n lanes sums)) ≤ length outWords₀) × (length (above tau (candidateRows n lanes sums)) ≤ length outValues₀))
+  module _ (room : Holding n n lanes sums × (wordLanes * length (above tau (candidateRows n lanes sums)) ≤ length outWords₀) × (length (above tau (candidateRows n lanes sums)) ≤ length outValues₀))
       (outWords : List ℕ) (outValues : List Float) (place i : ℕ) (s : State outWords outValues place i) where
     words-from : (L : Rows) → rest i ≡ L → laid layWord place (wordsOf L) outWords ≡ laid layWord 0 (wordsOf (rest 0)) outWords₀
     words-from L e = subst (λ (M : Rows). laid layWord place (wordsOf M) outWords ≡ laid layWord 0 (wordsOf (rest 0)) outWords₀) e (s .words-left)
@@ -114,7 +115,7 @@ module _ (tau : Float) (n : ℕ) (lanes : List ℕ) (sums : List Float) (outWord
         listed = left-listed tau n lanes sums (room .0) i l f
 
         -- there is a place for it
-        pub list-place : (4 * place + 4 ≤ length outWords) × (place < length outValues)
+        pub list-place : (wordLanes * place + wordLanes ≤ length outWords) × (place < length outValues)
         list-place =
             let k = ap length listed in
             (omega (arith, s .count, k, s .words-same, room .1), omega (arith, s .count, k, s .values-same, room .2))

@@ -11,7 +11,7 @@ use native.Mathlib.Omega.{arith}
 use lib.Ieee.{Float}
 use lib.ListN.{length, set}
 use lib.Seq.{take-suc-set}
-use Rattle.word.specs.Flat.{words}
+use Rattle.word.specs.Flat.{words, wordLanes}
 use Rattle.word.specs.declared.word.Word.{Word}
 use Rattle.word.proofs.FlatLaws.{words-high}
 use Rattle.number.specs.Floats.{floats}
@@ -20,8 +20,7 @@ use Rattle.sums.specs.Sums as Terms
 use Rattle.candidates.specs.Sums.{row}
 use Rattle.candidates.specs.Log.{Rows, rows, candidateRows}
 use Rattle.candidates.proofs.RowLaws.{rows-set, rows-long}
-use Rattle.model.specs.Given.{Term}
-use Rattle.model.specs.Product.{termAt}
+use Rattle.model.specs.Terms.{Term, termAt}
 use Rattle.action.specs.Acts.{listed}
 use Rattle.action.proofs.ListLaws.{left, left-none, left-passed, left-listed}
 use Rattle.passes.specs.Leaks.{outside, leaked}
@@ -37,7 +36,7 @@ outside-second basis protected w e b f = rw (e, f)
 
 -- ---- the log
 -- one row more
-table-more : (k : ℕ) (lanes lanes′ : List ℕ) (values : List Float) (w : Word) (x : Float) → 4 * k + 4 ≤ length lanes → k < length values → words lanes′ ≡ set (words lanes) k w
+table-more : (k : ℕ) (lanes lanes′ : List ℕ) (values : List Float) (w : Word) (x : Float) → wordLanes * k + wordLanes ≤ length lanes → k < length values → words lanes′ ≡ set (words lanes) k w
     → candidateRows (k + 1) lanes′ (set values k x) ≡ candidateRows k lanes values ++ (row w x ∷ [])
 table-more k lanes lanes′ values w x h l e =
     let R : Rows = rows (words lanes) values in
@@ -59,10 +58,10 @@ module _ (out : Word → Bool) (c : Float) (touched : ℕ) (lanes : List ℕ) (s
   pub log-start : LogState logWords₀ logValues₀ count 0
   log-start = record { words-same = refl; values-same = refl; high = omega arith; few = omega arith; gives = refl }
 
-  module _ (hl : 4 * touched ≤ length lanes) (hs : 2 * touched ≤ length sums) (hw : 4 * (count + touched) ≤ length logWords₀) (hv : count + touched ≤ length logValues₀) (logWords : List ℕ) (logValues : List Float) (end i : ℕ) (s : LogState logWords logValues end i) where
+  module _ (hl : wordLanes * touched ≤ length lanes) (hs : 2 * touched ≤ length sums) (hw : wordLanes * (count + touched) ≤ length logWords₀) (hv : count + touched ≤ length logValues₀) (logWords : List ℕ) (logValues : List Float) (end i : ℕ) (s : LogState logWords logValues end i) where
     module _ (h : i < touched) where
       -- there is a place for one more
-      pub log-place : (4 * end + 4 ≤ length logWords) × (end < length logValues)
+      pub log-place : (wordLanes * end + wordLanes ≤ length logWords) × (end < length logValues)
       log-place = (omega (arith, s .words-same, s .few), omega (arith, s .values-same, s .few))
 
       module _ (t : Term) (e : t ≡ termAt lanes sums i) where

@@ -17,7 +17,7 @@ use lib.Seq.{drop-cons}
 use Rattle.refusal.specs.declared.Refusal.{Refusal}
 use Rattle.refusal.specs.declared.Refusal.the-variants.{TableFull}
 use Rattle.word.specs.declared.word.Word.{Word}
-use Rattle.word.specs.Flat.{words}
+use Rattle.word.specs.Flat.{words, wordLanes}
 use Rattle.word.specs.Order.{before}
 use Rattle.word.specs.Word.{identity}
 use Rattle.number.specs.Floats.{floats}
@@ -26,14 +26,16 @@ use Rattle.sums.specs.declared.sums.Added.the-variants as Put
 use Rattle.candidates.specs.Sums.{Row, putAll}
 use Rattle.candidates.specs.Log.{Rows, rows, candidateRows, putRows, answer, Holds}
 use Rattle.candidates.proofs.PutLaws.{strict, all-append, all-grow}
-use Rattle.model.specs.Given.{Term, Read, got, refused, refuseIf}
+use Rattle.model.specs.Terms.{Term}
+use Rattle.lent.specs.Read.{Read, got, refused, refuseIf}
 use Rattle.model.specs.Stored.{ModelTables}
 use Rattle.model.specs.declared.stored.Model.{Model}
 use Rattle.action.specs.Acts.{actionOf}
 use Rattle.passes.specs.declared.taken.Taken.the-variants.{Held, Refused}
 use Rattle.passes.specs.declared.pass.Pending.the-variants.{Open, NoRoom}
-use Rattle.passes.specs.Leaks.{outside, leaked, takenBy, leaksAt, heldAfter, noSums, logPlaces, ActionRoom, Opens, Took}
+use Rattle.passes.specs.Leaks.{outside, leaked, takenBy, leaksAt}
 use Rattle.passes.proofs.FlushLaws.{held-inside}
+use Rattle.passes.specs.Between.{heldAfter, noSums, logPlaces, ActionRoom, Opens, Took}
 
 abbrev wordOf : Row Word Float → Word
 wordOf r = r .word
@@ -186,7 +188,7 @@ module _ (touched : ℕ → ℕ) (leaks : ℕ → Rows) (sumRoom room : ℕ) whe
 
 -- ---- the entries that the log takes, and what one position adds to it
 pub log-long : (logWords : List ℕ) (logValues : List Float) (order work : List ℕ) (capacity : ℕ) → capacity ≡ logPlaces logWords logValues order work
-    → (4 * capacity ≤ length logWords) × (capacity ≤ length logValues) × (capacity ≤ length order) × (capacity ≤ length work)
+    → (wordLanes * capacity ≤ length logWords) × (capacity ≤ length logValues) × (capacity ≤ length order) × (capacity ≤ length work)
 log-long logWords logValues order work capacity e = (omega (arith, e), omega (arith, e), omega (arith, e), omega (arith, e))
 
 pub log-enough : (sumRoom : ℕ) (workWords : List ℕ) (workSums : List Float) (logWords : List ℕ) (logValues : List Float) (order work : List ℕ) (capacity : ℕ) → capacity ≡ logPlaces logWords logValues order work

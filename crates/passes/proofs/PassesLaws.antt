@@ -14,11 +14,12 @@ use Rattle.refusal.specs.declared.Refusal.{Refusal}
 use Rattle.candidates.specs.Log.{Rows, candidateRows}
 use Rattle.model.specs.Stored.{ModelTables}
 use Rattle.model.specs.declared.stored.Model.{Model}
-use Rattle.model.specs.Given.{Read, got, refused, onward}
-use Rattle.passes.specs.Leaks.{takenBy, ended, passSize, passCount, passes, ModelReady, ActionRoom, Holding, Took}
+use Rattle.lent.specs.Read.{Read, got, refused, onward}
+use Rattle.passes.specs.Leaks.{takenBy, ended, passSize, passCount, passes}
 use Rattle.passes.specs.declared.taken.Taken.{Taken}
 use Rattle.passes.specs.declared.taken.Taken.the-variants.{Held, Refused}
 use Rattle.passes.proofs.TookLaws.{took-held, took-refused}
+use Rattle.passes.specs.Between.{ModelReady, ActionRoom, Holding, Took}
 
 -- ---- tables that a pass has written keep their lengths, and so what is asked of them
 pub ready-still : (m : Model) (t : ModelTables) (hIndex jIndex mask mask′ : List ℕ) → ModelReady m t hIndex jIndex mask → length mask′ ≡ length mask → ModelReady m t hIndex jIndex mask′

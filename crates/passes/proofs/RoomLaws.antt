@@ -13,23 +13,27 @@ use lib.Ieee.{Float, nan}
 use lib.ListN.{length, getD, take, drop, replicate, length-map, length-replicate}
 use lib.Seq.{take-all, take-length, length-take-le, getD-take}
 use Rattle.refusal.specs.declared.Refusal.the-variants.{SumNotFinite}
+use Rattle.word.specs.Flat.{wordLanes}
 use Rattle.number.specs.Floats.{isFinite}
-use Rattle.order.specs.Magnitudes.{byMagnitude, AreFinite}
-use Rattle.keep.specs.Retained.{pick, flagged, Retains}
-use Rattle.keep.specs.Chosen.{flagOf, chosen, EachOnce}
+use Rattle.order.specs.Magnitudes.{byMagnitude}
+use Rattle.keep.specs.Retained.{pick, flagged}
+use Rattle.keep.specs.Chosen.{flagOf, chosen}
 use Rattle.keep.proofs.ChosenLaws.{walked-length, chosen-unfixed}
 use Rattle.keep.proofs.FlagLaws.{flagged-few}
 use Rattle.keep.proofs.PickLaws.{pick-length}
 use Rattle.candidates.specs.Log.{Rows, candidateRows}
 use Rattle.candidates.proofs.RowLaws.{table-long}
-use Rattle.model.specs.Given.{got, refused, refuseIf}
-use Rattle.model.specs.Tested.{firstTo}
-use Rattle.model.proofs.Firsts.{first-cong, first-before}
-use Rattle.truncate.specs.Tests.{notFinite}
+use Rattle.lent.specs.Read.{got, refused, refuseIf}
+use Rattle.lent.specs.Tests.{firstTo}
+use Rattle.lent.proofs.Firsts.{first-cong, first-before}
+use Rattle.lent.specs.Numbers.{notFinite}
 use Rattle.truncate.proofs.ChecksLaws.{front-finite}
 use Rattle.truncate.proofs.OrderOnce.{magnitude-once}
-use Rattle.passes.specs.Leaks.{sumsOf, largest, ended, Holding}
+use Rattle.passes.specs.Leaks.{sumsOf, largest, ended}
 use Rattle.passes.proofs.TableLaws.{table-sums, table-first, table-left, table-kept}
+use Rattle.passes.specs.Between.{Holding}
+use Rattle.order.specs.Between.{AreFinite}
+use Rattle.keep.specs.Between.{Retains, EachOnce}
 
 -- ---- flags for all, and for none
 pick-all : (ks : List ℕ) (T : Rows) → flagged ks ≡ length ks → length ks ≡ length T → pick ks T ≡ T
@@ -97,7 +101,7 @@ ended-count room T T′ e = go (ltb (firstTo (length T) (notFinite (sumsOf T))) 
     go false f = let z : largest room T ≡ T′ = cc in ap length (sym z) ∙ largest-count room T
 
 -- ---- in lent tables of exact lengths
-module _ (room : ℕ) (lanes : List ℕ) (sums : List Float) (each : length lanes ≡ 4 * length sums) where
+module _ (room : ℕ) (lanes : List ℕ) (sums : List Float) (each : length lanes ≡ wordLanes * length sums) where
   abbrev all : Rows
   all = candidateRows (length sums) lanes sums
 
@@ -131,17 +135,17 @@ module _ (n room : ℕ) (lanes : List ℕ) (sums : List Float) (h : Holding n n 
   pub kept-none : room ≡ 0 → (0 ≤ n) × (candidateRows 0 lanes sums ≡ largest room first)
   kept-none e = (omega arith, sym (largest-none room first e))
 
-  pub kept-some : (r : ℕ) (lanes′ : List ℕ) (sums′ : List Float) → length lanes′ ≡ length (take (n * 4) lanes) → length sums′ ≡ length (take n sums)
-      → (r ≤ length (take n sums)) × (candidateRows r lanes′ sums′ ≡ largest room (candidateRows (length (take n sums)) (take (n * 4) lanes) (take n sums)))
-      → (r ≤ n) × (candidateRows r (lanes′ ++ drop (n * 4) lanes) (sums′ ++ drop n sums) ≡ largest room first)
+  pub kept-some : (r : ℕ) (lanes′ : List ℕ) (sums′ : List Float) → length lanes′ ≡ length (take (n * wordLanes) lanes) → length sums′ ≡ length (take n sums)
+      → (r ≤ length (take n sums)) × (candidateRows r lanes′ sums′ ≡ largest room (candidateRows (length (take n sums)) (take (n * wordLanes) lanes) (take n sums)))
+      → (r ≤ n) × (candidateRows r (lanes′ ++ drop (n * wordLanes) lanes) (sums′ ++ drop n sums) ≡ largest room first)
   kept-some r lanes′ sums′ el es q =
-      let w : length (take (n * 4) lanes) ≡ n * 4 = length-take-le (n * 4) lanes (omega (arith, h .lanes-long)) in
+      let w : length (take (n * wordLanes) lanes) ≡ n * wordLanes = length-take-le (n * wordLanes) lanes (omega (arith, h .lanes-long)) in
       let l : length (take n sums) ≡ n = length-take-le n sums (h .sums-long) in
       let f : r ≤ n = omega (arith, q .0, l) in
       (f, table-left r n lanes lanes′ sums sums′ f (el ∙ w) (es ∙ l) ∙ q .1 ∙ rw (l, table-first n n lanes sums (omega arith)))
 
 -- ---- a pass's end
-module _ (n room : ℕ) (lanes : List ℕ) (sums : List Float) (hl : 4 * n ≤ length lanes) (hs : n ≤ length sums) (bad : ℕ) (is : bad ≡ firstTo n (notFinite sums)) where
+module _ (n room : ℕ) (lanes : List ℕ) (sums : List Float) (hl : wordLanes * n ≤ length lanes) (hs : n ≤ length sums) (bad : ℕ) (is : bad ≡ firstTo n (notFinite sums)) where
   abbrev held : Rows
   held = candidateRows n lanes sums
 

@@ -11,15 +11,16 @@ use lib.Dec.{eqb}
 use lib.Ieee.{Float}
 use lib.ListN.{length, take, drop}
 use lib.Seq.{take-take, take-at}
-use Rattle.word.specs.Flat.{words}
+use Rattle.word.specs.Flat.{words, wordLanes}
 use Rattle.word.specs.declared.word.Word.{Word}
 use Rattle.word.proofs.FlatLaws.{words-high}
-use Rattle.keep.specs.Retained.{pick, flagged, Retains}
+use Rattle.keep.specs.Retained.{pick, flagged}
 use Rattle.keep.proofs.RetainLaws.{retained-words}
 use Rattle.candidates.specs.Sums.{row}
 use Rattle.candidates.specs.Log.{Rows, rows, candidateRows}
 use Rattle.candidates.proofs.LogLaws.{first-entries}
 use Rattle.passes.specs.Leaks.{sumsOf}
+use Rattle.keep.specs.Between.{Retains}
 
 -- ---- sums
 rows-sums : (n : ℕ) (ws : List Word) (xs : List Float) → n ≤ length ws → n ≤ length xs → sumsOf (take n (rows ws xs)) ≡ take n xs
@@ -29,7 +30,7 @@ rows-sums (suc n) [] xs h l = absurd (omega arith)
 rows-sums (suc n) (w ∷ ws) [] h l = absurd (omega arith)
 rows-sums (suc n) (w ∷ ws) (x ∷ xs) h l = ap (λ (t : List Float). x ∷ t) (rows-sums n ws xs (omega arith) (omega arith))
 
-pub table-sums : (n : ℕ) (lanes : List ℕ) (sums : List Float) → 4 * n ≤ length lanes → n ≤ length sums → sumsOf (candidateRows n lanes sums) ≡ take n sums
+pub table-sums : (n : ℕ) (lanes : List ℕ) (sums : List Float) → wordLanes * n ≤ length lanes → n ≤ length sums → sumsOf (candidateRows n lanes sums) ≡ take n sums
 table-sums n lanes sums h l = rows-sums n (words lanes) sums (omega (arith, words-high lanes)) l
 
 -- ---- in the first places of longer lists
@@ -41,21 +42,21 @@ rows-first (suc n) [] xs = refl
 rows-first (suc n) (w ∷ ws) [] = refl
 rows-first (suc n) (w ∷ ws) (x ∷ xs) = ap (λ (t : Rows). row w x ∷ t) (rows-first n ws xs)
 
-pub table-first : (r n : ℕ) (lanes : List ℕ) (sums : List Float) → r ≤ n → candidateRows r (take (n * 4) lanes) (take n sums) ≡ candidateRows r lanes sums
+pub table-first : (r n : ℕ) (lanes : List ℕ) (sums : List Float) → r ≤ n → candidateRows r (take (n * wordLanes) lanes) (take n sums) ≡ candidateRows r lanes sums
 table-first r n lanes sums h =
-    let ws : List Word = words (take (n * 4) lanes) in
+    let ws : List Word = words (take (n * wordLanes) lanes) in
     ap (take r) (rows-first n ws sums)
     ∙ take-take r n (rows ws sums) h
     ∙ ap (take r) (first-entries n lanes sums)
     ∙ take-take r n (rows (words lanes) sums) h
 
 -- what a call leaves in them
-pub table-left : (r n : ℕ) (lanes lanes′ : List ℕ) (sums sums′ : List Float) → r ≤ n → length lanes′ ≡ n * 4 → length sums′ ≡ n
-    → candidateRows r (lanes′ ++ drop (n * 4) lanes) (sums′ ++ drop n sums) ≡ candidateRows r lanes′ sums′
+pub table-left : (r n : ℕ) (lanes lanes′ : List ℕ) (sums sums′ : List Float) → r ≤ n → length lanes′ ≡ n * wordLanes → length sums′ ≡ n
+    → candidateRows r (lanes′ ++ drop (n * wordLanes) lanes) (sums′ ++ drop n sums) ≡ candidateRows r lanes′ sums′
 table-left r n lanes lanes′ sums sums′ h el es =
-    let a : take (n * 4) (lanes′ ++ drop (n * 4) lanes) ≡ lanes′ = take-at lanes′ (drop (n * 4) lanes) (n * 4) el in
+    let a : take (n * wordLanes) (lanes′ ++ drop (n * wordLanes) lanes) ≡ lanes′ = take-at lanes′ (drop (n * wordLanes) lanes) (n * wordLanes) el in
     let b : take n (sums′ ++ drop n sums) ≡ sums′ = take-at sums′ (drop n sums) n es in
-    sym (table-first r n (lanes′ ++ drop (n * 4) lanes) (sums′ ++ drop n sums) h) ∙ rw (a, b)
+    sym (table-first r n (lanes′ ++ drop (n * wordLanes) lanes) (sums′ ++ drop n sums) h) ∙ rw (a, b)
 
 -- ---- kept by flags
 module _ (A : List Word) (B : List Float) where
@@ -75,7 +76,7 @@ module _ (A : List Word) (B : List Float) where
       go true m vs ys t e = e
       go false m vs ys t e = ap (λ (u : Rows). row w x ∷ u) e
 
-pub table-kept : (n : ℕ) (kept lanes : List ℕ) (sums : List Float) (r : ℕ) (lanes′ : List ℕ) (sums′ : List Float) → n ≤ length kept → 4 * n ≤ length lanes → n ≤ length sums
+pub table-kept : (n : ℕ) (kept lanes : List ℕ) (sums : List Float) (r : ℕ) (lanes′ : List ℕ) (sums′ : List Float) → n ≤ length kept → wordLanes * n ≤ length lanes → n ≤ length sums
     → Retains n kept lanes sums r lanes′ sums′ → candidateRows r lanes′ sums′ ≡ pick kept (candidateRows n lanes sums)
 table-kept n kept lanes sums r lanes′ sums′ k h l s =
     rw (s .words-left, s .numbers-left, s .answers, retained-words n kept lanes)

@@ -9,8 +9,8 @@ use native.Mathlib.Omega.{arith}
 use lib.Ieee.{Float}
 use Rattle.refusal.specs.declared.Refusal.{Refusal}
 use Rattle.candidates.specs.Log.{Rows, candidateRows}
-use Rattle.model.specs.Given.{Read, got, refused}
-use Rattle.passes.specs.Leaks.{Took}
+use Rattle.lent.specs.Read.{Read, got, refused}
+use Rattle.passes.specs.Between.{Took}
 use Rattle.passes.specs.declared.taken.Taken.the-variants.{Held, Refused}
 
 module _ (room : ℕ) (course : Read Rows) (lanes : List ℕ) (sums : List Float) where

@@ -3,3 +3,4 @@
 
 -- What leaks out of a basis: candidates, passes, the room rule, the list.
 pub mod Leaks
+pub mod Between

@@ -5,8 +5,9 @@
 ghost use mathlib.Core.Path.{_≡_};
 ghost use Prim.Native.Nat.{_*_, _≤_};
 ghost use lib.ListN.{length};
+ghost use Rattle.word.specs.Flat.{wordLanes};
 ghost use Rattle.candidates.specs.Log.{candidateRows, putRows, Holds};
-ghost use Rattle.passes.specs.Leaks.{Holding};
+ghost use Rattle.passes.specs.Between.{Holding};
 use candidates::merge::absorb;
 use sums::sums::Added;
 use word::flat::WORD_LANES;
@@ -42,7 +43,7 @@ pub fn flush(
     next_sums: &mut [f64],
 ) -> Added
     requires { ⌜ Holding room n (now words) (now sums) × Holding room 0 (now «next_words») (now «next_sums») ⌝ }
-    requires { ⌜ (4 * count ≤ length (now «log_words»)) × (count ≤ length (now «log_values»)) × (count ≤ length (now order)) × (count ≤ length (now work)) ⌝ }
+    requires { ⌜ (wordLanes * count ≤ length (now «log_words»)) × (count ≤ length (now «log_values»)) × (count ≤ length (now order)) × (count ≤ length (now work)) ⌝ }
     ensures { λ r. ⌜ Holds room (putRows (candidateRows count (now («log_words» .entry)) (now («log_values» .entry))) (candidateRows n (now (words .entry)) (now (sums .entry)))) (now (words .exit)) (now (sums .exit)) r ⌝ }
 {
     let added = absorb(

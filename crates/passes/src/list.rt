@@ -5,13 +5,14 @@
 ghost use mathlib.Core.Path.{_≡_};
 ghost use Prim.Native.Nat.{_*_, _≤_};
 ghost use lib.ListN.{length, set};
-ghost use Rattle.word.specs.Flat.{layWord};
+ghost use Rattle.word.specs.Flat.{layWord, wordLanes};
 ghost use Rattle.candidates.specs.Log.{candidateRows};
-ghost use Rattle.model.specs.Laid.{laid};
-ghost use Rattle.passes.specs.Leaks.{isAbove, above, wordsOf, sumsOf, Holding};
+ghost use Rattle.lent.specs.Laid.{laid};
+ghost use Rattle.passes.specs.Leaks.{isAbove, above, wordsOf, sumsOf};
 use number::scalar::magnitude;
 use word::flat::set_word;
 use word::flat::word_at;
+ghost use Rattle.passes.specs.Between.{Holding};
 
 // Whether a sum is above the threshold in magnitude.
 fn is_above(x: f64, tau_add: f64) -> bool
@@ -48,7 +49,7 @@ pub fn list_above(
     out_words: &mut [u64],
     out_values: &mut [f64],
 )
-    requires { ⌜ Holding n n (now words) (now sums) × (4 * length (above «tau_add» (candidateRows n (now words) (now sums))) ≤ length (now «out_words»)) × (length (above «tau_add» (candidateRows n (now words) (now sums))) ≤ length (now «out_values»)) ⌝ }
+    requires { ⌜ Holding n n (now words) (now sums) × (wordLanes * length (above «tau_add» (candidateRows n (now words) (now sums))) ≤ length (now «out_words»)) × (length (above «tau_add» (candidateRows n (now words) (now sums))) ≤ length (now «out_values»)) ⌝ }
     ensures { λ _. ⌜ (now («out_words» .exit) ≡ laid layWord 0 (wordsOf (above «tau_add» (candidateRows n (now (words .entry)) (now (sums .entry))))) (now («out_words» .entry))) × (now («out_values» .exit) ≡ laid set 0 (sumsOf (above «tau_add» (candidateRows n (now (words .entry)) (now (sums .entry))))) (now («out_values» .entry))) ⌝ }
 {
     let mut place = 0;

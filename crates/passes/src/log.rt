@@ -6,13 +6,13 @@ ghost use mathlib.Core.Path.{_≡_};
 ghost use mathlib.Core.List.{_++_};
 ghost use Prim.Native.Nat.{_+_, _*_, _≤_};
 ghost use lib.ListN.{length};
-ghost use Rattle.word.specs.Flat.{words};
+ghost use Rattle.word.specs.Flat.{words, wordLanes};
 ghost use Rattle.sums.specs.Sums as Terms;
 ghost use Rattle.candidates.specs.Log.{candidateRows};
-ghost use Rattle.slots.specs.Slots.{Slotted};
+ghost use Rattle.slots.specs.Between.{Slotted};
 ghost use Rattle.action.specs.Acts.{listed};
 ghost use Rattle.passes.specs.Leaks.{outside, leaked};
-use model::product::term_at;
+use model::term::term_at;
 use number::scalar::is_zero;
 use slots::has_word;
 use word::flat::set_word;
@@ -56,7 +56,7 @@ pub fn log_terms(
     log_values: &mut [f64],
     count: usize,
 ) -> usize
-    requires { ⌜ (4 * touched ≤ length (now «sum_words»)) × (2 * touched ≤ length (now sums)) × Slotted (words (now basis)) (now heads) (now nexts) × Slotted (words (now protected)) (now «fixed_heads») (now «fixed_nexts») × (4 * (count + touched) ≤ length (now «log_words»)) × (count + touched ≤ length (now «log_values»)) ⌝ }
+    requires { ⌜ (wordLanes * touched ≤ length (now «sum_words»)) × (2 * touched ≤ length (now sums)) × Slotted (words (now basis)) (now heads) (now nexts) × Slotted (words (now protected)) (now «fixed_heads») (now «fixed_nexts») × (wordLanes * (count + touched) ≤ length (now «log_words»)) × (count + touched ≤ length (now «log_values»)) ⌝ }
     ensures { λ r. ⌜ (r ≤ count + touched) × (candidateRows r (now («log_words» .exit)) (now («log_values» .exit)) ≡ candidateRows count (now («log_words» .entry)) (now («log_values» .entry)) ++ leaked (outside (words (now (basis .entry))) (words (now (protected .entry)))) c (listed (Terms.sumRows touched (now («sum_words» .entry)) (now (sums .entry))))) ⌝ }
 {
     let mut end = count;

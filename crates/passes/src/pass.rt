@@ -7,19 +7,20 @@
 ghost use mathlib.Core.Path.{_≡_};
 ghost use Prim.Native.Nat.{_*_, _≤_};
 ghost use lib.ListN.{length};
-ghost use Rattle.word.specs.Flat.{words as wordsIn};
-ghost use Rattle.order.specs.Merge.{AllBelow};
+ghost use Rattle.word.specs.Flat.{words as wordsIn, wordLanes};
+ghost use Rattle.order.specs.Between.{AllBelow};
 ghost use Rattle.candidates.specs.Log.{candidateRows, putRows};
-ghost use Rattle.model.specs.Stored.{tables};
-ghost use Rattle.passes.specs.Leaks.{takenBy, touchedAt, leaksAt, heldAfter, noSums, logPlaces, ModelReady, BasisReady, ActionRoom, Holding, Opens, Took};
+ghost use Rattle.model.specs.Between.{modelTables};
+ghost use Rattle.passes.specs.Between.{heldAfter, noSums, logPlaces, ModelReady, BasisReady, ActionRoom, Holding, Opens, Took};
+ghost use Rattle.passes.specs.Leaks.{takenBy, touchedAt, leaksAt};
 use crate::flush::flush;
 use crate::log::log_terms;
 use crate::taken::Taken;
-use action::act::SUMS_TABLE;
-use rules_by_index::near::put_rules_near;
+use lent::sizes::SUMS_TABLE;
+use lent::sizes::smaller;
 use model::stored::Model;
-use model::test::smaller;
 use refusal::Refusal;
+use rules_by_index::near::put_rules_near;
 use sums::sums::Added;
 use word::flat::WORD_LANES;
 use word::flat::word_at;
@@ -50,7 +51,7 @@ fn make_room(
     next_sums: &mut [f64],
 ) -> Pending
     requires { ⌜ Holding room n (now words) (now sums) × Holding room 0 (now «next_words») (now «next_sums») × (more ≤ capacity) × (count ≤ capacity) ⌝ }
-    requires { ⌜ (4 * capacity ≤ length (now «log_words»)) × (capacity ≤ length (now «log_values»)) × (capacity ≤ length (now order)) × (capacity ≤ length (now work)) ⌝ }
+    requires { ⌜ (wordLanes * capacity ≤ length (now «log_words»)) × (capacity ≤ length (now «log_values»)) × (capacity ≤ length (now order)) × (capacity ≤ length (now work)) ⌝ }
     ensures { λ r. ⌜ Opens room capacity more (putRows (candidateRows count (now («log_words» .entry)) (now («log_values» .entry))) (candidateRows n (now (words .entry)) (now (sums .entry)))) (now («log_words» .entry)) (now («log_values» .entry)) (now (words .exit)) (now (sums .exit)) r ⌝ }
 {
     if more <= capacity - count {
@@ -149,11 +150,11 @@ pub fn take_pass(
     next_words: &mut [u64],
     next_sums: &mut [f64],
 ) -> Taken
-    requires { ⌜ ModelReady m (tables (now «h_words») (now «h_coeffs») (now jumps) (now rates) (now «t_words») (now «t_numbers»)) (now «h_index») (now «j_index») (now mask) ⌝ }
+    requires { ⌜ ModelReady m (modelTables (now «h_words») (now «h_coeffs») (now jumps) (now rates) (now «t_words») (now «t_numbers»)) (now «h_index») (now «j_index») (now mask) ⌝ }
     requires { ⌜ BasisReady (m .qubits) (now basis) (now coeffs) (now heads) (now nexts) (now protected) (now «fixed_heads») (now «fixed_nexts») × AllBelow (length (now coeffs)) (now positions) ⌝ }
     requires { ⌜ ActionRoom «sum_room» (now «work_words») (now «work_sums») (now «log_words») (now «log_values») (now order) (now work) ⌝ }
     requires { ⌜ Holding room n (now words) (now sums) × Holding room 0 (now «next_words») (now «next_sums») ⌝ }
-    ensures { λ r. ⌜ Took room (takenBy (touchedAt m (tables (now («h_words» .entry)) (now («h_coeffs» .entry)) (now (jumps .entry)) (now (rates .entry)) (now («t_words» .entry)) (now («t_numbers» .entry))) (wordsIn (now (basis .entry))) (now (coeffs .entry)) (wordsIn (now (protected .entry)))) (leaksAt m (tables (now («h_words» .entry)) (now («h_coeffs» .entry)) (now (jumps .entry)) (now (rates .entry)) (now («t_words» .entry)) (now («t_numbers» .entry))) (wordsIn (now (basis .entry))) (now (coeffs .entry)) (wordsIn (now (protected .entry)))) «sum_room» room (now (positions .entry)) (candidateRows n (now (words .entry)) (now (sums .entry)))) (now (words .exit)) (now (sums .exit)) r ⌝ }
+    ensures { λ r. ⌜ Took room (takenBy (touchedAt m (modelTables (now («h_words» .entry)) (now («h_coeffs» .entry)) (now (jumps .entry)) (now (rates .entry)) (now («t_words» .entry)) (now («t_numbers» .entry))) (wordsIn (now (basis .entry))) (now (coeffs .entry)) (wordsIn (now (protected .entry)))) (leaksAt m (modelTables (now («h_words» .entry)) (now («h_coeffs» .entry)) (now (jumps .entry)) (now (rates .entry)) (now («t_words» .entry)) (now («t_numbers» .entry))) (wordsIn (now (basis .entry))) (now (coeffs .entry)) (wordsIn (now (protected .entry)))) «sum_room» room (now (positions .entry)) (candidateRows n (now (words .entry)) (now (sums .entry)))) (now (words .exit)) (now (sums .exit)) r ⌝ }
 {
     let capacity = log_places(log_words, log_values, order, work);
     let mut held = n;

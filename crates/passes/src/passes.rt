@@ -3,19 +3,19 @@
 
 // All passes of leakage over the positions of a basis, 4,096 to a pass. Without a position nothing is read, and
 // neither an index nor slots are asked for.
-ghost use mathlib.Core.Path.{_≡_};
 ghost use mathlib.Core.List.{[]};
 ghost use Prim.Native.Nat.{_≤_, _<_};
 ghost use lib.ListN.{length};
 ghost use Rattle.word.specs.Flat.{words as wordsIn};
-ghost use Rattle.order.specs.Merge.{AllBelow};
-ghost use Rattle.model.specs.Stored.{tables};
-ghost use Rattle.passes.specs.Leaks.{passes, passCount, touchedAt, leaksAt, ModelReady, BasisReady, ActionRoom, Holding, Took};
+ghost use Rattle.order.specs.Between.{AllBelow};
+ghost use Rattle.model.specs.Between.{modelTables};
+ghost use Rattle.passes.specs.Between.{ModelReady, BasisReady, ActionRoom, Holding, Took};
+ghost use Rattle.passes.specs.Leaks.{passes, passCount, touchedAt, leaksAt};
 use crate::pass::take_pass;
 use crate::room::end_pass;
 use crate::taken::Taken;
+use lent::sizes::smaller;
 use model::stored::Model;
-use model::test::smaller;
 
 pub const PASS_SIZE: usize = 4096;
 
@@ -53,11 +53,11 @@ pub fn run_passes(
     next_words: &mut [u64],
     next_sums: &mut [f64],
 ) -> Taken
-    requires { ⌜ (0 < length (now positions) → ModelReady m (tables (now «h_words») (now «h_coeffs») (now jumps) (now rates) (now «t_words») (now «t_numbers»)) (now «h_index») (now «j_index») (now mask)) ⌝ }
+    requires { ⌜ (0 < length (now positions) → ModelReady m (modelTables (now «h_words») (now «h_coeffs») (now jumps) (now rates) (now «t_words») (now «t_numbers»)) (now «h_index») (now «j_index») (now mask)) ⌝ }
     requires { ⌜ (0 < length (now positions) → BasisReady (m .qubits) (now basis) (now coeffs) (now heads) (now nexts) (now protected) (now «fixed_heads») (now «fixed_nexts») × AllBelow (length (now coeffs)) (now positions)) ⌝ }
     requires { ⌜ ActionRoom «sum_room» (now «work_words») (now «work_sums») (now «log_words») (now «log_values») (now order) (now work) ⌝ }
     requires { ⌜ Holding «candidate_room» 0 (now words) (now sums) × Holding «candidate_room» 0 (now «next_words») (now «next_sums») × («candidate_room» ≤ length (now order)) × («candidate_room» ≤ length (now work)) × («candidate_room» ≤ length (now kept)) ⌝ }
-    ensures { λ r. ⌜ Took «candidate_room» (passes (touchedAt m (tables (now («h_words» .entry)) (now («h_coeffs» .entry)) (now (jumps .entry)) (now (rates .entry)) (now («t_words» .entry)) (now («t_numbers» .entry))) (wordsIn (now (basis .entry))) (now (coeffs .entry)) (wordsIn (now (protected .entry)))) (leaksAt m (tables (now («h_words» .entry)) (now («h_coeffs» .entry)) (now (jumps .entry)) (now (rates .entry)) (now («t_words» .entry)) (now («t_numbers» .entry))) (wordsIn (now (basis .entry))) (now (coeffs .entry)) (wordsIn (now (protected .entry)))) «sum_room» «candidate_room» room (passCount (length (now (positions .entry)))) (now (positions .entry)) []) (now (words .exit)) (now (sums .exit)) r ⌝ }
+    ensures { λ r. ⌜ Took «candidate_room» (passes (touchedAt m (modelTables (now («h_words» .entry)) (now («h_coeffs» .entry)) (now (jumps .entry)) (now (rates .entry)) (now («t_words» .entry)) (now («t_numbers» .entry))) (wordsIn (now (basis .entry))) (now (coeffs .entry)) (wordsIn (now (protected .entry)))) (leaksAt m (modelTables (now («h_words» .entry)) (now («h_coeffs» .entry)) (now (jumps .entry)) (now (rates .entry)) (now («t_words» .entry)) (now («t_numbers» .entry))) (wordsIn (now (basis .entry))) (now (coeffs .entry)) (wordsIn (now (protected .entry)))) «sum_room» «candidate_room» room (passCount (length (now (positions .entry)))) (now (positions .entry)) []) (now (words .exit)) (now (sums .exit)) r ⌝ }
 {
     let mut held = 0;
     let mut from = 0;

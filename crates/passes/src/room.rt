@@ -5,16 +5,18 @@
 ghost use mathlib.Core.Path.{_≡_};
 ghost use Prim.Native.Nat.{_*_, _≤_};
 ghost use lib.ListN.{length, take};
-ghost use Rattle.order.specs.Magnitudes.{AreFinite};
+ghost use Rattle.word.specs.Flat.{wordLanes};
+ghost use Rattle.order.specs.Between.{AreFinite};
 ghost use Rattle.candidates.specs.Log.{candidateRows};
-ghost use Rattle.passes.specs.Leaks.{largest, ended, Holding, Took};
+ghost use Rattle.passes.specs.Leaks.{largest, ended};
 use crate::taken::Taken;
-use truncate::tests::first_not_finite;
-use refusal::Refusal;
-use sums::clear::clear_lanes;
 use keep::largest::choose_largest_of;
 use keep::retain::retain_in_place;
+use lent::clear::clear_lanes;
+use lent::numbers::first_not_finite;
+use refusal::Refusal;
 use word::flat::WORD_LANES;
+ghost use Rattle.passes.specs.Between.{Holding, Took};
 
 // Keeps the largest, ties to the lower word: how many stay. The tables are of exact lengths. The work table
 // is cleared and says that no candidate is fixed.
@@ -26,7 +28,7 @@ fn retain_largest(
     work: &mut [u64],
     kept: &mut [u64],
 ) -> usize
-    requires { ⌜ (length (now words) ≡ 4 * length (now sums)) × (length (now order) ≡ length (now sums)) × (length (now work) ≡ length (now sums)) × (length (now kept) ≡ length (now sums)) × AreFinite (now sums) ⌝ }
+    requires { ⌜ (length (now words) ≡ wordLanes * length (now sums)) × (length (now order) ≡ length (now sums)) × (length (now work) ≡ length (now sums)) × (length (now kept) ≡ length (now sums)) × AreFinite (now sums) ⌝ }
     ensures { λ r. ⌜ (r ≤ length (now (sums .entry))) × (candidateRows r (now (words .exit)) (now (sums .exit)) ≡ largest room (candidateRows (length (now (sums .entry))) (now (words .entry)) (now (sums .entry)))) ⌝ }
 {
     let n = sums.len();

@@ -12,7 +12,8 @@ use borrow.Author.Tests.{le-ltb}
 use lib.Dec.{ltb}
 use lib.Ieee.{Float}
 use lib.ListN.{length}
-use Rattle.model.specs.Tested.{whereAny}
+use Rattle.word.specs.Flat.{wordLanes}
+use Rattle.lent.specs.Tests.{whereAny}
 use Rattle.truncate.specs.Prunes.{pruneTests, capTests}
 use Rattle.truncate.specs.Admissions.{admitTests}
 use Rattle.pebblelinen.specs.Bases.{basisSizes}
@@ -56,21 +57,21 @@ module _ (entries protected listed : ℕ) (order work fixed kept : List ℕ) (a 
 
 -- ---- so the tests end alike
 module _ (len : ℕ) (lanes : List ℕ) (coeffs : List Float) (order work fixed kept order′ work′ fixed′ kept′ : List ℕ) where
-  module _ (protected : List ℕ) (listed : ℕ) (a : AtLeast (basisSizes len (length protected / 4) listed) order work fixed kept) (b : AtLeast (basisSizes len (length protected / 4) listed) order′ work′ fixed′ kept′) where
+  module _ (protected : List ℕ) (listed : ℕ) (a : AtLeast (basisSizes len (length protected / wordLanes) listed) order work fixed kept) (b : AtLeast (basisSizes len (length protected / wordLanes) listed) order′ work′ fixed′ kept′) where
     pub prune-enough : (n : ℕ) (tol : Float)
         → pruneTests len lanes coeffs order work fixed kept n protected tol ≡ pruneTests len lanes coeffs order′ work′ fixed′ kept′ n protected tol
     unfolding pruneTests
     prune-enough n tol =
-        let p = passes len (length protected / 4) listed order work fixed kept a in
-        let q = passes len (length protected / 4) listed order′ work′ fixed′ kept′ b in
+        let p = passes len (length protected / wordLanes) listed order work fixed kept a in
+        let q = passes len (length protected / wordLanes) listed order′ work′ fixed′ kept′ b in
         rw (p .order-entries, p .work-entries, p .fixed-entries, p .kept-entries, q .order-entries, q .work-entries, q .fixed-entries, q .kept-entries) refl
 
     pub cap-enough : (n limit : ℕ)
         → capTests len lanes coeffs order work fixed kept n protected limit ≡ capTests len lanes coeffs order′ work′ fixed′ kept′ n protected limit
     unfolding capTests
     cap-enough n limit =
-        let p = passes len (length protected / 4) listed order work fixed kept a in
-        let q = passes len (length protected / 4) listed order′ work′ fixed′ kept′ b in
+        let p = passes len (length protected / wordLanes) listed order work fixed kept a in
+        let q = passes len (length protected / wordLanes) listed order′ work′ fixed′ kept′ b in
         rw (p .order-entries, p .work-entries, p .fixed-entries, p .kept-entries, q .order-entries, q .work-entries, q .fixed-entries, q .kept-entries) refl
 
   module _ (list : List ℕ) (values : List Float) (protected : ℕ) (a : AtLeast (basisSizes len protected (length values)) order work fixed kept) (b : AtLeast (basisSizes len protected (length values)) order′ work′ fixed′ kept′) where

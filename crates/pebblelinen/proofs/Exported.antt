@@ -3,7 +3,7 @@
 
 -- What builders, actions, leakage, calls on a basis, generators, products and norms answer and leave in the lent tables, part by part. Assumes nothing.
 use mathlib.Core.Path.{_≡_, ap, _∙_}
-use Rattle.model.specs.Built.{Building}
+use Rattle.model_build.specs.Built.{Building}
 use Rattle.action.specs.Acts.{Acting}
 use Rattle.action.specs.Counts.{Counting}
 use Rattle.truncate.specs.Prunes.{Keeping}

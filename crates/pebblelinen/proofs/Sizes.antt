@@ -9,13 +9,14 @@ use Prim.Native.Nat.{ℕ, zero, suc, _+_, _*_, _≤_, min}
 use native.Mathlib.Omega.{arith}
 use lib.Ieee.{Float}
 use lib.ListN.{length, getD}
+use Rattle.word.specs.Flat.{wordLanes}
 use Rattle.model.specs.Stored.{ModelTables}
 use Rattle.model.specs.Tested.{maxHamiltonian, maxJumps}
-use Rattle.model.specs.Given.{maxTerms}
-use Rattle.model.specs.Built as Building
+use Rattle.model_build.specs.Given.{maxTerms}
+use Rattle.model_build.specs.Built as Building
 use Rattle.model.specs.declared.stored.Model.{Model}
-use Rattle.kossakowski.specs.Added.{operators, maxOperators}
-use Rattle.kossakowski.specs.Added as Adding
+use Rattle.k_matrix.specs.Added.{operators, maxOperators}
+use Rattle.k_matrix.specs.Added as Adding
 use Rattle.model_laws.specs.BuiltFrom.{builtFrom, ModelCounts, ModelRoom}
 use Rattle.model_laws.specs.AddedFrom.{addedFrom, MatrixCounts, MatrixRoom}
 use Rattle.model_laws.proofs.RoomLaws.{build-answer, add-answer}
@@ -70,7 +71,7 @@ model-own-enough n i t workWords workNumbers a =
 pub record Beyond (s : Sizes) (m : Model) (t : ModelTables) (workWords : List ℕ) (workNumbers : List Float) : Type 0 where
   pub jumps : 8 * m .jumps + s .jumps ≤ length (t .jumps)
   pub rates : m .jumps + s .rates ≤ length (t .rates)
-  pub t-words : 4 * m .terms + s .«t_words» ≤ length (t .tWords)
+  pub t-words : wordLanes * m .terms + s .«t_words» ≤ length (t .tWords)
   pub t-numbers : 2 * m .terms + s .«t_numbers» ≤ length (t .tNumbers)
   pub work-words : s .«work_words» ≤ length workWords
   pub work-numbers : s .«work_numbers» ≤ length workNumbers

@@ -16,15 +16,17 @@ use lib.ListN.{length}
 use Rattle.refusal.specs.declared.Refusal.the-variants.{CountAboveLimit}
 use Rattle.refusal.specs.declared.Answer.{Answer}
 use Rattle.refusal.specs.declared.Answer.the-variants.{Accepted, Refused}
+use Rattle.word.specs.Flat.{wordLanes}
 use Rattle.word.specs.Word.{maxQubits}
 use Rattle.model.specs.Stored.{ModelTables}
-use Rattle.model.specs.Tested.{counted, whereAny, testModel}
-use Rattle.model.specs.Built.{andThen}
+use Rattle.model.specs.Tested.{testModel}
+use Rattle.lent.specs.Tests.{counted, whereAny, andThen}
+use Rattle.lent.proofs.NeedLaws.{need-most}
+use Rattle.lent.specs.Words.{maxWords}
 use Rattle.model.specs.declared.stored.Model.{Model}
-use Rattle.model.proofs.NeedLaws.{need-most}
-use Rattle.model_laws.proofs.StandsLaws.{tested-stands}
+use Rattle.model.proofs.StandsLaws.{tested-stands}
 use Rattle.action.specs.Acts.{sumPlaces}
-use Rattle.action.specs.Counts.{maxWords, rowLanes}
+use Rattle.action.specs.Counts.{rowLanes}
 use Rattle.leakage.specs.Leakages as Leak
 use Rattle.leakage.specs.declared.limits.Limits.{Limits}
 use Rattle.generator.specs.Lent as Gen
@@ -47,7 +49,7 @@ counted-alike limit count {b} {c} h = go (ltb limit count) refl
     go false e = h (ltb-false limit count e)
 
 -- ---- places by lengths
-quarter : (k t : ℕ) {n : ℕ} → k ≤ t → 4 * t ≤ n → k ≤ n / 4
+quarter : (k t : ℕ) {n : ℕ} → k ≤ t → wordLanes * t ≤ n → k ≤ n / wordLanes
 quarter k t h m = omega arith
 
 half : (k t : ℕ) {n : ℕ} → k ≤ t → 2 * t ≤ n → k ≤ n / 2
@@ -116,14 +118,14 @@ module _ (qubits entries protected touched candidates : ℕ) (w : Leak.Work) (a 
       le-min (le-min (le-min (quarter candidates c e (a .cand-words)) (le-trans e (a .cand-sums))) (le-min (quarter candidates c e (a .next-words)) (le-trans e (a .next-sums)))) (le-min (le-min (le-trans l (a .place-order)) (le-trans l (a .place-work))) (le-trans e (a .place-kept)))
 
 pub leakage-enough : (m : Model) (t : ModelTables) (b : Leak.Basis) (l : Limits) (touched candidates : ℕ) (w w′ : Leak.Work)
-    → LeakageLent (leakageSizes (m .qubits) (b .len) (length (b .protected) / 4) touched candidates) w
-    → LeakageLent (leakageSizes (m .qubits) (b .len) (length (b .protected) / 4) touched candidates) w′
+    → LeakageLent (leakageSizes (m .qubits) (b .len) (length (b .protected) / wordLanes) touched candidates) w
+    → LeakageLent (leakageSizes (m .qubits) (b .len) (length (b .protected) / wordLanes) touched candidates) w′
     → Leak.leakTests m t b l w ≡ Leak.leakTests m t b l w′
 unfolding Leak.leakTests
 leakage-enough m t b l touched candidates w w′ x y =
-    then-alike (testModel m t) (λ e. counted-alike maxWords (b .len) (λ f. counted-alike maxWords (length (b .protected) / 4) (λ g.
+    then-alike (testModel m t) (λ e. counted-alike maxWords (b .len) (λ f. counted-alike maxWords (length (b .protected) / wordLanes) (λ g.
     let p = tested-stands m t e .qubits in
-    rw (work-accepted (m .qubits) (b .len) (length (b .protected) / 4) touched candidates w x p f g, work-accepted (m .qubits) (b .len) (length (b .protected) / 4) touched candidates w′ y p f g))))
+    rw (work-accepted (m .qubits) (b .len) (length (b .protected) / wordLanes) touched candidates w x p f g, work-accepted (m .qubits) (b .len) (length (b .protected) / wordLanes) touched candidates w′ y p f g))))
 
 -- ---- the generator and the matrix by rows
 pub record GeneratorLent (s : GeneratorSizes) (w : Gen.Work) : Type 0 where

@@ -8,7 +8,7 @@ use mathlib.Core.List.{List}
 use lib.Ieee.{Float}
 use Rattle.refusal.specs.Cause.{statusOf, answerStatus}
 use Rattle.refusal.specs.declared.Answer.the-variants.{Accepted}
-use Rattle.model.specs.Tested.{whereAny}
+use Rattle.lent.specs.Tests.{whereAny}
 use Rattle.truncate.specs.Prunes.{Keeping}
 use Rattle.truncate.specs.Admissions.{Admitting}
 use Rattle.truncate.specs.declared.kept.Kept.{Kept}

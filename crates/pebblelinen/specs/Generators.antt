@@ -6,9 +6,11 @@ use Prim.Native.Nat.{ℕ, _*_, min}
 use mathlib.Core.Path.{_≡_}
 use mathlib.Core.List.{List}
 use lib.Ieee.{Float}
+use Rattle.word.specs.Flat.{wordLanes}
 use Rattle.word.specs.Word.{maxQubits}
-use Rattle.model.specs.Tested.{whereAny}
-use Rattle.action.specs.Counts.{maxWords, rowLanes}
+use Rattle.lent.specs.Tests.{whereAny}
+use Rattle.lent.specs.Words.{maxWords}
+use Rattle.action.specs.Counts.{rowLanes}
 use Rattle.generator.specs.Lent.{Work}
 use Rattle.generator.specs.Generators.{Generating, CsrBuilding}
 use Rattle.pebblelinen.specs.Actions.{listedOf}
@@ -50,7 +52,7 @@ generatorSizes qubits words touched entries =
       mask = whereAny words rowLanes;
       heads = 2 * b;
       nexts = b;
-      «work_words» = 4 * t;
+      «work_words» = wordLanes * t;
       «work_sums» = 2 * t;
       «stage_rows» = e;
       «stage_columns» = e;

@@ -6,9 +6,11 @@ use Prim.Native.Nat.{ℕ, _*_, min, max}
 use mathlib.Core.Path.{_≡_}
 use mathlib.Core.List.{List}
 use lib.Ieee.{Float}
+use Rattle.word.specs.Flat.{wordLanes}
 use Rattle.word.specs.Word.{maxQubits}
-use Rattle.model.specs.Tested.{whereAny}
-use Rattle.action.specs.Counts.{maxWords, rowLanes}
+use Rattle.lent.specs.Tests.{whereAny}
+use Rattle.lent.specs.Words.{maxWords}
+use Rattle.action.specs.Counts.{rowLanes}
 use Rattle.leakage.specs.Leakages.{Leaking, Work}
 use Rattle.pebblelinen.specs.Actions.{listedOf}
 use Rattle.pebblelinen.specs.declared.actions.ListedWords.{ListedWords}
@@ -40,18 +42,18 @@ leakageSizes qubits entries protected touched candidates =
       «h_index» = rows;
       «j_index» = rows;
       mask = whereAny entries rowLanes;
-      «work_words» = 4 * t;
+      «work_words» = wordLanes * t;
       «work_sums» = 2 * t;
       order = e;
       heads = 2 * e;
       nexts = e;
       «fixed_heads» = 2 * p;
       «fixed_nexts» = p;
-      «log_words» = 4 * l;
+      «log_words» = wordLanes * l;
       «log_values» = l;
-      «cand_words» = 4 * c;
+      «cand_words» = wordLanes * c;
       «cand_sums» = c;
-      «next_words» = 4 * c;
+      «next_words» = wordLanes * c;
       «next_sums» = c;
       «place_order» = l;
       «place_work» = l;

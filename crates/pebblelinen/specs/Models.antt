@@ -8,16 +8,18 @@ use mathlib.Core.List.{List, [], _∷_}
 use lib.Ieee.{Float}
 use Rattle.refusal.specs.Cause.{statusOf, answerStatus}
 use Rattle.refusal.specs.declared.Answer.the-variants.{Accepted}
+use Rattle.word.specs.Flat.{wordLanes}
 use Rattle.model.specs.Stored.{ModelTables}
-use Rattle.model.specs.Given.{maxTerms}
-use Rattle.model.specs.Tested.{maxHamiltonian, maxJumps, whereAny}
-use Rattle.model.specs.Built.{workPlaces, Building}
-use Rattle.kossakowski.specs.Added.{maxOperators, workNeeded}
+use Rattle.model_build.specs.Given.{maxTerms}
+use Rattle.model.specs.Tested.{maxHamiltonian, maxJumps}
+use Rattle.model_build.specs.Built.{workPlaces, Building}
+use Rattle.k_matrix.specs.Added.{maxOperators, workNeeded}
 use Rattle.model.specs.declared.stored.Model.{Model}
-use Rattle.model.specs.declared.spec.Built.{Built}
-use Rattle.model.specs.declared.spec.Built.the-variants as Answers
+use Rattle.model_build.specs.declared.spec.Built.{Built}
+use Rattle.model_build.specs.declared.spec.Built.the-variants as Answers
 use Rattle.pebblelinen.specs.declared.models.BuiltModel.{BuiltModel}
 use Rattle.pebblelinen.specs.declared.models.Sizes.{Sizes}
+use Rattle.lent.specs.Tests.{whereAny}
 
 -- the model beside a refusal
 abbrev noModel : Model
@@ -35,17 +37,17 @@ pub record Leaves (b : Building) (r : BuiltModel) (t : ModelTables) (workWords :
   pub work-words : workWords ≡ b .workWords
   pub work-numbers : workNumbers ≡ b .workNumbers
 
--- the lengths of slices with so many places for Hamiltonian terms, for jumps and pairs, for terms and for work: a word is
--- four lanes, a complex number two numbers, an entry of the table of jumps and pairs eight
+-- the lengths of slices with so many places for Hamiltonian terms, for jumps and pairs, for terms and for work: a word has
+-- its lanes, a complex number two numbers, an entry of the table of jumps and pairs eight
 abbrev pub lengthsOf : ℕ → ℕ → ℕ → ℕ → Sizes
 lengthsOf hamiltonian jumps terms work = record {
-  «h_words» = 4 * hamiltonian;
+  «h_words» = wordLanes * hamiltonian;
   «h_coeffs» = hamiltonian;
   jumps = 8 * jumps;
   rates = jumps;
-  «t_words» = 4 * terms;
+  «t_words» = wordLanes * terms;
   «t_numbers» = 2 * terms;
-  «work_words» = 4 * work;
+  «work_words» = wordLanes * work;
   «work_numbers» = 2 * work;
 }
 

@@ -9,7 +9,6 @@ ghost use Rattle.pebblelinen.specs.Actions.{listedOf, LeavesList, counte
 use action::act::Acted;
 use action::count::Counted;
 use model::stored::Model;
-use refusal::Refusal;
 use refusal::Status;
 use word::word::Word;
 

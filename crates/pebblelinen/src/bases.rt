@@ -6,11 +6,10 @@ ghost use mathlib.Core.Path.{_≡_};
 ghost use Rattle.truncate.specs.Prunes.{prune, cap};
 ghost use Rattle.truncate.specs.Admissions.{admit};
 ghost use Rattle.pebblelinen.specs.Bases.{keptOf, LeavesBasis, LeavesAdmitted, basisSizes};
-use action::count::larger_count;
-use truncate::kept::Kept;
-use model::lengths::where_any;
-use refusal::Refusal;
+use lent::sizes::larger;
+use lent::tests::where_any;
 use refusal::Status;
+use truncate::kept::Kept;
 
 // How many entries the basis has; 0 where the status is a refusal.
 #[repr(C)]
@@ -142,8 +141,8 @@ pub extern "C" fn pebblelinen_basis_sizes(
 ) -> BasisSizes
     ensures { λ r. ⌜ r ≡ basisSizes entries protected listed ⌝ }
 {
-    let kept = larger_count(entries, listed);
-    let order = larger_count(kept, where_any(entries, protected));
+    let kept = larger(entries, listed);
+    let order = larger(kept, where_any(entries, protected));
     BasisSizes {
         order,
         work: order,

@@ -9,11 +9,12 @@ ghost use Rattle.pebblelinen.specs.Generators.{LeavesGenerator, LeavesCs
 use crate::actions::ListedWords;
 use crate::actions::listed_of;
 use crate::leakages::MAX_PLACES;
-use action::words::MAX_WORDS;
 use action::words::ROW_LANES;
-use model::lengths::where_any;
+use lent::sizes::smaller;
+use lent::tests::where_any;
+use lent::words::MAX_WORDS;
 use model::stored::Model;
-use model::test::smaller;
+use word::flat::WORD_LANES;
 use word::word::MAX_QUBITS;
 
 // A row and a column each of 65,536.
@@ -160,7 +161,7 @@ pub extern "C" fn pebblelinen_generator_sizes(
         mask: row,
         heads: 2 * b,
         nexts: b,
-        work_words: 4 * t,
+        work_words: WORD_LANES * t,
         work_sums: 2 * t,
         stage_rows: e,
         stage_columns: e,

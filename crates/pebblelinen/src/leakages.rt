@@ -7,13 +7,14 @@ ghost use Rattle.leakage.specs.Leakages.{workOf, basisOf, leak};
 ghost use Rattle.pebblelinen.specs.Leakages.{LeavesLeakage, leakageSizes};
 use crate::actions::ListedWords;
 use crate::actions::listed_of;
-use action::count::larger_count;
-use action::words::MAX_WORDS;
 use action::words::ROW_LANES;
 use leakage::limits::Limits;
-use model::lengths::where_any;
+use lent::sizes::larger;
+use lent::sizes::smaller;
+use lent::tests::where_any;
+use lent::words::MAX_WORDS;
 use model::stored::Model;
-use model::test::smaller;
+use word::flat::WORD_LANES;
 use word::word::MAX_QUBITS;
 
 // More places than any table of sums or candidates is lent.
@@ -134,23 +135,23 @@ pub extern "C" fn pebblelinen_leakage_sizes(
     let p = smaller(where_any(entries, protected), MAX_WORDS);
     let t = smaller(touched, MAX_PLACES);
     let c = smaller(candidates, MAX_PLACES);
-    let l = larger_count(t, c);
+    let l = larger(t, c);
     LeakageSizes {
         h_index: rows,
         j_index: rows,
         mask: row,
-        work_words: 4 * t,
+        work_words: WORD_LANES * t,
         work_sums: 2 * t,
         order: e,
         heads: 2 * e,
         nexts: e,
         fixed_heads: 2 * p,
         fixed_nexts: p,
-        log_words: 4 * l,
+        log_words: WORD_LANES * l,
         log_values: l,
-        cand_words: 4 * c,
+        cand_words: WORD_LANES * c,
         cand_sums: c,
-        next_words: 4 * c,
+        next_words: WORD_LANES * c,
         next_sums: c,
         place_order: l,
         place_work: l,

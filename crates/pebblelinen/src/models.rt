@@ -4,22 +4,22 @@
 // Models: built in lent tables, tested where one is lent, and the lengths that are enough.
 ghost use mathlib.Core.Path.{_≡_};
 ghost use Rattle.refusal.specs.Cause.{answerStatus};
-ghost use Rattle.model.specs.Built.{build};
+ghost use Rattle.model_build.specs.Built.{build};
 ghost use Rattle.model.specs.Tested.{testModel};
-ghost use Rattle.kossakowski.specs.Added.{add};
+ghost use Rattle.k_matrix.specs.Added.{add};
 ghost use Rattle.pebblelinen.specs.Models.{builtOf, Leaves, modelSizes, matrixSizes};
 use kossakowski::check::MAX_OPERATORS;
-use model::items::MAX_TERMS;
-use model::lengths::WORK_PLACES;
-use model::lengths::where_any;
-use model::product::SUM_PLACES;
-use model::spec::Built;
+use lent::sizes::smaller;
+use lent::tests::where_any;
 use model::stored::Model;
 use model::test::MAX_HAMILTONIAN;
 use model::test::MAX_JUMPS;
-use model::test::smaller;
-use refusal::Refusal;
+use model_build::items::MAX_TERMS;
+use model_build::lengths::WORK_PLACES;
+use model_build::spec::Built;
+use operator_product::product::SUM_PLACES;
 use refusal::Status;
+use word::flat::WORD_LANES;
 
 // A model that was built; all its counts are 0 where the status is a refusal.
 #[repr(C)]
@@ -72,7 +72,7 @@ pub extern "C" fn pebblelinen_build_model(
 ) -> BuiltModel
     ensures { λ r. ⌜ Leaves (build «n_qubits» (record { texts = now (texts .entry); lengths = now (lengths .entry); hNumbers = now («h_numbers» .entry); rates = now (given .entry); counts = now (counts .entry); numbers = now (numbers .entry) }) (record { hWords = now («h_words» .entry); hCoeffs = now («h_coeffs» .entry); jumps = now (jumps .entry); rates = now (rates .entry); tWords = now («t_words» .entry); tNumbers = now («t_numbers» .entry) }) (now («work_words» .entry)) (now («work_numbers» .entry))) r (record { hWords = now («h_words» .exit); hCoeffs = now («h_coeffs» .exit); jumps = now (jumps .exit); rates = now (rates .exit); tWords = now («t_words» .exit); tNumbers = now («t_numbers» .exit) }) (now («work_words» .exit)) (now («work_numbers» .exit)) ⌝ }
 {
-    built_of(model::spec::build_model(
+    built_of(model_build::spec::build_model(
         texts,
         lengths,
         h_numbers,
@@ -174,13 +174,13 @@ pub extern "C" fn pebblelinen_model_sizes(hamiltonian: usize, jumps: usize, term
     let places = j * (c + c * c);
     let work = where_any(j, WORK_PLACES);
     Sizes {
-        h_words: 4 * h,
+        h_words: WORD_LANES * h,
         h_coeffs: h,
         jumps: 8 * j,
         rates: j,
-        t_words: 4 * places,
+        t_words: WORD_LANES * places,
         t_numbers: 2 * places,
-        work_words: 4 * work,
+        work_words: WORD_LANES * work,
         work_numbers: 2 * work,
     }
 }
@@ -200,9 +200,9 @@ pub extern "C" fn pebblelinen_matrix_sizes(operators: usize, terms: usize) -> Si
         h_coeffs: 0,
         jumps: 8 * pairs,
         rates: pairs,
-        t_words: 4 * places,
+        t_words: WORD_LANES * places,
         t_numbers: 2 * places,
-        work_words: 4 * work,
+        work_words: WORD_LANES * work,
         work_numbers: 2 * work,
     }
 }

@@ -3,9 +3,8 @@
 
 // Pauli words: texts, codes, products and order.
 ghost use mathlib.Core.Path.{_≡_};
-ghost use Rattle.refusal.specs.Cause.{answerStatus};
 ghost use Rattle.word.specs.Text.{parse};
-ghost use Rattle.word.specs.Codes.{readCodes, writeAnswer, written};
+ghost use Rattle.word.specs.Codes.{readCodes};
 ghost use Rattle.word.specs.Product.{product, antiCommute, commutator};
 ghost use Rattle.word.specs.Order.{compare, same};
 ghost use Rattle.word.specs.Register.{share};

@@ -4,8 +4,8 @@
 -- The index of a model, item by item: the items so far, the words of a range so far. Assumes nothing.
 use mathlib.Core.Path.{_≡_, refl, sym, ap, _∙_, subst}
 use mathlib.Core.Bool.{Bool, true, false, _&&_}
-use mathlib.Core.List.{List, [], _∷_, _++_, map, map-append}
-use Prim.Native.Nat.{ℕ, zero, suc, _+_, _-_, _*_, _≤_, _<_}
+use mathlib.Core.List.{List, [], _∷_, _++_, map}
+use Prim.Native.Nat.{ℕ, suc, _+_, _-_, _*_, _≤_, _<_}
 use native.Mathlib.Omega.{arith}
 use borrow.Author.Tests.{ltb-true, leb-true, not-false}
 use lib.Dec.{ltb, leb}
@@ -13,7 +13,7 @@ use lib.Ieee.{Float}
 use lib.ListN.{length, getD, take, drop, replicate, length-drop}
 use lib.Seq.{take-suc, getD-drop}
 use Rattle.word.specs.Word.{identity}
-use Rattle.word.specs.Flat.{words}
+use Rattle.word.specs.Flat.{words, wordLanes}
 use Rattle.word.specs.declared.word.Word.{Word}
 use Rattle.word.proofs.FlatLaws.{words-high}
 use Rattle.index.specs.Index.{Indexed, Marks}
@@ -24,40 +24,9 @@ use Rattle.model.specs.declared.stored.Model.{Model}
 use Rattle.model.specs.declared.stored.Range.{Range}
 use Rattle.model.specs.declared.stored.Jump.{Jump}
 use Rattle.model.specs.declared.stored.Jump.the-variants.{Pauli, General, Pair}
-use Rattle.rules_by_scan.specs.Adds.{upTo}
+use Rattle.word.specs.Count.{upTo}
 use Rattle.rules_by_index.specs.Near.{wordsOf, jumpWords, ModelIndexed}
-
--- ---- a list by the numbers below n
-up-last : (k n : ℕ) → upTo k (suc n) ≡ upTo k n ++ ((k + n) ∷ [])
-unfolding upTo
-up-last k zero = let e : k ≡ k + 0 = omega arith in ap (λ (i : ℕ). i ∷ []) e
-up-last k (suc n) =
-    let e : suc k + n ≡ k + suc n = omega arith in
-    ap (λ (l : List ℕ). k ∷ l) (up-last (suc k) n ∙ ap (λ (i : ℕ). upTo (suc k) n ++ (i ∷ [])) e)
-
-module _ {A : Type 0} (f : ℕ → A) where
-  map-length : (k n : ℕ) → length (map f (upTo k n)) ≡ n
-  unfolding upTo
-  map-length k zero = refl
-  map-length k (suc n) = ap suc (map-length (suc k) n)
-
-  map-at : (k n j : ℕ) (d : A) → j < n → getD (map f (upTo k n)) j d ≡ f (k + j)
-  unfolding upTo
-  map-at k zero j d h = absurd (omega arith)
-  map-at k (suc n) zero d h = let e : k ≡ k + 0 = omega arith in ap f e
-  map-at k (suc n) (suc j) d h = let e : suc k + j ≡ k + suc j = omega arith in map-at (suc k) n j d (omega arith) ∙ ap f e
-
-  pub items-length : (n : ℕ) → length (map f (upTo 0 n)) ≡ n
-  items-length n = map-length 0 n
-
-  pub items-at : (n j : ℕ) (d : A) → j < n → getD (map f (upTo 0 n)) j d ≡ f j
-  items-at n j d h = let e : 0 + j ≡ j = omega arith in map-at 0 n j d h ∙ ap f e
-
-  items-next : (n : ℕ) → map f (upTo 0 (n + 1)) ≡ map f (upTo 0 n) ++ (f n ∷ [])
-  items-next n =
-      let e : n + 1 ≡ suc n = omega arith in
-      let z : 0 + n ≡ n = omega arith in
-      ap (λ (i : ℕ). map f (upTo 0 i)) e ∙ ap (map f) (up-last 0 n ∙ ap (λ (i : ℕ). upTo 0 n ++ (i ∷ [])) z) ∙ map-append f (upTo 0 n) (n ∷ [])
+use Rattle.word.proofs.CountLaws.{items-length, items-next}
 
 -- ---- the turns of a loop over the items
 module _ (n : ℕ) (f : ℕ → List Word) where
@@ -103,7 +72,7 @@ module _ (n j : ℕ) (lanes : List ℕ) (start end : ℕ) (index₀ : List ℕ) 
         sym (ap (λ (m : ℕ). take m (drop start (words lanes))) e ∙ take-suc (drop start (words lanes)) (i - start) identity k
         ∙ ap (λ (w : Word). take (i - start) (drop start (words lanes)) ++ (w ∷ [])) (getD-drop start (words lanes) (i - start) identity ∙ ap (λ (m : ℕ). getD (words lanes) m identity) f))
 
-    pub range-next : i < end → 4 * end ≤ length lanes → (w : Word) → w ≡ getD (words lanes) i identity → (index′ : List ℕ) → length index′ ≡ length index → Marks n j (w ∷ []) index index′ → State index′ (i + 1)
+    pub range-next : i < end → wordLanes * end ≤ length lanes → (w : Word) → w ≡ getD (words lanes) i identity → (index′ : List ℕ) → length index′ ≡ length index → Marks n j (w ∷ []) index index′ → State index′ (i + 1)
     range-next h long w e index′ l m =
         let W : List Word = take (i - start) (drop start (words lanes)) in
         record {
@@ -121,32 +90,32 @@ both : (a : Bool) {b : Bool} → (a && b) ≡ true → (a ≡ true) × (b ≡ tr
 both true h = (refl, h)
 both false h = let z : _≡_ {A = ℕ} 0 1 = cc in absurd (omega arith)
 
-module _ (places : ℕ) (lanes : List ℕ) (long : 4 * places ≤ length lanes) where
-  range-inside : (r : Range) → inside places r ≡ true → (r .start ≤ r .end) × (4 * r .end ≤ length lanes)
+module _ (places : ℕ) (lanes : List ℕ) (long : wordLanes * places ≤ length lanes) where
+  range-inside : (r : Range) → inside places r ≡ true → (r .start ≤ r .end) × (wordLanes * r .end ≤ length lanes)
   range-inside r h =
       let e = both (leb (r .start) (r .end)) h in
       (leb-true (r .start) (r .end) (e .0), omega (arith, leb-true (r .end) places (e .1)))
 
   module _ (jump : Jump) (good : badJump places jump ≡ false) where
-    pub term-inside : (rate : Float) (term : ℕ) → jump ≡ Pauli rate term → 4 * term + 4 ≤ length lanes
+    pub term-inside : (rate : Float) (term : ℕ) → jump ≡ Pauli rate term → wordLanes * term + wordLanes ≤ length lanes
     unfolding badJump
     term-inside rate term e =
         let h : badJump places (Pauli rate term) ≡ false = ap (badJump places) (sym e) ∙ good in
         omega (arith, ltb-true term places (both (ltb term places) (not-false _ h) .0))
 
-    pub terms-inside : (rate : Float) (terms product : Range) → jump ≡ General rate terms product → (terms .start ≤ terms .end) × (4 * terms .end ≤ length lanes)
+    pub terms-inside : (rate : Float) (terms product : Range) → jump ≡ General rate terms product → (terms .start ≤ terms .end) × (wordLanes * terms .end ≤ length lanes)
     unfolding badJump
     terms-inside rate terms product e =
         let h : badJump places (General rate terms product) ≡ false = ap (badJump places) (sym e) ∙ good in
         range-inside terms (both (inside places terms) (not-false _ h) .0)
 
-    pub left-inside : (left right : Range) (factors : ℕ) (product : Range) → jump ≡ Pair left right factors product → (left .start ≤ left .end) × (4 * left .end ≤ length lanes)
+    pub left-inside : (left right : Range) (factors : ℕ) (product : Range) → jump ≡ Pair left right factors product → (left .start ≤ left .end) × (wordLanes * left .end ≤ length lanes)
     unfolding badJump
     left-inside left right factors product e =
         let h : badJump places (Pair left right factors product) ≡ false = ap (badJump places) (sym e) ∙ good in
         range-inside left (both (inside places left) (not-false _ h) .0)
 
-    pub right-inside : (left right : Range) (factors : ℕ) (product : Range) → jump ≡ Pair left right factors product → (right .start ≤ right .end) × (4 * right .end ≤ length lanes)
+    pub right-inside : (left right : Range) (factors : ℕ) (product : Range) → jump ≡ Pair left right factors product → (right .start ≤ right .end) × (wordLanes * right .end ≤ length lanes)
     unfolding badJump
     right-inside left right factors product e =
         let h : badJump places (Pair left right factors product) ≡ false = ap (badJump places) (sym e) ∙ good in

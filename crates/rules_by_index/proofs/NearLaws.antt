@@ -26,19 +26,20 @@ use Rattle.index.proofs.Sharing.{united-shares, flagged-items, flagged-below}
 use Rattle.sums.specs.Numbers.{complexes}
 use Rattle.sums.specs.declared.sums.Added.{Added}
 use Rattle.sums.specs.Sums.{rows}
-use Rattle.model.specs.Given.{Term}
+use Rattle.model.specs.Terms.{Term}
+use Rattle.model.specs.Stands.{Stands}
 use Rattle.model.specs.Stored.{ModelTables, jumpAt}
 use Rattle.model.specs.Tested.{width}
 use Rattle.model.specs.declared.stored.Model.{Model}
 use Rattle.model.specs.declared.stored.Range.{Range}
 use Rattle.model.specs.declared.stored.Jump.{Jump}
 use Rattle.model.specs.declared.stored.Jump.the-variants.{Pauli, General, Pair}
-use Rattle.model_laws.specs.Stands.{Stands}
-use Rattle.rules_by_scan.specs.Adds.{upTo, realAt, realsIn, jumpsIn, op, jumpAdds, pairAdds, gatherJumps}
+use Rattle.rule_terms.specs.Adds.{realAt, realsIn, jumpsIn, op, jumpAdds, pairAdds, gatherJumps}
 use Rattle.rules_by_index.specs.Near.{wordsOf, jumpWords, ModelIndexed}
-use Rattle.rules_by_scan.specs.Sums.{PutsAll}
+use Rattle.rule_terms.specs.Sums.{PutsAll}
 use Rattle.rules_by_scan.proofs.ItemLaws.{each, realAdds, reals-each, jumps-each}
-use Rattle.rules_by_index.proofs.IndexLaws.{items-length, items-at}
+use Rattle.word.specs.Count.{upTo}
+use Rattle.word.proofs.CountLaws.{items-length, items-at}
 
 -- ---- what is gathered over the numbers that a test keeps, where the others add nothing
 each-keep : (g : ℕ → List Term) (t : ℕ → ℕ) (d k : ℕ) → ((j : ℕ) → k ≤ j → j < k + d → eqb (t j) 1 ≡ false → g j ≡ []) → each g (keep t (upFrom d k)) ≡ each g (upTo k d)

@@ -17,9 +17,9 @@ use Rattle.index.proofs.Cursors.{stepped, ended}
 use Rattle.index.proofs.Sharing.{step-below}
 use Rattle.sums.specs.declared.sums.Added.{Added}
 use Rattle.sums.specs.declared.sums.Added.the-variants.{Held, Full}
-use Rattle.model.specs.Given.{Term}
-use Rattle.rules_by_scan.specs.Sums.{SumsRoom, PutsAll}
-use Rattle.rules_by_scan.proofs.PutsLaws.{puts-nothing, puts-same, puts-room, puts-full, puts-more}
+use Rattle.model.specs.Terms.{Term}
+use Rattle.rule_terms.specs.Sums.{SumsRoom, PutsAll}
+use Rattle.rule_terms.proofs.PutsLaws.{puts-nothing, puts-same, puts-room, puts-full, puts-more}
 use Rattle.rules_by_scan.proofs.ItemLaws.{each}
 
 each-append : (g : ℕ → List Term) (A B : List ℕ) → each g (A ++ B) ≡ each g A ++ each g B

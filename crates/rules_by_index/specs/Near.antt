@@ -1,7 +1,7 @@
 -- SPDX-FileCopyrightText: 2026 The PPVM Authors
 -- SPDX-License-Identifier: Apache-2.0
 
--- The index of a model: the words of its items, by which those that share a qubit with a word are found.
+-- Contracts between functions: the index of a model, the words of its items, by which those that share a qubit with a word are found.
 use mathlib.Core.List.{List, [], _∷_, _++_, map}
 use Prim.Native.Nat.{ℕ}
 use lib.Ieee.{Float}
@@ -16,7 +16,7 @@ use Rattle.model.specs.declared.stored.Model.{Model}
 use Rattle.model.specs.declared.stored.Range.{Range}
 use Rattle.model.specs.declared.stored.Jump.{Jump}
 use Rattle.model.specs.declared.stored.Jump.the-variants.{Pauli, General, Pair}
-use Rattle.rules_by_scan.specs.Adds.{upTo}
+use Rattle.word.specs.Count.{upTo}
 
 -- the words of a range of the terms table
 abbrev pub wordsOf : List ℕ → Range → List Word

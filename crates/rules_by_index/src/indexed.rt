@@ -7,21 +7,22 @@ ghost use mathlib.Core.Path.{_≡_};
 ghost use mathlib.Core.Bool.{false};
 ghost use Prim.Native.Nat.{ℕ, _*_, _≤_, _<_};
 ghost use lib.ListN.{length};
+ghost use Rattle.word.specs.Flat.{wordLanes};
 ghost use Rattle.index.specs.Index.{Indexed, Marks};
 ghost use Rattle.model.specs.Stored.{ModelTables, jumpAt};
 ghost use Rattle.model.specs.Tested.{badJump};
 ghost use Rattle.rules_by_index.specs.Near.{wordsOf, jumpWords, realItems, jumpItems, ModelIndexed};
 use index::mark_word;
+use lent::clear::clear_lanes;
 use model::stored::Jump;
 use model::stored::Model;
 use model::stored::Range;
 use model::stored::jump_at;
-use sums::clear::clear_lanes;
 use word::flat::word_at;
 
 // Adds the words of a range of the terms table to item j.
 fn mark_range(index: &mut [u64], n: usize, j: usize, t_words: &[u64], range: Range)
-    requires { ⌜ (64 * n ≤ length (now index)) × (j < 4096) × (range .start ≤ range .end) × (4 * range .end ≤ length (now «t_words»)) ⌝ }
+    requires { ⌜ (64 * n ≤ length (now index)) × (j < 4096) × (range .start ≤ range .end) × (wordLanes * range .end ≤ length (now «t_words»)) ⌝ }
     ensures { λ _. ⌜ Marks n j (wordsOf (now («t_words» .entry)) range) (now (index .entry)) (now (index .exit)) ⌝ }
 {
     let end = range.end;
@@ -35,7 +36,7 @@ fn mark_range(index: &mut [u64], n: usize, j: usize, t_words: &[u64], range: Ran
 
 // Adds the words of a jump or a pair, whose ranges lie inside a terms table of so many places.
 fn mark_jump(index: &mut [u64], n: usize, j: usize, jump: Jump, t_words: &[u64], places: usize)
-    requires { ⌜ (64 * n ≤ length (now index)) × (j < 4096) × (badJump places jump ≡ false) × (4 * places ≤ length (now «t_words»)) ⌝ }
+    requires { ⌜ (64 * n ≤ length (now index)) × (j < 4096) × (badJump places jump ≡ false) × (wordLanes * places ≤ length (now «t_words»)) ⌝ }
     ensures { λ _. ⌜ Marks n j (jumpWords (now («t_words» .entry)) jump) (now (index .entry)) (now (index .exit)) ⌝ }
 {
     match jump {
@@ -64,7 +65,7 @@ fn mark_jump(index: &mut [u64], n: usize, j: usize, jump: Jump, t_words: &[u64],
 
 // The index of the Hamiltonian terms.
 pub fn index_reals(index: &mut [u64], n: usize, h_words: &[u64], count: usize)
-    requires { ⌜ (64 * n ≤ length (now index)) × (count ≤ 4096) × (4 * count ≤ length (now «h_words»)) ⌝ }
+    requires { ⌜ (64 * n ≤ length (now index)) × (count ≤ 4096) × (wordLanes * count ≤ length (now «h_words»)) ⌝ }
     ensures { λ _. ⌜ Indexed n (realItems (now («h_words» .entry)) count) (now (index .exit)) ⌝ }
 {
     clear_lanes(index);
@@ -86,7 +87,7 @@ pub fn index_jumps(
     t_words: &[u64],
     places: usize,
 )
-    requires { ⌜ (64 * n ≤ length (now index)) × (count ≤ 4096) × (8 * count ≤ length (now jumps)) × (count ≤ length (now rates)) × (4 * places ≤ length (now «t_words»)) × ((j : ℕ) → j < count → badJump places (jumpAt (now jumps) (now rates) j) ≡ false) ⌝ }
+    requires { ⌜ (64 * n ≤ length (now index)) × (count ≤ 4096) × (8 * count ≤ length (now jumps)) × (count ≤ length (now rates)) × (wordLanes * places ≤ length (now «t_words»)) × ((j : ℕ) → j < count → badJump places (jumpAt (now jumps) (now rates) j) ≡ false) ⌝ }
     ensures { λ _. ⌜ Indexed n (jumpItems (now (jumps .entry)) (now (rates .entry)) (now («t_words» .entry)) count) (now (index .exit)) ⌝ }
 {
     clear_lanes(index);
@@ -109,7 +110,7 @@ pub fn index_model(
     t_words: &[u64],
     words: usize,
 )
-    requires { ⌜ (0 < words → (64 * m .qubits ≤ length (now «h_index»)) × (64 * m .qubits ≤ length (now «j_index»)) × (m .hamiltonian ≤ 4096) × (m .jumps ≤ 4096) × (4 * m .hamiltonian ≤ length (now «h_words»)) × (8 * m .jumps ≤ length (now jumps)) × (m .jumps ≤ length (now rates)) × (4 * m .terms ≤ length (now «t_words»)) × ((j : ℕ) → j < m .jumps → badJump (m .terms) (jumpAt (now jumps) (now rates) j) ≡ false)) ⌝ }
+    requires { ⌜ (0 < words → (64 * m .qubits ≤ length (now «h_index»)) × (64 * m .qubits ≤ length (now «j_index»)) × (m .hamiltonian ≤ 4096) × (m .jumps ≤ 4096) × (wordLanes * m .hamiltonian ≤ length (now «h_words»)) × (8 * m .jumps ≤ length (now jumps)) × (m .jumps ≤ length (now rates)) × (wordLanes * m .terms ≤ length (now «t_words»)) × ((j : ℕ) → j < m .jumps → badJump (m .terms) (jumpAt (now jumps) (now rates) j) ≡ false)) ⌝ }
     ensures { λ _. ⌜ (0 < words → (t : ModelTables) → (t .hWords ≡ now («h_words» .entry)) → (t .jumps ≡ now (jumps .entry)) → (t .rates ≡ now (rates .entry)) → (t .tWords ≡ now («t_words» .entry)) → ModelIndexed m t (now («h_index» .exit)) (now («j_index» .exit))) ⌝ }
 {
     if words == 0 {

@@ -10,28 +10,30 @@ ghost use mathlib.Core.List.{map};
 ghost use Prim.Native.Nat.{ℕ, _*_, _≤_, _<_};
 ghost use lib.ListN.{length};
 ghost use Rattle.refusal.specs.declared.Answer.the-variants.{Accepted};
+ghost use Rattle.word.specs.Flat.{wordLanes};
 ghost use Rattle.word.specs.Register.{reaches};
 ghost use Rattle.number.specs.Floats.{floats};
 ghost use Rattle.gksl.specs.Rules.{termsOver};
 ghost use Rattle.gksl.specs.Words.{pauli};
 ghost use Rattle.index.specs.Visit.{flagged, AllBelow};
-ghost use Rattle.model.specs.Stored.{ModelTables, tables, jumpAt};
+ghost use Rattle.model.specs.Stored.{ModelTables, jumpAt};
 ghost use Rattle.model.specs.Tested.{testModel, badJump};
-ghost use Rattle.rules_by_scan.specs.Adds.{realAt, jumpAdds, pairAdds, gatherJumps, rulesStored};
+ghost use Rattle.rule_terms.specs.Adds.{realAt, jumpAdds, pairAdds, gatherJumps, rulesStored};
 ghost use Rattle.rules_by_index.specs.Near.{ModelIndexed};
-ghost use Rattle.rules_by_scan.specs.Sums.{SumsRoom, PutsAll};
+ghost use Rattle.rule_terms.specs.Sums.{SumsRoom, PutsAll};
 use index::Next;
 use index::start;
 use index::step;
 use index::union_rows;
 use model::stored::Model;
 use model::stored::jump_at;
-use rules_by_scan::accumulate::put_hamiltonian;
+use rule_terms::accumulate::put_hamiltonian;
 use rules_by_scan::items::put_jump;
 use rules_by_scan::pairs::put_pair_entry;
 use sums::sums::Added;
 use word::flat::word_at;
 use word::word::Word;
+ghost use Rattle.model.specs.Between.{modelTables};
 
 // The Hamiltonian terms at the set bits of a mask, to no sums yet.
 fn put_reals_near(
@@ -44,7 +46,7 @@ fn put_reals_near(
     mask: &[u64],
     p: Word,
 ) -> Added
-    requires { ⌜ SumsRoom room 0 (now lanes) (now sums) × (4 * count ≤ length (now «h_words»)) × (count ≤ length (now «h_coeffs»)) × (64 ≤ length (now mask)) × AllBelow count (flagged (now mask) 0) ⌝ }
+    requires { ⌜ SumsRoom room 0 (now lanes) (now sums) × (wordLanes * count ≤ length (now «h_words»)) × (count ≤ length (now «h_coeffs»)) × (64 ≤ length (now mask)) × AllBelow count (flagged (now mask) 0) ⌝ }
     ensures { λ r. ⌜ ((t : ModelTables) → (t .hWords ≡ now («h_words» .entry)) → (t .hCoeffs ≡ now («h_coeffs» .entry)) → PutsAll room 0 (termsOver floats pauli (map (realAt t) (flagged (now (mask .entry)) 0)) p) (now (lanes .entry)) (now (sums .entry)) (now (lanes .exit)) (now (sums .exit)) r) ⌝ }
 {
     let mut held = 0;
@@ -80,7 +82,7 @@ fn put_jumps_near(
     mask: &[u64],
     p: Word,
 ) -> Added
-    requires { ⌜ SumsRoom room len (now lanes) (now sums) × (8 * count ≤ length (now jumps)) × (count ≤ length (now rates)) × (4 * places ≤ length (now «t_words»)) × (2 * places ≤ length (now «t_numbers»)) × ((j : ℕ) → j < count → badJump places (jumpAt (now jumps) (now rates) j) ≡ false) × (64 ≤ length (now mask)) × AllBelow count (flagged (now mask) 0) ⌝ }
+    requires { ⌜ SumsRoom room len (now lanes) (now sums) × (8 * count ≤ length (now jumps)) × (count ≤ length (now rates)) × (wordLanes * places ≤ length (now «t_words»)) × (2 * places ≤ length (now «t_numbers»)) × ((j : ℕ) → j < count → badJump places (jumpAt (now jumps) (now rates) j) ≡ false) × (64 ≤ length (now mask)) × AllBelow count (flagged (now mask) 0) ⌝ }
     ensures { λ r. ⌜ ((t : ModelTables) → (t .tWords ≡ now («t_words» .entry)) → (t .tNumbers ≡ now («t_numbers» .entry)) → PutsAll room len (gatherJumps (jumpAdds p t) (map (jumpAt (now (jumps .entry)) (now (rates .entry))) (flagged (now (mask .entry)) 0))) (now (lanes .entry)) (now (sums .entry)) (now (lanes .exit)) (now (sums .exit)) r) ⌝ }
 {
     let mut held = len;
@@ -115,7 +117,7 @@ fn put_pairs_near(
     mask: &[u64],
     p: Word,
 ) -> Added
-    requires { ⌜ SumsRoom room len (now lanes) (now sums) × (8 * count ≤ length (now jumps)) × (count ≤ length (now rates)) × (4 * places ≤ length (now «t_words»)) × (2 * places ≤ length (now «t_numbers»)) × ((j : ℕ) → j < count → badJump places (jumpAt (now jumps) (now rates) j) ≡ false) × (64 ≤ length (now mask)) × AllBelow count (flagged (now mask) 0) ⌝ }
+    requires { ⌜ SumsRoom room len (now lanes) (now sums) × (8 * count ≤ length (now jumps)) × (count ≤ length (now rates)) × (wordLanes * places ≤ length (now «t_words»)) × (2 * places ≤ length (now «t_numbers»)) × ((j : ℕ) → j < count → badJump places (jumpAt (now jumps) (now rates) j) ≡ false) × (64 ≤ length (now mask)) × AllBelow count (flagged (now mask) 0) ⌝ }
     ensures { λ r. ⌜ ((t : ModelTables) → (t .tWords ≡ now («t_words» .entry)) → (t .tNumbers ≡ now («t_numbers» .entry)) → PutsAll room len (gatherJumps (pairAdds p t) (map (jumpAt (now (jumps .entry)) (now (rates .entry))) (flagged (now (mask .entry)) 0))) (now (lanes .entry)) (now (sums .entry)) (now (lanes .exit)) (now (sums .exit)) r) ⌝ }
 {
     let mut held = len;
@@ -151,8 +153,8 @@ pub fn put_rules_near(
     mask: &mut [u64],
     p: Word,
 ) -> Added
-    requires { ⌜ SumsRoom room 0 (now lanes) (now sums) × (testModel m (tables (now «h_words») (now «h_coeffs») (now jumps) (now rates) (now «t_words») (now «t_numbers»)) ≡ Accepted) × ModelIndexed m (tables (now «h_words») (now «h_coeffs») (now jumps) (now rates) (now «t_words») (now «t_numbers»)) (now «h_index») (now «j_index») × (64 * m .qubits ≤ length (now «h_index»)) × (64 * m .qubits ≤ length (now «j_index»)) × (64 ≤ length (now mask)) × (reaches p (m .qubits) ≡ false) ⌝ }
-    ensures { λ r. ⌜ PutsAll room 0 (rulesStored m (tables (now («h_words» .entry)) (now («h_coeffs» .entry)) (now (jumps .entry)) (now (rates .entry)) (now («t_words» .entry)) (now («t_numbers» .entry))) p) (now (lanes .entry)) (now (sums .entry)) (now (lanes .exit)) (now (sums .exit)) r ⌝ }
+    requires { ⌜ SumsRoom room 0 (now lanes) (now sums) × (testModel m (modelTables (now «h_words») (now «h_coeffs») (now jumps) (now rates) (now «t_words») (now «t_numbers»)) ≡ Accepted) × ModelIndexed m (modelTables (now «h_words») (now «h_coeffs») (now jumps) (now rates) (now «t_words») (now «t_numbers»)) (now «h_index») (now «j_index») × (64 * m .qubits ≤ length (now «h_index»)) × (64 * m .qubits ≤ length (now «j_index»)) × (64 ≤ length (now mask)) × (reaches p (m .qubits) ≡ false) ⌝ }
+    ensures { λ r. ⌜ PutsAll room 0 (rulesStored m (modelTables (now («h_words» .entry)) (now («h_coeffs» .entry)) (now (jumps .entry)) (now (rates .entry)) (now («t_words» .entry)) (now («t_numbers» .entry))) p) (now (lanes .entry)) (now (sums .entry)) (now (lanes .exit)) (now (sums .exit)) r ⌝ }
 {
     let n = m.qubits;
     let reals = m.hamiltonian;

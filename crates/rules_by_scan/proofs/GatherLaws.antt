@@ -9,7 +9,7 @@ use native.Mathlib.Omega.{arith}
 use lib.Ieee.{Float}
 use lib.ListN.{length, take, drop}
 use lib.Seq.{take-add, drop-drop}
-use Rattle.word.specs.Flat.{words}
+use Rattle.word.specs.Flat.{words, wordLanes}
 use Rattle.number.specs.Floats.{floats}
 use Rattle.gksl.specs.Rules.{pairsOver, gatherOver}
 use Rattle.gksl.specs.Words.{pauli}
@@ -17,12 +17,11 @@ use Rattle.sums.specs.Numbers.{complexes}
 use Rattle.sums.specs.Sums.{rows}
 use Rattle.sums.specs.declared.sums.Added.{Added}
 use Rattle.sums.specs.declared.sums.Added.the-variants.{Held, Full}
-use Rattle.model.specs.Given.{Term}
-use Rattle.model.specs.Product.{termAt, termsIn, termsOf}
+use Rattle.model.specs.Terms.{Term, termAt, termsIn, termsOf}
+use Rattle.model.proofs.TermLaws.{terms-none, terms-more}
 use Rattle.model.specs.declared.stored.Range.{Range}
-use Rattle.model.proofs.WorkLaws.{terms-none, terms-more}
-use Rattle.rules_by_scan.specs.Sums.{SumsRoom, TermsRoom, PutsAll}
-use Rattle.rules_by_scan.proofs.PutsLaws.{puts-nothing, puts-same, puts-room, puts-full, puts-more}
+use Rattle.rule_terms.specs.Sums.{SumsRoom, TermsRoom, PutsAll}
+use Rattle.rule_terms.proofs.PutsLaws.{puts-nothing, puts-same, puts-room, puts-full, puts-more}
 
 -- ---- what is gathered from some terms, then more
 pub gather-append : (g : Term → List Term) (A B : List Term) → gatherOver floats pauli g (A ++ B) ≡ gatherOver floats pauli g A ++ gatherOver floats pauli g B
@@ -93,7 +92,7 @@ module _ (g : Term → List Term) (range : Range) (room len : ℕ) (lanes : List
         subst (λ (i : ℕ). PutsAll room len (Before i) lanes₀ sums₀ lanes′ sums′ (Held count)) e (t .puts)
 
     module _ (k : j < range .end) where
-      pub gather-term : (4 * j + 4 ≤ length lanes) × (2 * j + 2 ≤ length numbers)
+      pub gather-term : (wordLanes * j + wordLanes ≤ length lanes) × (2 * j + 2 ≤ length numbers)
       gather-term = (omega (arith, h .lanes-long), omega (arith, h .numbers-long))
 
       before-next : Before (j + 1) ≡ Before j ++ g (termAt lanes numbers j)

@@ -10,30 +10,27 @@ use native.Mathlib.Omega.{arith}
 use lib.Dec.{eqb}
 use lib.Ieee.{Float, neg}
 use lib.ListN.{length, getD}
-use Rattle.word.specs.Flat.{words}
+use Rattle.word.specs.Flat.{words, wordLanes}
 use Rattle.word.specs.Product.{phase, product}
-use Rattle.word.specs.Product as Words
 use Rattle.word.specs.Register.{share}
 use Rattle.word.specs.Word.{identity}
 use Rattle.word.specs.declared.word.Word.{Word}
 use Rattle.word.specs.declared.algebra.Phased.{Phased}
 use Rattle.word.proofs.WordLaws.{phase-lt}
-use Rattle.number.specs.Numbers.{Cx, mulC, negC, conjC, realC, unitC}
+use Rattle.number.specs.Numbers.{Cx, mulC, negC, realC}
 use Rattle.number.specs.Floats.{floats, float1, cx}
 use Rattle.number.specs.declared.scalar.Complex.{Complex}
 use Rattle.gksl.specs.Rules.{overlapsOver, pairsOver, gatherOver, signed}
 use Rattle.gksl.specs.Words.{pauli}
-use Rattle.model.specs.Given.{Term}
-use Rattle.model.specs.Product.{onto, termAt, termsIn, termsOf}
+use Rattle.model.specs.Terms.{Term, termAt, termsIn, termsOf}
+use Rattle.model.proofs.TermLaws.{onto-eq, terms-none, terms-more}
 use Rattle.model.specs.Stored.{ModelTables}
-use Rattle.model.specs.declared.product.Term as Stored
 use Rattle.model.specs.declared.stored.Range.{Range}
 use Rattle.model.specs.declared.stored.Jump.the-variants.{General}
-use Rattle.model.proofs.ProductLaws.{onto-eq}
-use Rattle.model.proofs.WorkLaws.{terms-none, terms-more}
-use Rattle.rules_by_scan.specs.Adds.{sandwich, dampen, jumpAdds}
-use Rattle.rules_by_scan.specs.Steps.{sandwichFrom}
+use Rattle.rule_terms.specs.Adds.{sandwich, dampen, jumpAdds}
+use Rattle.rule_terms.specs.Steps.{sandwichFrom}
 use Rattle.rules_by_scan.proofs.GatherLaws.{terms-parted, map-gathered}
+use Rattle.model.specs.Between.{onto}
 
 -- ---- sharing a qubit: none of the terms before place i does
 overlaps-append : (A B : List Term) (p : Word) → overlapsOver floats pauli (A ++ B) p ≡ overlapsOver floats pauli A p || overlapsOver floats pauli B p
@@ -58,7 +55,7 @@ pub record NoneBefore (lanes : List ℕ) (range : Range) (p : Word) (i : ℕ) : 
   pub high : i ≤ range .end
   pub none : (numbers : List Float) → 2 * range .end ≤ length numbers → overlapsOver floats pauli (termsIn lanes numbers (range .start) i) p ≡ false
 
-module _ (lanes : List ℕ) (range : Range) (p : Word) (order : range .start ≤ range .end) (long : 4 * range .end ≤ length lanes) where
+module _ (lanes : List ℕ) (range : Range) (p : Word) (order : range .start ≤ range .end) (long : wordLanes * range .end ≤ length lanes) where
   pub none-start : NoneBefore lanes range p (range .start)
   unfolding overlapsOver
   none-start = record {
@@ -93,23 +90,7 @@ module _ (lanes : List ℕ) (range : Range) (p : Word) (order : range .start ≤
           sym (ap (λ (l : List Term). overlapsOver floats pauli l p) (terms-parted lanes numbers (range .start) (i + 1) (range .end) (omega (arith, s .low)) (omega arith))
           ∙ overlaps-append A B p ∙ ap (λ (b : Bool). b || overlapsOver floats pauli B p) (next numbers h ∙ f))
 
--- ---- a sandwich
-pub sandwich-made : (a b : Stored.Term) (l : Phased) (g : Float) (r : Phased) (c m u t v n : Complex)
-    → r ≡ product (l .word) (b .word)
-    → cx c ≡ conjC floats (cx (a .number))
-    → cx m ≡ mulC floats (cx c) (cx (b .number))
-    → cx u ≡ unitC floats ((l .phase + r .phase) % 4)
-    → cx t ≡ mulC floats (cx m) (cx u)
-    → cx v ≡ realC floats g
-    → cx n ≡ mulC floats (cx t) (cx v)
-    → _≡_ {A = Term} (record { num = cx n; word = r .word }) (sandwichFrom l g (onto a) (onto b))
-unfolding sandwichFrom
-sandwich-made a b l g r c m u t v n hr hc hm hu ht hv hn =
-    onto-eq
-    (hn ∙ ap₂ (mulC floats) (ht ∙ ap₂ (mulC floats) (hm ∙ ap (λ (z : Cx floats). mulC floats z (cx (b .number))) hc) (hu ∙ ap (λ (q : Phased). unitC floats ((l .phase + q .phase) % 4)) hr)) hv)
-    (ap (λ (q : Phased). q .word) hr)
-
--- the sandwiches of a with each of B, by the product of a and p
+-- ---- the sandwiches of a with each of B, by the product of a and p
 pub sandwich-row : (a : Term) (p : Word) (l : Phased) (g : Float) (B : List Term) → l ≡ product (a .word) p → gatherOver floats pauli (λ b. sandwichFrom l g a b ∷ []) B ≡ map (sandwich p g a) B
 unfolding sandwichFrom sandwich
 sandwich-row a p l g B e = map-gathered (sandwichFrom l g a) B ∙ ap (λ (q : Phased). map (sandwichFrom q g a) B) e

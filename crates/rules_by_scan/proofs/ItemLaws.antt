@@ -13,7 +13,7 @@ use lib.Dec.{ltb, leb}
 use lib.Ieee.{Float, nan}
 use lib.ListN.{length, getD}
 use Rattle.word.specs.Word.{identity}
-use Rattle.word.specs.Flat.{words}
+use Rattle.word.specs.Flat.{words, wordLanes}
 use Rattle.word.specs.Product.{phase}
 use Rattle.word.specs.Product as Words
 use Rattle.word.specs.Register.{share}
@@ -24,15 +24,17 @@ use Rattle.gksl.specs.Rules.{termsOver, clashOver, factored}
 use Rattle.gksl.specs.Words.{pauli}
 use Rattle.sums.specs.declared.sums.Added.{Added}
 use Rattle.sums.specs.declared.sums.Added.the-variants.{Held, Full}
-use Rattle.model.specs.Given.{Term}
-use Rattle.model.specs.Stored.{ModelTables, tables, range, jumpAt}
+use Rattle.model.specs.Terms.{Term}
+use Rattle.model.specs.Stored.{ModelTables, range, jumpAt}
 use Rattle.model.specs.Tested.{inside, width, badJump}
 use Rattle.model.specs.declared.stored.Range.{Range}
 use Rattle.model.specs.declared.stored.Jump.{Jump}
 use Rattle.model.specs.declared.stored.Jump.the-variants.{Pauli, General, Pair}
-use Rattle.rules_by_scan.specs.Adds.{upTo, realAt, jumpAdds, gatherJumps}
-use Rattle.rules_by_scan.specs.Sums.{SumsRoom, TermsRoom, PutsAll}
-use Rattle.rules_by_scan.proofs.PutsLaws.{puts-nothing, puts-same, puts-room, puts-full, puts-more}
+use Rattle.word.specs.Count.{upTo}
+use Rattle.model.specs.Between.{modelTables}
+use Rattle.rule_terms.specs.Adds.{realAt, jumpAdds, gatherJumps}
+use Rattle.rule_terms.specs.Sums.{SumsRoom, TermsRoom, PutsAll}
+use Rattle.rule_terms.proofs.PutsLaws.{puts-nothing, puts-same, puts-room, puts-full, puts-more}
 
 -- ---- the numbers from k on, parted
 up-parted : (k m n : ℕ) → upTo k (m + n) ≡ upTo k m ++ upTo (k + m) n
@@ -143,7 +145,7 @@ reals-each t lanes coeffs p (k ∷ K) ew ec =
 
 -- ---- the jumps; of the tables they need only that of terms
 abbrev pub ofTerms : List ℕ → List Float → ModelTables
-ofTerms lanes numbers = tables [] [] [] [] lanes numbers
+ofTerms lanes numbers = modelTables [] [] [] [] lanes numbers
 
 module _ (p : Word) (t : ModelTables) (lanes : List ℕ) (numbers : List Float) (ew : t .tWords ≡ lanes) (en : t .tNumbers ≡ numbers) where
   pub pauli-adds : (j : Jump) (rate : Float) (term : ℕ) (w : Word) → j ≡ Pauli rate term → w ≡ getD (words lanes) term identity
@@ -174,14 +176,14 @@ both : (a : Bool) {b : Bool} → (a && b) ≡ true → (a ≡ true) × (b ≡ tr
 both true h = (refl, h)
 both false h = let z : _≡_ {A = ℕ} 0 1 = cc in absurd (omega arith)
 
-module _ (places : ℕ) (lanes : List ℕ) (numbers : List Float) (hl : 4 * places ≤ length lanes) (hn : 2 * places ≤ length numbers) where
+module _ (places : ℕ) (lanes : List ℕ) (numbers : List Float) (hl : wordLanes * places ≤ length lanes) (hn : 2 * places ≤ length numbers) where
   range-room : (r : Range) → inside places r ≡ true → TermsRoom r lanes numbers
   range-room r h =
       let e = both (leb (r .start) (r .end)) h in
       let b : r .end ≤ places = leb-true (r .end) places (e .1) in
       record { order = leb-true (r .start) (r .end) (e .0); lanes-long = omega (arith, b, hl); numbers-long = omega (arith, b, hn) }
 
-  pub pauli-room : (rate : Float) (term : ℕ) → badJump places (Pauli rate term) ≡ false → 4 * term + 4 ≤ length lanes
+  pub pauli-room : (rate : Float) (term : ℕ) → badJump places (Pauli rate term) ≡ false → wordLanes * term + wordLanes ≤ length lanes
   unfolding badJump
   pauli-room rate term h = omega (arith, ltb-true term places (both (ltb term places) (not-false _ h) .0), hl)
 

@@ -2,12 +2,10 @@
 -- SPDX-License-Identifier: Apache-2.0
 
 -- Laws of this crate.
-pub mod AddLaws
 pub mod GatherLaws
 pub mod GeneralLaws
 pub mod ItemLaws
 pub mod PairAdds
 pub mod PairFactors
 pub mod PairItems
-pub mod PutsLaws
 pub mod RuleLaws

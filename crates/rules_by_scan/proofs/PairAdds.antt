@@ -19,10 +19,10 @@ use Rattle.number.specs.Floats.{floats, float0, float2, cx}
 use Rattle.number.specs.declared.scalar.Complex.{Complex}
 use Rattle.gksl.specs.Rules.{signed, factored}
 use Rattle.gksl.specs.Words.{pauli}
-use Rattle.model.specs.Given.{Term}
-use Rattle.model.proofs.ProductLaws.{onto-eq}
-use Rattle.rules_by_scan.specs.Adds.{diagonal, bothSides, oneSide}
-use Rattle.rules_by_scan.proofs.AddLaws.{false-true, factored-none, factored-one}
+use Rattle.model.specs.Terms.{Term}
+use Rattle.model.proofs.TermLaws.{onto-eq}
+use Rattle.rule_terms.specs.Adds.{diagonal, bothSides, oneSide}
+use Rattle.rule_terms.proofs.AddLaws.{false-true, factored-none, factored-one}
 
 abbrev term : Cx floats → Word → Term
 term z w = record { num = z; word = w }

@@ -13,42 +13,27 @@ use lib.ListN.{length, take, drop}
 use lib.Seq.{take-take, drop-drop}
 use Rattle.word.specs.Product.{phase, product}
 use Rattle.word.specs.Product as Words
-use Rattle.word.specs.Flat.{words}
+use Rattle.word.specs.Flat.{words, wordLanes}
 use Rattle.word.specs.declared.word.Word.{Word}
 use Rattle.word.specs.declared.algebra.Phased.{Phased}
 use Rattle.number.specs.Numbers.{Cx, mulC, realC, unitC}
-use Rattle.number.specs.Floats.{floats, float2, cx}
-use Rattle.number.specs.declared.scalar.Complex.{Complex}
+use Rattle.number.specs.Floats.{floats, float2}
 use Rattle.gksl.specs.Rules.{gatherOver}
 use Rattle.gksl.specs.Words.{pauli}
 use Rattle.sums.specs.Numbers.{complexes}
 use Rattle.sums.specs.Sums.{rows}
 use Rattle.sums.specs.declared.sums.Added.{Added}
 use Rattle.sums.specs.declared.sums.Added.the-variants.{Held, Full}
-use Rattle.model.specs.Given.{Term}
-use Rattle.model.specs.Product.{termAt, termsIn, termsOf}
+use Rattle.model.specs.Terms.{Term, termAt, termsIn, termsOf}
+use Rattle.model.proofs.TermLaws.{terms-none, terms-more}
 use Rattle.model.specs.Tested.{width}
 use Rattle.model.specs.declared.stored.Range.{Range}
-use Rattle.model.proofs.ProductLaws.{onto-eq}
-use Rattle.model.proofs.WorkLaws.{terms-none, terms-more}
-use Rattle.rules_by_scan.specs.Adds.{folded, doubled, eachFactor}
-use Rattle.rules_by_scan.specs.Sums.{SumsRoom, TermsRoom, PutsAll}
+use Rattle.rule_terms.specs.Adds.{folded, doubled, eachFactor}
+use Rattle.rule_terms.specs.Sums.{SumsRoom, TermsRoom, PutsAll}
 use Rattle.rules_by_scan.proofs.GatherLaws.{terms-parted}
-use Rattle.rules_by_scan.proofs.PutsLaws.{puts-none, puts-same, puts-room, puts-full, puts-more}
+use Rattle.rule_terms.proofs.PutsLaws.{puts-none, puts-same, puts-room, puts-full, puts-more}
 
--- ---- one factor
-module _ (a p : Word) (left : Phased) (f : Term) (r : Phased) (u z : Complex) (hr : r ≡ product (left .word) (f .word)) (hu : cx u ≡ unitC floats ((left .phase + r .phase) % 4)) (hz : cx z ≡ mulC floats (f .num) (cx u)) (ha : left ≡ product a p) where
-  pub folded-is : _≡_ {A = Term} (record { num = cx z; word = r .word }) (folded p a f)
-  unfolding folded
-  folded-is =
-      let both : r ≡ product (Words.mul a p) (f .word) = hr ∙ ap (λ (k : Phased). product (k .word) (f .word)) ha in
-      onto-eq (hz ∙ ap (mulC floats (f .num)) (hu ∙ ap₂ (λ (k m : Phased). unitC floats ((k .phase + m .phase) % 4)) ha both)) (ap (λ (k : Phased). k .word) both)
-
-  pub doubled-is : (y : Complex) → cx y ≡ realC floats (mul binary64 float2 (z .re)) → _≡_ {A = Term} (record { num = cx y; word = r .word }) (doubled p a f)
-  unfolding doubled
-  doubled-is y hy = onto-eq (hy ∙ ap (λ (t : Term). realC floats (mul binary64 float2 (t .num .re))) folded-is) (ap (λ (t : Term). t .word) folded-is)
-
--- the same, from the product of the left word with p
+-- ---- one factor, from the product of the left word with p
 unfoldable pub byProduct : Bool → Phased → Term → Term
 byProduct double left f =
     let z : Cx floats = mulC floats (f .num) (unitC floats ((left .phase + phase (left .word) (f .word)) % 4)) in
@@ -109,7 +94,7 @@ pub record FactorsState (p : Word) (f : Word → Term → Term) (left : Range) (
   pub puts : PutsAll room len done lanes₀ sums₀ lanes′ sums′ (Held count)
 
 module _ (p : Word) (f : Word → Term → Term) (left : Range) (w factors room len : ℕ) (lanes : List ℕ) (numbers : List Float) (lanes₀ : List ℕ) (sums₀ : List Float) (s : SumsRoom room len lanes₀ sums₀) (h : TermsRoom left lanes numbers)
-    (hf : (4 * (factors + width left * w) ≤ length lanes) × (2 * (factors + width left * w) ≤ length numbers)) where
+    (hf : (wordLanes * (factors + width left * w) ≤ length lanes) × (2 * (factors + width left * w) ≤ length numbers)) where
   abbrev last : ℕ
   last = factors + width left * w
 
@@ -143,7 +128,7 @@ module _ (p : Word) (f : Word → Term → Term) (left : Range) (w factors room 
         (sym (append-nil (t .done)) ∙ ap (λ (l : List Term). t .done ++ eachFactor p f w l (termsIn lanes numbers place last)) (sym none) ∙ t .whole) (t .puts)
 
     module _ (k : i < left .end) where
-      pub factors-term : (4 * i + 4 ≤ length lanes) × (2 * i + 2 ≤ length numbers)
+      pub factors-term : (wordLanes * i + wordLanes ≤ length lanes) × (2 * i + 2 ≤ length numbers)
       factors-term = (omega (arith, h .lanes-long), omega (arith, h .numbers-long))
 
       one-less : (left .end - i) * w ≡ (left .end - (i + 1)) * w + w
@@ -172,7 +157,7 @@ module _ (p : Word) (f : Word → Term → Term) (left : Range) (w factors room 
           (take-row lanes numbers place w last row-ends) (drop-row lanes numbers place w last row-ends)
 
       -- the row of factors is inside the terms table
-      pub factors-row : (place ≤ place + w) × (4 * (place + w) ≤ length lanes) × (2 * (place + w) ≤ length numbers)
+      pub factors-row : (place ≤ place + w) × (wordLanes * (place + w) ≤ length lanes) × (2 * (place + w) ≤ length numbers)
       factors-row = (omega arith, omega (arith, row-ends, hf .0), omega (arith, row-ends, hf .1))
 
       module _ (A : List Term) (e : A ≡ row) (lanes″ : List ℕ) (sums″ : List Float) (r : Added) (q : PutsAll room count A lanes′ sums′ lanes″ sums″ r) where

@@ -13,14 +13,13 @@ use Rattle.word.specs.declared.word.Word.{Word}
 use Rattle.number.specs.Floats.{floats}
 use Rattle.gksl.specs.Rules.{gatherOver, overlapsOver}
 use Rattle.gksl.specs.Words.{pauli}
-use Rattle.model.specs.Given.{Term}
-use Rattle.model.specs.Product.{termsIn, termsOf}
+use Rattle.model.specs.Terms.{Term, termsIn, termsOf}
 use Rattle.model.specs.Stored.{ModelTables}
 use Rattle.model.specs.Tested.{width}
 use Rattle.model.specs.declared.stored.Range.{Range}
 use Rattle.model.specs.declared.stored.Jump.{Jump}
 use Rattle.model.specs.declared.stored.Jump.the-variants.{Pauli, General, Pair}
-use Rattle.rules_by_scan.specs.Adds.{folded, doubled, eachFactor, diagonal, bothSides, oneSide, pairAdds}
+use Rattle.rule_terms.specs.Adds.{folded, doubled, eachFactor, diagonal, bothSides, oneSide, pairAdds}
 use Rattle.rules_by_scan.proofs.ItemLaws.{ofTerms}
 
 -- ---- whether two ranges are one

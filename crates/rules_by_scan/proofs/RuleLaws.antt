@@ -13,12 +13,12 @@ use Rattle.gksl.specs.Rules.{termsOver}
 use Rattle.gksl.specs.Words.{pauli}
 use Rattle.sums.specs.declared.sums.Added.{Added}
 use Rattle.sums.specs.declared.sums.Added.the-variants.{Held, Full}
-use Rattle.model.specs.Given.{Term}
+use Rattle.model.specs.Terms.{Term}
 use Rattle.model.specs.Stored.{ModelTables}
 use Rattle.model.specs.declared.stored.Model.{Model}
-use Rattle.rules_by_scan.specs.Adds.{realsIn, jumpsIn, jumpAdds, pairAdds, gatherJumps, rulesStored}
-use Rattle.rules_by_scan.specs.Sums.{SumsRoom, PutsAll}
-use Rattle.rules_by_scan.proofs.PutsLaws.{puts-same, puts-room, puts-full, puts-more}
+use Rattle.rule_terms.specs.Adds.{realsIn, jumpsIn, jumpAdds, pairAdds, gatherJumps, rulesStored}
+use Rattle.rule_terms.specs.Sums.{SumsRoom, PutsAll}
+use Rattle.rule_terms.proofs.PutsLaws.{puts-same, puts-room, puts-full, puts-more}
 
 module _ (m : Model) (t : ModelTables) (p : Word) (room : ℕ) (lanes₀ : List ℕ) (sums₀ : List Float) (s : SumsRoom room 0 lanes₀ sums₀) where
   abbrev A : List Term

@@ -4,40 +4,38 @@
 // What a general jump adds for a word p, put to the sums of a lent table: the sandwiches of its terms,
 // then the words of L†L. Its terms, and those of L†L, stand in ranges of the terms table.
 ghost use mathlib.Core.Path.{_≡_};
-ghost use mathlib.Core.Bool.{cond};
 ghost use mathlib.Core.List.{List, map};
 ghost use Prim.Native.Nat.{_*_, _≤_, _<_};
-ghost use lib.Dec.{eqb};
 ghost use lib.Ieee.{Float, neg};
 ghost use lib.ListN.{length};
-ghost use Rattle.number.specs.Floats.{floats, float1};
+ghost use Rattle.word.specs.Flat.{wordLanes};
+ghost use Rattle.number.specs.Floats.{floats};
 ghost use Rattle.gksl.specs.Rules.{overlapsOver, pairsOver, gatherOver};
 ghost use Rattle.gksl.specs.Words.{pauli};
-ghost use Rattle.model.specs.Product.{onto, termsOf};
+ghost use Rattle.model.specs.Terms.{termsOf};
 ghost use Rattle.model.specs.Stored.{ModelTables};
 ghost use Rattle.model.specs.declared.stored.Jump.the-variants.{General};
-ghost use Rattle.rules_by_scan.specs.Adds.{sandwich, dampen, jumpAdds};
-ghost use Rattle.rules_by_scan.specs.Steps.{sandwichFrom};
-ghost use Rattle.rules_by_scan.specs.Sums.{SumsRoom, TermsRoom, PutsAll};
-use model::product::Term;
-use model::product::term_at;
+ghost use Rattle.rule_terms.specs.Adds.{sandwich, dampen, jumpAdds};
+ghost use Rattle.rule_terms.specs.Sums.{SumsRoom, TermsRoom, PutsAll};
 use model::stored::Range;
-use number::scalar::conj;
+use model::term::Term;
+use model::term::term_at;
 use number::scalar::mul;
 use number::scalar::neg;
-use number::scalar::phase_factor;
 use number::scalar::real;
+use rule_terms::terms::sandwich_term;
+use rule_terms::terms::sign_of;
 use sums::sums::Added;
 use sums::sums::put;
-use word::algebra::Phased;
 use word::algebra::pauli_mul;
 use word::flat::word_at;
 use word::word::Word;
 use word::word::shares_qubit;
+ghost use Rattle.model.specs.Between.{onto};
 
 // Whether a term in `range` shares a qubit with p.
 pub fn overlaps(words: &[u64], range: Range, p: Word) -> bool
-    requires { ⌜ (range .start ≤ range .end) × (4 * range .end ≤ length (now words)) ⌝ }
+    requires { ⌜ (range .start ≤ range .end) × (wordLanes * range .end ≤ length (now words)) ⌝ }
     ensures { λ r. ⌜ ((numbers : List Float) → (2 * range .end ≤ length numbers) → r ≡ overlapsOver floats pauli (termsOf (now (words .entry)) numbers range) p) ⌝ }
 {
     let end = range.end;
@@ -50,24 +48,6 @@ pub fn overlaps(words: &[u64], range: Range, p: Word) -> bool
         i += 1;
     }
     false
-}
-
-// The conjugate of a's number × b's number × i^phase × rate onto the product of a, p and b, where
-// `left` is that of a and p.
-fn sandwich_term(a: Term, left: Phased, b: Term, rate: f64) -> Term
-    requires { ⌜ left .phase < 4 ⌝ }
-    ensures { λ r. ⌜ onto r ≡ sandwichFrom left rate (onto a) (onto b) ⌝ }
-{
-    let half = left.word;
-    let right = b.word;
-    let whole = pauli_mul(half, right);
-    let word = whole.word;
-    let bare = mul(conj(a.number), b.number);
-    let turned = mul(bare, phase_factor(left.phase + whole.phase));
-    Term {
-        word,
-        number: mul(turned, real(rate)),
-    }
 }
 
 // The sandwiches of a with each term in `range`.
@@ -134,16 +114,6 @@ fn put_sandwiches(
         i += 1;
     }
     Added::Held(count)
-}
-
-// +1 at phase 0, −1 at phase 2.
-fn sign_of(phase: u32) -> f64
-    ensures { λ r. ⌜ r ≡ cond (eqb phase 0) float1 (neg float1) ⌝ }
-{
-    if phase == 0 {
-        return 1.0;
-    }
-    -1.0
 }
 
 // A term c of L†L: minus its number × rate × sign onto c·p, where phase is even.

@@ -8,21 +8,23 @@ ghost use mathlib.Core.Bool.{false};
 ghost use mathlib.Core.List.{map};
 ghost use Prim.Native.Nat.{ℕ, _*_, _≤_, _<_};
 ghost use lib.ListN.{length};
+ghost use Rattle.word.specs.Flat.{wordLanes};
 ghost use Rattle.number.specs.Floats.{floats};
 ghost use Rattle.gksl.specs.Rules.{termsOver};
 ghost use Rattle.gksl.specs.Words.{pauli};
 ghost use Rattle.model.specs.Stored.{ModelTables, jumpAt};
 ghost use Rattle.model.specs.Tested.{badJump};
-ghost use Rattle.rules_by_scan.specs.Adds.{upTo, realAt, jumpAdds, gatherJumps};
-ghost use Rattle.rules_by_scan.specs.Sums.{SumsRoom, PutsAll};
-use crate::accumulate::put_hamiltonian;
-use crate::accumulate::put_pauli;
+ghost use Rattle.rule_terms.specs.Adds.{realAt, jumpAdds, gatherJumps};
+ghost use Rattle.rule_terms.specs.Sums.{SumsRoom, PutsAll};
 use crate::general::put_general;
 use model::stored::Jump;
 use model::stored::jump_at;
+use rule_terms::accumulate::put_hamiltonian;
+use rule_terms::accumulate::put_pauli;
 use sums::sums::Added;
 use word::flat::word_at;
 use word::word::Word;
+ghost use Rattle.word.specs.Count.{upTo};
 
 // The Hamiltonian terms, to no sums yet.
 pub fn put_reals(
@@ -34,7 +36,7 @@ pub fn put_reals(
     count: usize,
     p: Word,
 ) -> Added
-    requires { ⌜ SumsRoom room 0 (now lanes) (now sums) × (4 * count ≤ length (now «h_words»)) × (count ≤ length (now «h_coeffs»)) ⌝ }
+    requires { ⌜ SumsRoom room 0 (now lanes) (now sums) × (wordLanes * count ≤ length (now «h_words»)) × (count ≤ length (now «h_coeffs»)) ⌝ }
     ensures { λ r. ⌜ ((t : ModelTables) → (t .hWords ≡ now («h_words» .entry)) → (t .hCoeffs ≡ now («h_coeffs» .entry)) → PutsAll room 0 (termsOver floats pauli (map (realAt t) (upTo 0 count)) p) (now (lanes .entry)) (now (sums .entry)) (now (lanes .exit)) (now (sums .exit)) r) ⌝ }
 {
     let mut held = 0;
@@ -64,7 +66,7 @@ pub fn put_jump(
     places: usize,
     p: Word,
 ) -> Added
-    requires { ⌜ SumsRoom room len (now lanes) (now sums) × (badJump places jump ≡ false) × (4 * places ≤ length (now «t_words»)) × (2 * places ≤ length (now «t_numbers»)) ⌝ }
+    requires { ⌜ SumsRoom room len (now lanes) (now sums) × (badJump places jump ≡ false) × (wordLanes * places ≤ length (now «t_words»)) × (2 * places ≤ length (now «t_numbers»)) ⌝ }
     ensures { λ r. ⌜ ((t : ModelTables) → (t .tWords ≡ now («t_words» .entry)) → (t .tNumbers ≡ now («t_numbers» .entry)) → PutsAll room len (jumpAdds p t jump) (now (lanes .entry)) (now (sums .entry)) (now (lanes .exit)) (now (sums .exit)) r) ⌝ }
 {
     match jump {
@@ -111,7 +113,7 @@ pub fn put_jumps(
     places: usize,
     p: Word,
 ) -> Added
-    requires { ⌜ SumsRoom room len (now lanes) (now sums) × (8 * count ≤ length (now jumps)) × (count ≤ length (now rates)) × (4 * places ≤ length (now «t_words»)) × (2 * places ≤ length (now «t_numbers»)) × ((j : ℕ) → j < count → badJump places (jumpAt (now jumps) (now rates) j) ≡ false) ⌝ }
+    requires { ⌜ SumsRoom room len (now lanes) (now sums) × (8 * count ≤ length (now jumps)) × (count ≤ length (now rates)) × (wordLanes * places ≤ length (now «t_words»)) × (2 * places ≤ length (now «t_numbers»)) × ((j : ℕ) → j < count → badJump places (jumpAt (now jumps) (now rates) j) ≡ false) ⌝ }
     ensures { λ r. ⌜ ((t : ModelTables) → (t .tWords ≡ now («t_words» .entry)) → (t .tNumbers ≡ now («t_numbers» .entry)) → PutsAll room len (gatherJumps (jumpAdds p t) (map (jumpAt (now (jumps .entry)) (now (rates .entry))) (upTo 0 count))) (now (lanes .entry)) (now (sums .entry)) (now (lanes .exit)) (now (sums .exit)) r) ⌝ }
 {
     let mut held = len;

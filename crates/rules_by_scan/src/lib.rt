@@ -2,7 +2,6 @@
 // SPDX-License-Identifier: Apache-2.0
 
 // The rules over what is stored: what each item of a model adds for a word, onto sums in word order.
-pub mod accumulate;
 pub mod general;
 pub mod items;
 pub mod pair;

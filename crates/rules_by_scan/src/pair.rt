@@ -13,23 +13,24 @@ ghost use Rattle.gksl.specs.Rules.{gatherOver};
 ghost use Rattle.gksl.specs.Words.{pauli};
 ghost use Rattle.model.specs.Stored.{range};
 ghost use Rattle.model.specs.Tested.{width};
-ghost use Rattle.model.specs.Product.{onto, termsIn, termsOf};
-ghost use Rattle.rules_by_scan.specs.Adds.{folded, doubled, eachFactor, diagonal, bothSides, oneSide};
-ghost use Rattle.rules_by_scan.specs.Sums.{SumsRoom, TermsRoom, PutsAll};
-use model::product::Term;
-use model::product::term_at;
+ghost use Rattle.model.specs.Terms.{termsIn, termsOf};
+ghost use Rattle.rule_terms.specs.Adds.{folded, doubled, eachFactor, diagonal, bothSides, oneSide};
+ghost use Rattle.rule_terms.specs.Sums.{SumsRoom, TermsRoom, PutsAll};
 use model::stored::Range;
+use model::term::Term;
+use model::term::term_at;
 use number::scalar::mul;
 use number::scalar::neg;
 use number::scalar::phase_factor;
 use number::scalar::real;
 use number::scalar::slight;
+use rule_terms::terms::factor_term;
 use sums::sums::Added;
 use sums::sums::put;
-use word::algebra::Phased;
 use word::algebra::comm_product;
 use word::algebra::pauli_mul;
 use word::word::Word;
+ghost use Rattle.model.specs.Between.{onto};
 
 // One word of a diagonal pair's product: minus its number × sign, where the phase is even.
 fn put_diagonal_term(
@@ -203,27 +204,6 @@ pub fn put_one(
         j += 1;
     }
     Added::Held(count)
-}
-
-// A factor f with p between the two words, where ap is the left word times p; twice its real part
-// where `double` says so.
-fn factor_term(ap: Phased, f: Term, double: bool) -> Term
-    requires { ⌜ ap .phase < 4 ⌝ }
-    ensures { λ r. ⌜ ((a : Word) → ((p : Word) → (ap ≡ product a p → onto r ≡ cond double (doubled p) (folded p) a (onto f)))) ⌝ }
-{
-    let left = ap.word;
-    let right = f.word;
-    let product = pauli_mul(left, right);
-    let word = product.word;
-    let turns = ap.phase + product.phase;
-    let z = mul(f.number, phase_factor(turns));
-    if double {
-        return Term {
-            word,
-            number: real(2.0 * z.re),
-        };
-    }
-    Term { word, number: z }
 }
 
 // The factors of one left word a, from place `start` to before `end`.

@@ -9,15 +9,16 @@ ghost use mathlib.Core.List.{_++_, map};
 ghost use Prim.Native.Nat.{ℕ, _+_, _*_, _≤_, _<_};
 ghost use lib.Dec.{eqb};
 ghost use lib.ListN.{length};
+ghost use Rattle.word.specs.Flat.{wordLanes};
 ghost use Rattle.number.specs.Floats.{floats};
 ghost use Rattle.gksl.specs.Rules.{gatherOver};
 ghost use Rattle.gksl.specs.Words.{pauli};
-ghost use Rattle.model.specs.Product.{termsIn, termsOf};
+ghost use Rattle.model.specs.Terms.{termsIn, termsOf};
 ghost use Rattle.model.specs.Stored.{ModelTables, range, jumpAt};
 ghost use Rattle.model.specs.Tested.{width, badJump};
 ghost use Rattle.model.specs.declared.stored.Jump.the-variants.{Pair};
-ghost use Rattle.rules_by_scan.specs.Adds.{folded, doubled, eachFactor, diagonal, bothSides, pairAdds, upTo, gatherJumps};
-ghost use Rattle.rules_by_scan.specs.Sums.{SumsRoom, TermsRoom, PutsAll};
+ghost use Rattle.rule_terms.specs.Adds.{folded, doubled, eachFactor, diagonal, bothSides, pairAdds, gatherJumps};
+ghost use Rattle.rule_terms.specs.Sums.{SumsRoom, TermsRoom, PutsAll};
 use crate::general::overlaps;
 use crate::pair::put_both;
 use crate::pair::put_diagonal;
@@ -28,6 +29,7 @@ use model::stored::Range;
 use model::stored::jump_at;
 use sums::sums::Added;
 use word::word::Word;
+ghost use Rattle.word.specs.Count.{upTo};
 
 // A diagonal pair: its factors, then the words of its product.
 fn put_folded(
@@ -195,7 +197,7 @@ pub fn put_pair_entry(
     places: usize,
     p: Word,
 ) -> Added
-    requires { ⌜ SumsRoom room len (now lanes) (now sums) × (badJump places jump ≡ false) × (4 * places ≤ length (now «t_words»)) × (2 * places ≤ length (now «t_numbers»)) ⌝ }
+    requires { ⌜ SumsRoom room len (now lanes) (now sums) × (badJump places jump ≡ false) × (wordLanes * places ≤ length (now «t_words»)) × (2 * places ≤ length (now «t_numbers»)) ⌝ }
     ensures { λ r. ⌜ ((t : ModelTables) → (t .tWords ≡ now («t_words» .entry)) → (t .tNumbers ≡ now («t_numbers» .entry)) → PutsAll room len (pairAdds p t jump) (now (lanes .entry)) (now (sums .entry)) (now (lanes .exit)) (now (sums .exit)) r) ⌝ }
 {
     match jump {
@@ -240,7 +242,7 @@ pub fn put_pairs(
     places: usize,
     p: Word,
 ) -> Added
-    requires { ⌜ SumsRoom room len (now lanes) (now sums) × (8 * count ≤ length (now jumps)) × (count ≤ length (now rates)) × (4 * places ≤ length (now «t_words»)) × (2 * places ≤ length (now «t_numbers»)) × ((j : ℕ) → j < count → badJump places (jumpAt (now jumps) (now rates) j) ≡ false) ⌝ }
+    requires { ⌜ SumsRoom room len (now lanes) (now sums) × (8 * count ≤ length (now jumps)) × (count ≤ length (now rates)) × (wordLanes * places ≤ length (now «t_words»)) × (2 * places ≤ length (now «t_numbers»)) × ((j : ℕ) → j < count → badJump places (jumpAt (now jumps) (now rates) j) ≡ false) ⌝ }
     ensures { λ r. ⌜ ((t : ModelTables) → (t .tWords ≡ now («t_words» .entry)) → (t .tNumbers ≡ now («t_numbers» .entry)) → PutsAll room len (gatherJumps (pairAdds p t) (map (jumpAt (now (jumps .entry)) (now (rates .entry))) (upTo 0 count))) (now (lanes .entry)) (now (sums .entry)) (now (lanes .exit)) (now (sums .exit)) r) ⌝ }
 {
     let mut held = len;

@@ -5,10 +5,10 @@
 // the Hamiltonian terms, then the jumps, then the pairs.
 ghost use mathlib.Core.Path.{_≡_};
 ghost use Rattle.refusal.specs.declared.Answer.the-variants.{Accepted};
-ghost use Rattle.model.specs.Stored.{tables};
+ghost use Rattle.model.specs.Between.{modelTables};
 ghost use Rattle.model.specs.Tested.{testModel};
-ghost use Rattle.rules_by_scan.specs.Adds.{rulesStored};
-ghost use Rattle.rules_by_scan.specs.Sums.{SumsRoom, PutsAll};
+ghost use Rattle.rule_terms.specs.Adds.{rulesStored};
+ghost use Rattle.rule_terms.specs.Sums.{SumsRoom, PutsAll};
 use crate::items::put_jumps;
 use crate::items::put_reals;
 use crate::pairs::put_pairs;
@@ -29,8 +29,8 @@ pub fn put_rules(
     t_numbers: &[f64],
     p: Word,
 ) -> Added
-    requires { ⌜ SumsRoom room 0 (now lanes) (now sums) × (testModel m (tables (now «h_words») (now «h_coeffs») (now jumps) (now rates) (now «t_words») (now «t_numbers»)) ≡ Accepted) ⌝ }
-    ensures { λ r. ⌜ PutsAll room 0 (rulesStored m (tables (now («h_words» .entry)) (now («h_coeffs» .entry)) (now (jumps .entry)) (now (rates .entry)) (now («t_words» .entry)) (now («t_numbers» .entry))) p) (now (lanes .entry)) (now (sums .entry)) (now (lanes .exit)) (now (sums .exit)) r ⌝ }
+    requires { ⌜ SumsRoom room 0 (now lanes) (now sums) × (testModel m (modelTables (now «h_words») (now «h_coeffs») (now jumps) (now rates) (now «t_words») (now «t_numbers»)) ≡ Accepted) ⌝ }
+    ensures { λ r. ⌜ PutsAll room 0 (rulesStored m (modelTables (now («h_words» .entry)) (now («h_coeffs» .entry)) (now (jumps .entry)) (now (rates .entry)) (now («t_words» .entry)) (now («t_numbers» .entry))) p) (now (lanes .entry)) (now (sums .entry)) (now (lanes .exit)) (now (sums .exit)) r ⌝ }
 {
     let reals = m.hamiltonian;
     let count = m.jumps;

@@ -18,7 +18,8 @@ use Rattle.word.specs.Word.{identity}
 use Rattle.word.specs.declared.word.Word.{Word}
 use Rattle.word.proofs.OrderLaws.{same-eq}
 use Rattle.order.specs.Places.{isAmong}
-use Rattle.slots.specs.Slots.{slotOf, lastIn, lastOf, Slotted}
+use Rattle.slots.specs.Slots.{lastOf}
+use Rattle.slots.specs.Between.{slotOf, lastIn, Slotted}
 
 -- ---- chains
 module _ (slots : ℕ) (ws : List Word) where

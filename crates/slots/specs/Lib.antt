@@ -3,3 +3,4 @@
 
 -- Places of words in a list, found by slots.
 pub mod Slots
+pub mod Between

@@ -7,16 +7,16 @@ ghost use mathlib.Core.Path.{_≡_};
 ghost use Prim.Native.Nat.{_*_, _≤_, _<_};
 ghost use lib.ListN.{length, getD};
 ghost use Rattle.word.specs.Word.{identity};
-ghost use Rattle.word.specs.Flat.{words};
+ghost use Rattle.word.specs.Flat.{wordLanes, words};
 ghost use Rattle.order.specs.Places.{isAmong};
-ghost use Rattle.slots.specs.Slots.{laneHash, wordHash, slotOf, lastOf, Slotted};
-use sums::clear::clear_lanes;
+ghost use Rattle.slots.specs.Slots.{lastOf};
+use lent::clear::clear_lanes;
 use word::flat::WORD_LANES;
 use word::flat::word_at;
+use word::hash::word_hash;
 use word::word::Word;
 use word::word::same_word;
-
-const HALF: u64 = 4_294_967_296;
+ghost use Rattle.slots.specs.Between.{slotOf, Slotted};
 
 // A list of so few words takes so many slots: enough for short chains, and a number that is known here,
 // so that finding a slot takes no division.
@@ -38,40 +38,21 @@ pub fn slots_for(places: usize, count: usize) -> usize
     FEW_SLOTS
 }
 
-fn lane_hash(a: u64, b: u64, lane: u64) -> u64
-    requires { ⌜ (a < 4294967296) × (b < 4294967296) ⌝ }
-    ensures { λ r. ⌜ r ≡ laneHash a b lane ⌝ }
-{
-    ((lane % HALF) * a) ^ ((lane / HALF) * b)
-}
-
-fn word_hash(w: Word) -> u64
-    ensures { λ r. ⌜ r ≡ wordHash w ⌝ }
-{
-    let x0 = lane_hash(0x9e37_79b1, 0x85eb_ca77, w.x[0]);
-    let x1 = lane_hash(0xc2b2_ae3d, 0x27d4_eb2f, w.x[1]);
-    let z0 = lane_hash(0x1656_67b1, 0xd3a2_646d, w.z[0]);
-    let z1 = lane_hash(0xfd70_46c5, 0xb55a_4f09, w.z[1]);
-    (x0 ^ x1) ^ (z0 ^ z1)
-}
-
 // The slot of a word.
 fn slot_of(w: Word, slots: usize) -> usize
     requires { ⌜ 0 < slots ⌝ }
     ensures { λ r. ⌜ r ≡ slotOf slots w ⌝ }
 {
-    let h = word_hash(w);
-    let folded = (h ^ (h / HALF)) % HALF;
-    let mixed = (folded * 0x9e37_79b1 / 1_048_576) as usize;
+    let h = word_hash(w) as usize;
     if slots == FEW_SLOTS {
-        return mixed % FEW_SLOTS;
+        return h % FEW_SLOTS;
     }
-    mixed % slots
+    h % slots
 }
 
 // Lays the chains of all words of a list; a place of nexts for each word, and at least as many slots.
 pub fn lay_slots(lanes: &[u64], heads: &mut [u64], nexts: &mut [u64])
-    requires { ⌜ (4 * length (now nexts) ≡ length (now lanes)) × (length (now nexts) ≤ length (now heads)) ⌝ }
+    requires { ⌜ (wordLanes * length (now nexts) ≡ length (now lanes)) × (length (now nexts) ≤ length (now heads)) ⌝ }
     ensures { λ _. ⌜ Slotted (words (now (lanes .entry))) (now (heads .exit)) (now (nexts .exit)) ⌝ }
 {
     clear_lanes(heads);

@@ -5,7 +5,6 @@
 -- NumberLaws: complex numbers in flat floats. SumLaws: tables in word order. Search: the place of a word.
 -- Filled, Gap: filling a list from the front, and moving elements up by one place. Cases: what `put` leaves.
 pub mod NumberLaws
-pub mod Filled
 pub mod Gap
 pub mod SumLaws
 pub mod Search

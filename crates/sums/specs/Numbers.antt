@@ -3,7 +3,6 @@
 
 -- The complex numbers that a flat list of floats holds: the real part, then the imaginary part, for each number in turn.
 use Prim.Native.Nat.{ℕ, _+_, _*_}
-use mathlib.Core.Path.{_≡_}
 use mathlib.Core.List.{List, [], _∷_}
 use lib.Ieee.{Float, nan}
 use lib.ListN.{set}
@@ -22,8 +21,3 @@ noNumber = record { re = nan; im = nan }
 -- the floats with a complex number laid at place i
 abbrev pub layNumber : List Float → ℕ → Cx floats → List Float
 layNumber l i z = set (set l (i * 2) (z .re)) (i * 2 + 1) (z .im)
-
--- what laying a number leaves: every float, and so the list of numbers
-pub record LaysNumber (l : List Float) (i : ℕ) (z : Cx floats) (after : List Float) : Type 0 where
-  pub floats-are : after ≡ layNumber l i z
-  pub list : complexes after ≡ set (complexes l) i z

@@ -3,6 +3,5 @@
 
 // Lent tables: words with complex sums beside them, in word order. The layers above see a list of
 // rows and never a flat slice.
-pub mod clear;
 pub mod numbers;
 pub mod sums;

@@ -5,10 +5,11 @@
 // write whole numbers and see a list of them.
 ghost use mathlib.Core.Path.{_≡_};
 ghost use Prim.Native.Nat.{_+_, _*_, _≤_};
-ghost use lib.ListN.{length, getD, set};
+ghost use lib.ListN.{length, getD};
 ghost use Rattle.number.specs.Floats.{cx};
-ghost use Rattle.sums.specs.Numbers.{complexes, noNumber, LaysNumber};
+ghost use Rattle.sums.specs.Numbers.{complexes, noNumber};
 use number::scalar::Complex;
+ghost use Rattle.sums.specs.Between.{LaysNumber};
 
 pub fn complex_at(table: &[f64], i: usize) -> Complex
     requires { ⌜ 2 * i + 2 ≤ length (now table) ⌝ }

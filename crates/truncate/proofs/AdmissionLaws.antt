@@ -18,15 +18,15 @@ use Rattle.refusal.specs.declared.Refusal.{Refusal}
 use Rattle.refusal.specs.declared.Refusal.the-variants.{TableFull}
 use Rattle.refusal.specs.declared.Answer.{Answer}
 use Rattle.refusal.specs.declared.Answer.the-variants as Tests
-use Rattle.word.specs.Flat.{words}
+use Rattle.word.specs.Flat.{words, wordLanes}
 use Rattle.word.specs.declared.word.Word.{Word}
 use Rattle.number.specs.Floats.{float0, isFinite}
 use Rattle.word.specs.Order.{same}
 use Rattle.order.specs.Places.{isAmong}
-use Rattle.order.specs.Magnitudes.{byMagnitude, AllFinite, keyAt}
+use Rattle.order.specs.Magnitudes.{byMagnitude, keyAt}
 use Rattle.keep.specs.Retained.{pick, flagged}
 use Rattle.keep.specs.Chosen.{flagOf}
-use Rattle.keep.specs.Admitted.{appendedLanes, appendedZeros, picked, AdmitRoom}
+use Rattle.keep.specs.Admitted.{appendedLanes, appendedZeros, picked}
 use Rattle.keep.proofs.FlagLaws.{Kept}
 use Rattle.keep.proofs.ChosenLaws.{walked-length, chosen-more}
 use Rattle.keep.proofs.LargestLaws.{chosen-larger}
@@ -35,6 +35,8 @@ use Rattle.truncate.specs.Admissions.{admitFlags, Admitting, tested, adm
 use Rattle.truncate.specs.declared.kept.Kept.the-variants.{Entries, Refused}
 use Rattle.truncate.proofs.AdmitTests.{admit-passed}
 use Rattle.truncate.proofs.AdmitLaws.{admit-count}
+use Rattle.order.specs.Between.{AllFinite}
+use Rattle.keep.specs.Between.{AdmitRoom}
 
 -- ---- a flag for each listed word
 flags-long : (len : ℕ) (values : List Float) (limit : ℕ) → length (admitFlags len values limit) ≡ length values
@@ -55,7 +57,7 @@ module _ (len : ℕ) (lanes : List ℕ) (coeffs : List Float) (list : List ℕ) 
   flags = admitFlags len values limit
 
   abbrev places : ℕ
-  places = min (length lanes / 4) (length coeffs)
+  places = min (length lanes / wordLanes) (length coeffs)
 
   abbrev after : Admitting
   after = admit len lanes coeffs list values order work kept n limit
@@ -94,7 +96,7 @@ module _ (len : ℕ) (lanes : List ℕ) (coeffs : List Float) (list : List ℕ) 
     new-length = picked-length len (length values) list flags lanes room ∙ all-flags
 
     -- exactly as many words as the limit leaves room for, or all
-    pub appended-count : length new ≡ min (limit - len) (length list / 4)
+    pub appended-count : length new ≡ min (limit - len) (length list / wordLanes)
     appended-count =
         let p = admit-passed len lanes coeffs list values order work kept n limit (known .0) in
         omega (arith, new-length, admit-count len values limit, p .values-each)

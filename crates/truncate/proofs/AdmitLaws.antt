@@ -16,13 +16,15 @@ use lib.Seq.{take-all, length-take-le}
 use Rattle.refusal.specs.declared.Refusal.{Refusal}
 use Rattle.refusal.specs.declared.Refusal.the-variants.{TableFull}
 use Rattle.refusal.specs.declared.Answer.the-variants as Tests
+use Rattle.word.specs.Flat.{wordLanes}
 use Rattle.order.specs.Magnitudes.{byMagnitude}
 use Rattle.keep.specs.Retained.{flagged}
 use Rattle.keep.specs.Chosen.{chosen}
-use Rattle.keep.specs.Admitted.{appendedZeros, AdmitRoom, Admits}
+use Rattle.keep.specs.Admitted.{appendedZeros}
 use Rattle.keep.proofs.ChosenLaws.{chosen-unfixed}
 use Rattle.truncate.specs.Admissions.{admitFlags, admitTests, admit}
 use Rattle.truncate.specs.declared.kept.Kept.the-variants.{Entries, Refused}
+use Rattle.keep.specs.Between.{AdmitRoom, Admits}
 pub use Rattle.keep.proofs.OrderOnce.{magnitude-once}
 
 -- ---- choosing and appending
@@ -39,7 +41,7 @@ module _ (len : ℕ) (lanes : List ℕ) (coeffs : List Float) (list : List ℕ) 
         ap flagged (take-all (length values) kept (omega (arith, long)) ∙ kept-are)
         ∙ chosen-unfixed (length values) (byMagnitude values) (magnitude-once values) room
 
-    pub append-asks : 4 * length values ≤ length list → 4 * (len + min room (length values)) ≤ length lanes → len + min room (length values) ≤ length coeffs
+    pub append-asks : wordLanes * length values ≤ length list → wordLanes * (len + min room (length values)) ≤ length lanes → len + min room (length values) ≤ length coeffs
         → AdmitRoom len (length values) list kept lanes × (len + flagged (take (length values) kept) ≤ length coeffs)
     append-asks h i j =
         let n = kept-count in
@@ -73,7 +75,7 @@ module _ (len : ℕ) (lanes : List ℕ) (coeffs : List Float) (list : List ℕ) 
   admit-refused r e = rw e
 
   module _ (ok : admitTests len lanes coeffs list values order work kept n limit ≡ Tests.Accepted) (places room more : ℕ)
-      (is-places : places ≡ min (length lanes / 4) (length coeffs)) (is-room : room ≡ limit - len) (is-more : more ≡ min room (length values)) (order′ work′ kept′ : List ℕ)
+      (is-places : places ≡ min (length lanes / wordLanes) (length coeffs)) (is-room : room ≡ limit - len) (is-more : more ≡ min room (length values)) (order′ work′ kept′ : List ℕ)
       (eo : order′ ≡ replicate (length order) 0) (ew : work′ ≡ replicate (length work) 0) (ek : kept′ ≡ replicate (length kept) 0) where
     abbrev all-flags : List ℕ
     all-flags = admitFlags len values limit
@@ -83,7 +85,7 @@ module _ (len : ℕ) (lanes : List ℕ) (coeffs : List Float) (list : List ℕ) 
     unfolding admit
     admit-full l =
         let c = admit-count len values limit in
-        let t : ltb (min (length lanes / 4) (length coeffs)) (len + flagged all-flags) ≡ true = lt-ltb (min (length lanes / 4) (length coeffs)) (len + flagged all-flags) (omega (arith, c, l, is-places, is-room, is-more)) in
+        let t : ltb (min (length lanes / wordLanes) (length coeffs)) (len + flagged all-flags) ≡ true = lt-ltb (min (length lanes / wordLanes) (length coeffs)) (len + flagged all-flags) (omega (arith, c, l, is-places, is-room, is-more)) in
         rw (ok, t, is-places, eo, ew, ek)
 
     pub admit-done : len + more ≤ places → (r : ℕ) (lanes′ : List ℕ) (coeffs′ : List Float)
@@ -99,5 +101,5 @@ module _ (len : ℕ) (lanes : List ℕ) (coeffs : List Float) (list : List ℕ) 
         let all : take (length values) all-flags ≡ all-flags = take-all (length values) all-flags (omega (arith, long)) in
         let er : r ≡ len + flagged all-flags = a .answers ∙ ap (λ (k : List ℕ). len + flagged k) all in
         let en : coeffs′ ≡ appendedZeros len (flagged all-flags) coeffs = a .numbers-left ∙ ap (λ (k : List ℕ). appendedZeros len (flagged k) coeffs) all in
-        let t : ltb (min (length lanes / 4) (length coeffs)) (len + flagged all-flags) ≡ false = le-ltb (min (length lanes / 4) (length coeffs)) (len + flagged all-flags) (omega (arith, c, l, is-places, is-room, is-more)) in
+        let t : ltb (min (length lanes / wordLanes) (length coeffs)) (len + flagged all-flags) ≡ false = le-ltb (min (length lanes / wordLanes) (length coeffs)) (len + flagged all-flags) (omega (arith, c, l, is-places, is-room, is-more)) in
         rw (ok, t, er, a .words-left, en, eo, ew, ek)

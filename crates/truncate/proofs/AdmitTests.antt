@@ -14,13 +14,14 @@ use lib.ListN.{length, getD}
 use Rattle.refusal.specs.declared.Refusal.the-variants.{TooManyQubits, NumberOutOfRange, CountAboveLimit, LengthMismatch, WordOutsideRegister}
 use Rattle.refusal.specs.declared.Answer.{Answer}
 use Rattle.refusal.specs.declared.Answer.the-variants.{Accepted, Refused}
+use Rattle.word.specs.Flat.{wordLanes}
 use Rattle.word.specs.Word.{maxQubits}
 use Rattle.number.specs.Floats.{isFinite}
-use Rattle.model.specs.Tested.{firstTo}
-use Rattle.model.proofs.Firsts.{first-before}
-use Rattle.action.specs.Counts.{maxWords, outsideAt, insideTo}
-use Rattle.model.proofs.BuildLaws.{passed, equal-passed, lent-passed, counted-passed}
-use Rattle.truncate.specs.Tests.{notFinite, finiteTo}
+use Rattle.lent.specs.Tests.{firstTo}
+use Rattle.lent.proofs.Firsts.{first-before}
+use Rattle.lent.specs.Words.{maxWords, outsideAt, insideTo}
+use Rattle.lent.proofs.Passed.{passed, equal-passed, lent-passed, counted-passed}
+use Rattle.lent.specs.Numbers.{notFinite, finiteTo}
 use Rattle.truncate.specs.Admissions.{admitTests}
 
 -- ---- words and numbers, where the first that fails is known
@@ -48,10 +49,10 @@ module _ (len : ℕ) (lanes : List ℕ) (coeffs : List Float) (list : List ℕ) 
   tests = admitTests len lanes coeffs list values order work kept n limit
 
   abbrev held : ℕ
-  held = length lanes / 4
+  held = length lanes / wordLanes
 
   abbrev listed : ℕ
-  listed = length list / 4
+  listed = length list / wordLanes
 
   abbrev valuesTest : Answer
   valuesTest = finiteTo len (length values) values Accepted
@@ -92,11 +93,11 @@ module _ (len : ℕ) (lanes : List ℕ) (coeffs : List Float) (list : List ℕ) 
             coeffs-short l = rw (le-ltb maxQubits n qubits-few, le-ltb maxWords len basis-few, le-ltb maxWords listed list-few, le-ltb maxWords limit limit-low, le-ltb held len lanes-long, lt-ltb (length coeffs) len l)
 
             module _ (coeffs-long : len ≤ length coeffs) where
-              pub list-over : eqb (length list) (listed * 4) ≡ false → Refused (LengthMismatch (listed * 4) (length list)) ≡ tests
+              pub list-over : eqb (length list) (listed * wordLanes) ≡ false → Refused (LengthMismatch (listed * wordLanes) (length list)) ≡ tests
               unfolding admitTests
               list-over l = rw (le-ltb maxQubits n qubits-few, le-ltb maxWords len basis-few, le-ltb maxWords listed list-few, le-ltb maxWords limit limit-low, le-ltb held len lanes-long, le-ltb (length coeffs) len coeffs-long, l)
 
-              module _ (list-whole : eqb (length list) (listed * 4) ≡ true) where
+              module _ (list-whole : eqb (length list) (listed * wordLanes) ≡ true) where
                 pub values-differ : eqb (length values) listed ≡ false → Refused (LengthMismatch listed (length values)) ≡ tests
                 unfolding admitTests
                 values-differ l = rw (le-ltb maxQubits n qubits-few, le-ltb maxWords len basis-few, le-ltb maxWords listed list-few, le-ltb maxWords limit limit-low, le-ltb held len lanes-long, le-ltb (length coeffs) len coeffs-long, list-whole, l)
@@ -153,7 +154,7 @@ module _ (len : ℕ) (lanes : List ℕ) (coeffs : List Float) (list : List ℕ) 
 
 -- ---- what is known where all tests are passed
 pub record Passed (list : List ℕ) (values : List Float) (order work kept : List ℕ) : Type 0 where
-  pub values-each : length values ≡ length list / 4
+  pub values-each : length values ≡ length list / wordLanes
   pub values-finite : (i : ℕ) → i < length values → isFinite (getD values i nan) ≡ true
   pub order-long : length values ≤ length order
   pub work-long : length values ≤ length work
@@ -163,14 +164,14 @@ pub admit-passed : (len : ℕ) (lanes : List ℕ) (coeffs : List Float) (list : 
     → admitTests len lanes coeffs list values order work kept n limit ≡ Accepted → Passed list values order work kept
 unfolding admitTests insideTo finiteTo notFinite
 admit-passed len lanes coeffs list values order work kept n limit e =
-    let listed : ℕ = length list / 4 in
+    let listed : ℕ = length list / wordLanes in
     let e0 = passed (ltb maxQubits n) (TooManyQubits n maxQubits) _ e in
     let e1 = counted-passed maxWords len _ (e0 .1) in
     let e2 = counted-passed maxWords listed _ (e1 .1) in
     let e3 = counted-passed maxWords limit _ (e2 .1) in
-    let e4 = lent-passed len (length lanes / 4) _ (e3 .1) in
+    let e4 = lent-passed len (length lanes / wordLanes) _ (e3 .1) in
     let e5 = lent-passed len (length coeffs) _ (e4 .1) in
-    let e6 = equal-passed (listed * 4) (length list) _ (e5 .1) in
+    let e6 = equal-passed (listed * wordLanes) (length list) _ (e5 .1) in
     let e7 = equal-passed listed (length values) _ (e6 .1) in
     let e8 = lent-passed (length values) (length order) _ (e7 .1) in
     let e9 = lent-passed (length values) (length work) _ (e8 .1) in

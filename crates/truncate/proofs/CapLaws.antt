@@ -14,13 +14,14 @@ use Rattle.refusal.specs.declared.Refusal.{Refusal}
 use Rattle.refusal.specs.declared.Refusal.the-variants.{TooManyQubits, CountAboveLimit}
 use Rattle.refusal.specs.declared.Answer.{Answer}
 use Rattle.refusal.specs.declared.Answer.the-variants.{Accepted, Refused}
+use Rattle.word.specs.Flat.{wordLanes}
 use Rattle.word.specs.Word.{maxQubits}
 use Rattle.number.specs.Floats.{isFinite}
 use Rattle.order.specs.Magnitudes.{byMagnitude}
 use Rattle.keep.specs.Retained.{flagged}
 use Rattle.keep.specs.Chosen.{chosen}
-use Rattle.model.proofs.BuildLaws.{passed, both, counted-passed}
-use Rattle.action.specs.Counts.{maxWords}
+use Rattle.lent.proofs.Passed.{passed, both, counted-passed}
+use Rattle.lent.specs.Words.{maxWords}
 use Rattle.truncate.specs.Prunes.{capFlags, unchanged, left, retained, lengthTests, entryTests, capTests, cap}
 use Rattle.truncate.specs.declared.kept.Kept.the-variants.{Entries}
 use Rattle.truncate.proofs.ChecksLaws.{Room, lengths-then, lengths-room, entries-finite}
@@ -35,7 +36,7 @@ module _ (len : ℕ) (lanes : List ℕ) (coeffs : List Float) (order work fixed 
   tests = capTests len lanes coeffs order work fixed kept n protected limit
 
   abbrev count : ℕ
-  count = length protected / 4
+  count = length protected / wordLanes
 
   abbrev lengths : Answer → Answer
   lengths = lengthTests len lanes coeffs order work fixed kept n protected

@@ -17,15 +17,15 @@ use Rattle.refusal.specs.declared.Refusal.{Refusal}
 use Rattle.refusal.specs.declared.Refusal.the-variants.{LengthMismatch, NumberOutOfRange, WordOutsideRegister}
 use Rattle.refusal.specs.declared.Answer.{Answer}
 use Rattle.refusal.specs.declared.Answer.the-variants.{Accepted, Refused}
+use Rattle.word.specs.Flat.{wordLanes}
 use Rattle.number.specs.Floats.{isFinite}
-use Rattle.order.specs.Magnitudes.{AreFinite}
-use Rattle.model.specs.Tested.{whereAny, firstTo}
-use Rattle.model.specs.Built.{andThen}
-use Rattle.model.proofs.NeedLaws.{need-some}
-use Rattle.model.proofs.Firsts.{first-before}
-use Rattle.model.proofs.BuildLaws.{passed, equal-passed, lent-passed}
-use Rattle.action.specs.Counts.{outsideAt, insideTo}
-use Rattle.truncate.specs.Tests.{notFinite, finiteTo}
+use Rattle.order.specs.Between.{AreFinite}
+use Rattle.lent.specs.Tests.{whereAny, firstTo, andThen}
+use Rattle.lent.proofs.NeedLaws.{need-some}
+use Rattle.lent.proofs.Firsts.{first-before}
+use Rattle.lent.proofs.Passed.{passed, equal-passed, lent-passed}
+use Rattle.lent.specs.Words.{outsideAt, insideTo}
+use Rattle.lent.specs.Numbers.{notFinite, finiteTo}
 use Rattle.truncate.specs.Prunes.{lengthTests}
 
 -- tests before others answer as they do alone, or as the others
@@ -60,50 +60,50 @@ module _ (len : ℕ) (lanes : List ℕ) (coeffs : List Float) (order work fixed 
   tests = lengthTests len lanes coeffs order work fixed kept n protected
 
   abbrev count : ℕ
-  count = length protected / 4
+  count = length protected / wordLanes
 
   pub lengths-then : (after : Answer) → tests after ≡ andThen (tests Accepted) after
   lengths-then after =
-      seven-then (LengthMismatch len (length lanes / 4)) (LengthMismatch len (length coeffs)) (LengthMismatch (count * 4) (length protected)) after (LengthMismatch (whereAny len (max len count)) (length order)) (LengthMismatch (whereAny len (max len count)) (length work)) (LengthMismatch len (length fixed)) (LengthMismatch len (length kept))
-      (ltb (length lanes / 4) len) (ltb (length coeffs) len) (eqb (length protected) (count * 4)) (ltb (length order) (whereAny len (max len count))) (ltb (length work) (whereAny len (max len count))) (ltb (length fixed) len) (ltb (length kept) len)
+      seven-then (LengthMismatch len (length lanes / wordLanes)) (LengthMismatch len (length coeffs)) (LengthMismatch (count * wordLanes) (length protected)) after (LengthMismatch (whereAny len (max len count)) (length order)) (LengthMismatch (whereAny len (max len count)) (length work)) (LengthMismatch len (length fixed)) (LengthMismatch len (length kept))
+      (ltb (length lanes / wordLanes) len) (ltb (length coeffs) len) (eqb (length protected) (count * wordLanes)) (ltb (length order) (whereAny len (max len count))) (ltb (length work) (whereAny len (max len count))) (ltb (length fixed) len) (ltb (length kept) len)
 
-  pub lanes-short : length lanes / 4 < len → Refused (LengthMismatch len (length lanes / 4)) ≡ tests Accepted
-  lanes-short l = rw (lt-ltb (length lanes / 4) len l)
+  pub lanes-short : length lanes / wordLanes < len → Refused (LengthMismatch len (length lanes / wordLanes)) ≡ tests Accepted
+  lanes-short l = rw (lt-ltb (length lanes / wordLanes) len l)
 
-  module _ (h1 : len ≤ length lanes / 4) where
+  module _ (h1 : len ≤ length lanes / wordLanes) where
     pub coeffs-short : length coeffs < len → Refused (LengthMismatch len (length coeffs)) ≡ tests Accepted
-    coeffs-short l = rw (le-ltb (length lanes / 4) len h1, lt-ltb (length coeffs) len l)
+    coeffs-short l = rw (le-ltb (length lanes / wordLanes) len h1, lt-ltb (length coeffs) len l)
 
     module _ (h2 : len ≤ length coeffs) where
-      pub protected-over : eqb (length protected) (count * 4) ≡ false → Refused (LengthMismatch (count * 4) (length protected)) ≡ tests Accepted
-      protected-over e = rw (le-ltb (length lanes / 4) len h1, le-ltb (length coeffs) len h2, e)
+      pub protected-over : eqb (length protected) (count * wordLanes) ≡ false → Refused (LengthMismatch (count * wordLanes) (length protected)) ≡ tests Accepted
+      protected-over e = rw (le-ltb (length lanes / wordLanes) len h1, le-ltb (length coeffs) len h2, e)
 
-      module _ (four : eqb (length protected) (count * 4) ≡ true) (places : ℕ) (is : places ≡ whereAny len (max len count)) where
+      module _ (four : eqb (length protected) (count * wordLanes) ≡ true) (places : ℕ) (is : places ≡ whereAny len (max len count)) where
         pub order-short : length order < places → Refused (LengthMismatch places (length order)) ≡ tests Accepted
-        order-short l = rw (le-ltb (length lanes / 4) len h1, le-ltb (length coeffs) len h2, four, sym is, lt-ltb (length order) places l)
+        order-short l = rw (le-ltb (length lanes / wordLanes) len h1, le-ltb (length coeffs) len h2, four, sym is, lt-ltb (length order) places l)
 
         module _ (h3 : places ≤ length order) where
           pub work-short : length work < places → Refused (LengthMismatch places (length work)) ≡ tests Accepted
-          work-short l = rw (le-ltb (length lanes / 4) len h1, le-ltb (length coeffs) len h2, four, sym is, le-ltb (length order) places h3, lt-ltb (length work) places l)
+          work-short l = rw (le-ltb (length lanes / wordLanes) len h1, le-ltb (length coeffs) len h2, four, sym is, le-ltb (length order) places h3, lt-ltb (length work) places l)
 
           module _ (h4 : places ≤ length work) where
             pub fixed-short : length fixed < len → Refused (LengthMismatch len (length fixed)) ≡ tests Accepted
-            fixed-short l = rw (le-ltb (length lanes / 4) len h1, le-ltb (length coeffs) len h2, four, sym is, le-ltb (length order) places h3, le-ltb (length work) places h4, lt-ltb (length fixed) len l)
+            fixed-short l = rw (le-ltb (length lanes / wordLanes) len h1, le-ltb (length coeffs) len h2, four, sym is, le-ltb (length order) places h3, le-ltb (length work) places h4, lt-ltb (length fixed) len l)
 
             module _ (h5 : len ≤ length fixed) where
               pub kept-short : length kept < len → Refused (LengthMismatch len (length kept)) ≡ tests Accepted
               kept-short l =
-                  rw (le-ltb (length lanes / 4) len h1, le-ltb (length coeffs) len h2, four, sym is, le-ltb (length order) places h3, le-ltb (length work) places h4, le-ltb (length fixed) len h5, lt-ltb (length kept) len l)
+                  rw (le-ltb (length lanes / wordLanes) len h1, le-ltb (length coeffs) len h2, four, sym is, le-ltb (length order) places h3, le-ltb (length work) places h4, le-ltb (length fixed) len h5, lt-ltb (length kept) len l)
 
               pub lengths-accepted : len ≤ length kept → Accepted ≡ tests Accepted
               lengths-accepted l =
-                  rw (le-ltb (length lanes / 4) len h1, le-ltb (length coeffs) len h2, four, sym is, le-ltb (length order) places h3, le-ltb (length work) places h4, le-ltb (length fixed) len h5, le-ltb (length kept) len l)
+                  rw (le-ltb (length lanes / wordLanes) len h1, le-ltb (length coeffs) len h2, four, sym is, le-ltb (length order) places h3, le-ltb (length work) places h4, le-ltb (length fixed) len h5, le-ltb (length kept) len l)
 
   -- ---- what is known where the lengths are passed
   pub record Room : Type 0 where
-    pub lanes-room : 4 * len ≤ length lanes
+    pub lanes-room : wordLanes * len ≤ length lanes
     pub coeffs-room : len ≤ length coeffs
-    pub protected-whole : count * 4 ≡ length protected
+    pub protected-whole : count * wordLanes ≡ length protected
     pub order-entries : len ≤ length order
     pub order-protected : 0 < len → count ≤ length order
     pub work-entries : len ≤ length work
@@ -113,9 +113,9 @@ module _ (len : ℕ) (lanes : List ℕ) (coeffs : List Float) (order work fixed 
 
   pub lengths-room : tests Accepted ≡ Accepted → Room
   lengths-room e =
-      let e1 = lent-passed len (length lanes / 4) _ e in
+      let e1 = lent-passed len (length lanes / wordLanes) _ e in
       let e2 = lent-passed len (length coeffs) _ (e1 .1) in
-      let e3 = equal-passed (count * 4) (length protected) _ (e2 .1) in
+      let e3 = equal-passed (count * wordLanes) (length protected) _ (e2 .1) in
       let e4 = lent-passed (whereAny len (max len count)) (length order) _ (e3 .1) in
       let e5 = lent-passed (whereAny len (max len count)) (length work) _ (e4 .1) in
       let e6 = lent-passed len (length fixed) _ (e5 .1) in
@@ -140,7 +140,7 @@ front-finite len coeffs room f i h =
 
 module _ (len : ℕ) (lanes : List ℕ) (coeffs : List Float) (n : ℕ) (protected : List ℕ) where
   abbrev places : ℕ
-  places = length protected / 4
+  places = length protected / wordLanes
 
   abbrev entries : Answer → Answer
   entries after = insideTo len lanes n (insideTo places protected n (finiteTo 0 len coeffs after))

@@ -14,14 +14,14 @@ use lib.Ieee.{Float, le}
 use lib.ListN.{length, getD, set, take, drop, replicate, length-map, drop-of-length-le}
 use lib.Seq.{length-take-le, take-all, drop-cons, set-getD}
 use Rattle.word.specs.Word.{identity}
-use Rattle.word.specs.Flat.{words}
+use Rattle.word.specs.Flat.{words, wordLanes}
 use Rattle.word.specs.declared.word.Word.{Word}
 use Rattle.word.proofs.FlatLaws.{words-high}
 use Rattle.number.specs.Floats.{magnitude}
 use Rattle.order.specs.Places.{isAmong}
-use Rattle.keep.specs.Retained.{unflaggedTo, unflagged}
+use Rattle.keep.specs.Between.{unflaggedTo, unflagged}
 use Rattle.keep.specs.Pruned.{largeFlag, largeFlags}
-use Rattle.keep.proofs.WriteLaws.{write-next, unwritten}
+use Rattle.lent.proofs.WriteLaws.{write-next, unwritten}
 use Rattle.truncate.specs.Prunes.{protectedFlags, pruneFlags}
 use Rattle.truncate.specs.Marks.{protectedAt, marked, reflagged}
 
@@ -118,7 +118,7 @@ module _ (P : List Word) where
     large-flagged (w ∷ ws) (x ∷ xs) (suc len) e h = ap₂ (λ (k : ℕ) (t : List ℕ). k ∷ t) (either x w) (large-flagged ws xs len (omega arith) (omega arith))
 
 -- ---- on lanes
-module _ (len : ℕ) (lanes protected : List ℕ) (h : 4 * len ≤ length lanes) where
+module _ (len : ℕ) (lanes protected : List ℕ) (h : wordLanes * len ≤ length lanes) where
   pub protected-length : length (protectedFlags len lanes protected) ≡ len
   unfolding protectedFlags
   protected-length = length-map (take len (words lanes)) (flag (words protected)) ∙ length-take-le len (words lanes) (omega (arith, words-high lanes))

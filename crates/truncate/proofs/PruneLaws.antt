@@ -16,12 +16,13 @@ use Rattle.refusal.specs.declared.Refusal.{Refusal}
 use Rattle.refusal.specs.declared.Refusal.the-variants.{TooManyQubits, CountAboveLimit, NumberOutOfRange}
 use Rattle.refusal.specs.declared.Answer.{Answer}
 use Rattle.refusal.specs.declared.Answer.the-variants.{Accepted, Refused}
+use Rattle.word.specs.Flat.{wordLanes}
 use Rattle.word.specs.Word.{maxQubits}
 use Rattle.number.specs.Floats.{float0, isFinite}
-use Rattle.keep.specs.Retained.{Retains}
-use Rattle.model.proofs.BuildLaws.{passed, both, counted-passed}
-use Rattle.action.specs.Counts.{maxWords}
-use Rattle.truncate.specs.Tests.{finiteThreshold}
+use Rattle.keep.specs.Between.{Retains}
+use Rattle.lent.proofs.Passed.{passed, both, counted-passed}
+use Rattle.lent.specs.Words.{maxWords}
+use Rattle.lent.specs.Numbers.{finiteThreshold}
 use Rattle.truncate.specs.Prunes.{pruneFlags, unchanged, left, retained, lengthTests, entryTests, pruneTests, prune}
 use Rattle.truncate.specs.declared.kept.Kept.the-variants.{Entries}
 use Rattle.truncate.proofs.ChecksLaws.{Room, lengths-then, lengths-room, entries-then}
@@ -47,7 +48,7 @@ module _ (len : ℕ) (lanes : List ℕ) (coeffs : List Float) (order work fixed 
   tests = pruneTests len lanes coeffs order work fixed kept n protected tol
 
   abbrev count : ℕ
-  count = length protected / 4
+  count = length protected / wordLanes
 
   abbrev lengths : Answer → Answer
   lengths = lengthTests len lanes coeffs order work fixed kept n protected

@@ -5,23 +5,22 @@
 -- in their order, the answer, and every lent table afterwards.
 use Prim.Native.Nat.{ℕ, _+_, _-_, _*_, _/_, min}
 use mathlib.Core.Bool.{cond}
-use mathlib.Core.List.{List}
+use mathlib.Core.List.{List, [], _∷_}
 use lib.Dec.{ltb}
 use lib.Ieee.{Float}
 use lib.ListN.{length, replicate}
 use Rattle.refusal.specs.declared.Refusal.{Refusal}
-use Rattle.refusal.specs.declared.Refusal.the-variants.{TooManyQubits, TableFull}
+use Rattle.refusal.specs.declared.Refusal.the-variants.{TableFull}
 use Rattle.refusal.specs.declared.Answer.{Answer}
 use Rattle.refusal.specs.declared.Answer.the-variants as Tests
-use Rattle.word.specs.Word.{maxQubits}
+use Rattle.word.specs.Flat.{wordLanes}
 use Rattle.order.specs.Magnitudes.{byMagnitude}
 use Rattle.keep.specs.Retained.{flagged}
 use Rattle.keep.specs.Chosen.{chosen}
 use Rattle.keep.specs.Admitted.{appendedLanes, appendedZeros, picked}
-use Rattle.model.specs.Tested.{counted, lent}
-use Rattle.model.specs.Built.{equal}
-use Rattle.action.specs.Counts.{maxWords, insideTo}
-use Rattle.truncate.specs.Tests.{finiteTo}
+use Rattle.lent.specs.Tests.{counted, lent, equal, inTurn, registered}
+use Rattle.lent.specs.Words.{maxWords, insideTo}
+use Rattle.lent.specs.Numbers.{finiteTo}
 use Rattle.truncate.specs.declared.kept.Kept.{Kept}
 use Rattle.truncate.specs.declared.kept.Kept.the-variants.{Entries, Refused}
 
@@ -59,27 +58,28 @@ module _ (len : ℕ) (lanes : List ℕ) (coeffs : List Float) (list : List ℕ) 
 
   -- the places of the whole lent basis
   abbrev pub basisPlaces : ℕ
-  basisPlaces = min (length lanes / 4) (length coeffs)
+  basisPlaces = min (length lanes / wordLanes) (length coeffs)
 
   -- 1, 8, 9, 11, 7: the basis, then the leakage list, whose numbers 7 counts on from the coefficients
   unfoldable pub admitTests : ℕ → ℕ → Answer
   admitTests n limit =
-      cond (ltb maxQubits n) (Tests.Refused (TooManyQubits n maxQubits))
-      (counted maxWords len
-      (counted maxWords (length list / 4)
-      (counted maxWords limit
-      (lent len (length lanes / 4)
-      (lent len (length coeffs)
-      (equal (length list / 4 * 4) (length list)
-      (equal (length list / 4) (length values)
-      (lent (length values) (length order)
-      (lent (length values) (length work)
-      (lent (length values) (length kept)
-      (insideTo len lanes n
-      (insideTo (length values) list n
-      (finiteTo 0 len coeffs
-      (finiteTo len (length values) values
-      Tests.Accepted))))))))))))))
+      inTurn (
+      registered n
+      ∷ counted maxWords len
+      ∷ counted maxWords (length list / wordLanes)
+      ∷ counted maxWords limit
+      ∷ lent len (length lanes / wordLanes)
+      ∷ lent len (length coeffs)
+      ∷ equal (length list / wordLanes * wordLanes) (length list)
+      ∷ equal (length list / wordLanes) (length values)
+      ∷ lent (length values) (length order)
+      ∷ lent (length values) (length work)
+      ∷ lent (length values) (length kept)
+      ∷ insideTo len lanes n
+      ∷ insideTo (length values) list n
+      ∷ finiteTo 0 len coeffs
+      ∷ finiteTo len (length values) values
+      ∷ []) Tests.Accepted
 
   -- 13 compares the basis length and the appended words with the places of the whole lent basis
   unfoldable pub admit : ℕ → ℕ → Admitting

@@ -2,7 +2,6 @@
 -- SPDX-License-Identifier: Apache-2.0
 
 -- Calls on a lent basis: what is answered, refused and left in the lent tables.
-pub mod Tests
 pub mod Prunes
 pub mod Marks
 pub mod Admissions

@@ -1,7 +1,7 @@
 -- SPDX-FileCopyrightText: 2026 The PPVM Authors
 -- SPDX-License-Identifier: Apache-2.0
 
--- Flags of protected words, where a position is not flagged already.
+-- Contracts between functions: flags of protected words, where a position is not flagged already.
 use Prim.Native.Nat.{ℕ}
 use mathlib.Core.Bool.{cond}
 use mathlib.Core.List.{List, [], _∷_}

@@ -5,26 +5,23 @@
 -- order, the answer, and every lent table afterwards.
 use Prim.Native.Nat.{ℕ, _-_, _*_, _/_, max}
 use mathlib.Core.Bool.{cond}
-use mathlib.Core.List.{List, map}
-use lib.Dec.{ltb, leb}
+use mathlib.Core.List.{List, map, [], _∷_}
+use lib.Dec.{leb}
 use lib.Ieee.{Float, le}
 use lib.ListN.{length, take, replicate}
 use Rattle.refusal.specs.declared.Refusal.{Refusal}
-use Rattle.refusal.specs.declared.Refusal.the-variants.{TooManyQubits}
 use Rattle.refusal.specs.declared.Answer.{Answer}
 use Rattle.refusal.specs.declared.Answer.the-variants as Tests
-use Rattle.word.specs.Word.{maxQubits}
-use Rattle.word.specs.Flat.{words}
+use Rattle.word.specs.Flat.{words, wordLanes}
 use Rattle.number.specs.Floats.{float0}
 use Rattle.order.specs.Magnitudes.{byMagnitude}
 use Rattle.order.specs.Places.{isAmong}
 use Rattle.keep.specs.Retained.{flagged, retainedLanes, retainedNumbers}
 use Rattle.keep.specs.Chosen.{chosen}
 use Rattle.keep.specs.Pruned.{largeFlags}
-use Rattle.model.specs.Tested.{counted, lent, whereAny}
-use Rattle.model.specs.Built.{equal}
-use Rattle.action.specs.Counts.{maxWords, insideTo}
-use Rattle.truncate.specs.Tests.{finiteTo, finiteThreshold}
+use Rattle.lent.specs.Tests.{counted, lent, whereAny, equal, inTurn, registered}
+use Rattle.lent.specs.Words.{maxWords, insideTo}
+use Rattle.lent.specs.Numbers.{finiteTo, finiteThreshold}
 use Rattle.truncate.specs.declared.kept.Kept.{Kept}
 use Rattle.truncate.specs.declared.kept.Kept.the-variants.{Entries, Refused}
 
@@ -82,37 +79,45 @@ module _ (len : ℕ) (lanes : List ℕ) (coeffs : List Float) (order work fixed 
   -- the two for ordering, where there is an entry, also one for each protected word
   module _ (n : ℕ) (protected : List ℕ) where
     abbrev pub orderPlaces : ℕ
-    orderPlaces = whereAny len (max len (length protected / 4))
+    orderPlaces = whereAny len (max len (length protected / wordLanes))
 
     abbrev pub lengthTests : Answer → Answer
     lengthTests after =
-        lent len (length lanes / 4)
-        (lent len (length coeffs)
-        (equal (length protected / 4 * 4) (length protected)
-        (lent orderPlaces (length order)
-        (lent orderPlaces (length work)
-        (lent len (length fixed)
-        (lent len (length kept)
-        after))))))
+        inTurn (
+        lent len (length lanes / wordLanes)
+        ∷ lent len (length coeffs)
+        ∷ equal (length protected / wordLanes * wordLanes) (length protected)
+        ∷ lent orderPlaces (length order)
+        ∷ lent orderPlaces (length work)
+        ∷ lent len (length fixed)
+        ∷ lent len (length kept)
+        ∷ []) after
 
     abbrev pub entryTests : Answer → Answer
-    entryTests after = insideTo len lanes n (insideTo (length protected / 4) protected n (finiteTo 0 len coeffs after))
+    entryTests after = insideTo len lanes n (insideTo (length protected / wordLanes) protected n (finiteTo 0 len coeffs after))
 
     unfoldable pub pruneTests : Float → Answer
     pruneTests tol =
-        cond (ltb maxQubits n) (Tests.Refused (TooManyQubits n maxQubits))
-        (counted maxWords len
-        (counted maxWords (length protected / 4)
-        (lengthTests (entryTests (finiteThreshold len tol Tests.Accepted)))))
+        inTurn (
+        registered n
+        ∷ counted maxWords len
+        ∷ counted maxWords (length protected / wordLanes)
+        ∷ lengthTests
+        ∷ entryTests
+        ∷ finiteThreshold len tol
+        ∷ []) Tests.Accepted
 
     -- word limits are 0 to 65,536
     unfoldable pub capTests : ℕ → Answer
     capTests limit =
-        cond (ltb maxQubits n) (Tests.Refused (TooManyQubits n maxQubits))
-        (counted maxWords len
-        (counted maxWords (length protected / 4)
-        (counted maxWords limit
-        (lengthTests (entryTests Tests.Accepted)))))
+        inTurn (
+        registered n
+        ∷ counted maxWords len
+        ∷ counted maxWords (length protected / wordLanes)
+        ∷ counted maxWords limit
+        ∷ lengthTests
+        ∷ entryTests
+        ∷ []) Tests.Accepted
 
     -- nothing if drop_tol ≤ 0
     unfoldable pub prune : Float → Keeping

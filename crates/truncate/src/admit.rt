@@ -6,23 +6,25 @@ ghost use mathlib.Core.Path.{_≡_};
 ghost use Prim.Native.Nat.{_+_, _-_, _*_, _≤_, min};
 ghost use lib.ListN.{length, replicate};
 ghost use Rattle.refusal.specs.declared.Answer.the-variants.{Accepted};
-ghost use Rattle.order.specs.Magnitudes.{byMagnitude, AreFinite};
+ghost use Rattle.word.specs.Flat.{wordLanes};
+ghost use Rattle.order.specs.Magnitudes.{byMagnitude};
 ghost use Rattle.keep.specs.Chosen.{chosen};
-ghost use Rattle.keep.specs.Admitted.{Admits};
+ghost use Rattle.order.specs.Between.{AreFinite};
+ghost use Rattle.keep.specs.Between.{Admits};
 ghost use Rattle.truncate.specs.Admissions.{admitTests, admit};
-use crate::checks::room_left;
 use crate::kept::Kept;
-use crate::tests::first_not_finite;
-use action::act::LIST_TABLE;
-use action::words::MAX_WORDS;
-use action::words::first_outside;
-use model::lengths::mismatch;
-use model::test::smaller;
-use refusal::Answer;
-use refusal::Refusal;
-use sums::clear::clear_lanes;
 use keep::admit::append_chosen;
 use keep::largest::choose_largest_of;
+use lent::clear::clear_lanes;
+use lent::numbers::first_not_finite;
+use lent::sizes::LIST_TABLE;
+use lent::sizes::room_left;
+use lent::sizes::smaller;
+use lent::tests::mismatch;
+use lent::words::MAX_WORDS;
+use lent::words::first_outside;
+use refusal::Answer;
+use refusal::Refusal;
 use word::flat::WORD_LANES;
 use word::word::MAX_QUBITS;
 
@@ -115,7 +117,7 @@ fn append_largest(
     work: &mut [u64],
     kept: &mut [u64],
 ) -> usize
-    requires { ⌜ (length (now order) ≡ length (now values)) × (length (now work) ≡ length (now values)) × (length (now kept) ≡ length (now values)) × (4 * length (now values) ≤ length (now list)) × (4 * (len + min room (length (now values))) ≤ length (now words)) × (len + min room (length (now values)) ≤ length (now coeffs)) × AreFinite (now values) ⌝ }
+    requires { ⌜ (length (now order) ≡ length (now values)) × (length (now work) ≡ length (now values)) × (length (now kept) ≡ length (now values)) × (wordLanes * length (now values) ≤ length (now list)) × (wordLanes * (len + min room (length (now values))) ≤ length (now words)) × (len + min room (length (now values)) ≤ length (now coeffs)) × AreFinite (now values) ⌝ }
     ensures { λ r. ⌜ Admits len (length (now (values .entry))) (now (list .entry)) (chosen (byMagnitude (now (values .entry))) (replicate (length (now (values .entry))) 0) room) (now (words .entry)) (now (coeffs .entry)) r (now (words .exit)) (now (coeffs .exit)) × (length (chosen (byMagnitude (now (values .entry))) (replicate (length (now (values .entry))) 0) room) ≡ length (now (values .entry))) ⌝ }
 {
     clear_lanes(work);

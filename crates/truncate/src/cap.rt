@@ -8,23 +8,25 @@ ghost use mathlib.Core.List.{List};
 ghost use Prim.Native.Nat.{ℕ, _-_, _*_, _/_, _≤_, _<_};
 ghost use lib.Dec.{leb};
 ghost use lib.ListN.{length, take};
-ghost use Rattle.order.specs.Magnitudes.{byMagnitude, AreFinite};
+ghost use Rattle.word.specs.Flat.{wordLanes};
+ghost use Rattle.order.specs.Magnitudes.{byMagnitude};
 ghost use Rattle.keep.specs.Retained.{flagged};
 ghost use Rattle.keep.specs.Chosen.{chosen};
 ghost use Rattle.truncate.specs.Prunes.{capFlags, left, retained, capTests, cap};
 use crate::checks::check_entries;
 use crate::checks::check_lengths;
-use crate::checks::room_left;
 use crate::kept::Kept;
 use crate::protect::mark_protected;
-use action::words::MAX_WORDS;
-use refusal::Answer;
-use refusal::Refusal;
-use sums::clear::clear_lanes;
 use keep::largest::choose_largest_of;
 use keep::retain::retain_in_place;
+use lent::clear::clear_lanes;
+use lent::sizes::room_left;
+use lent::words::MAX_WORDS;
+use refusal::Answer;
+use refusal::Refusal;
 use word::flat::WORD_LANES;
 use word::word::MAX_QUBITS;
+ghost use Rattle.order.specs.Between.{AreFinite};
 
 fn check_cap(
     n: usize,
@@ -101,7 +103,7 @@ fn flag_largest(
     fixed: &mut [u64],
     kept: &mut [u64],
 )
-    requires { ⌜ (4 * len ≤ length (now words)) × (len ≤ length (now coeffs)) × (length (now protected) / 4 * 4 ≡ length (now protected)) × (length (now protected) / 4 ≤ length (now order)) × (length (now protected) / 4 ≤ length (now work)) × (len ≤ length (now order)) × (length (now fixed) ≡ len) × (length (now kept) ≡ len) × AreFinite (take len (now coeffs)) ⌝ }
+    requires { ⌜ (wordLanes * len ≤ length (now words)) × (len ≤ length (now coeffs)) × (length (now protected) / wordLanes * wordLanes ≡ length (now protected)) × (length (now protected) / wordLanes ≤ length (now order)) × (length (now protected) / wordLanes ≤ length (now work)) × (len ≤ length (now order)) × (length (now fixed) ≡ len) × (length (now kept) ≡ len) × AreFinite (take len (now coeffs)) ⌝ }
     ensures { λ _. ⌜ now (kept .exit) ≡ capFlags len (now (words .entry)) (now (coeffs .entry)) (now (protected .entry)) limit ⌝ }
 {
     clear_lanes(fixed);
@@ -121,7 +123,7 @@ fn keep_largest(
     fixed: &mut [u64],
     kept: &mut [u64],
 ) -> usize
-    requires { ⌜ (4 * len ≤ length (now words)) × (len ≤ length (now coeffs)) × (length (now protected) / 4 * 4 ≡ length (now protected)) × (0 < len → length (now protected) / 4 ≤ length (now order)) × (0 < len → length (now protected) / 4 ≤ length (now work)) × (len ≤ length (now order)) × (len ≤ length (now fixed)) × (len ≤ length (now kept)) × AreFinite (take len (now coeffs)) ⌝ }
+    requires { ⌜ (wordLanes * len ≤ length (now words)) × (len ≤ length (now coeffs)) × (length (now protected) / wordLanes * wordLanes ≡ length (now protected)) × (0 < len → length (now protected) / wordLanes ≤ length (now order)) × (0 < len → length (now protected) / wordLanes ≤ length (now work)) × (len ≤ length (now order)) × (len ≤ length (now fixed)) × (len ≤ length (now kept)) × AreFinite (take len (now coeffs)) ⌝ }
     ensures { λ r. ⌜ ((o w f k : List ℕ) → left len (now (words .entry)) (now (coeffs .entry)) o w f k r (now (words .exit)) (now (coeffs .exit)) ≡ cond (leb len limit) (left len (now (words .entry)) (now (coeffs .entry)) o w f k len (now (words .entry)) (now (coeffs .entry))) (retained len (now (words .entry)) (now (coeffs .entry)) o w f k (capFlags len (now (words .entry)) (now (coeffs .entry)) (now (protected .entry)) limit))) ⌝ }
 {
     if len <= limit {

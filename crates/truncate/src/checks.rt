@@ -6,27 +6,18 @@ ghost use mathlib.Core.Path.{_≡_};
 ghost use Prim.Native.Nat.{ℕ, _*_, _/_, _≤_, _-_};
 ghost use lib.ListN.{length};
 ghost use Rattle.refusal.specs.declared.Answer.the-variants.{Accepted};
-ghost use Rattle.action.specs.Counts.{insideTo};
-ghost use Rattle.truncate.specs.Tests.{finiteTo};
+ghost use Rattle.word.specs.Flat.{wordLanes};
+ghost use Rattle.lent.specs.Words.{insideTo};
+ghost use Rattle.lent.specs.Numbers.{finiteTo};
 ghost use Rattle.truncate.specs.Prunes.{lengthTests};
-use crate::tests::first_not_finite;
-use action::count::larger_count;
-use action::words::first_outside;
-use model::lengths::mismatch;
-use model::lengths::where_any;
+use lent::numbers::first_not_finite;
+use lent::sizes::larger;
+use lent::tests::mismatch;
+use lent::tests::where_any;
+use lent::words::first_outside;
 use refusal::Answer;
 use refusal::Refusal;
 use word::flat::WORD_LANES;
-
-// What a limit leaves beside so many entries: 0 where they reach it.
-pub fn room_left(limit: usize, held: usize) -> usize
-    ensures { λ r. ⌜ r ≡ limit - held ⌝ }
-{
-    if limit < held {
-        return 0;
-    }
-    limit - held
-}
 
 pub fn check_lengths(
     words: &[u64],
@@ -50,7 +41,7 @@ pub fn check_lengths(
     if protected.len() != count * WORD_LANES {
         return mismatch(count * WORD_LANES, protected.len());
     }
-    let places = where_any(len, larger_count(len, count));
+    let places = where_any(len, larger(len, count));
     if order.len() < places {
         return mismatch(places, order.len());
     }
@@ -73,8 +64,8 @@ pub fn check_entries(
     len: usize,
     protected: &[u64],
 ) -> Answer
-    requires { ⌜ (4 * len ≤ length (now words)) × (len ≤ length (now coeffs)) ⌝ }
-    ensures { λ r. ⌜ r ≡ insideTo len (now (words .entry)) n (insideTo (length (now (protected .entry)) / 4) (now (protected .entry)) n (finiteTo 0 len (now (coeffs .entry)) Accepted)) ⌝ }
+    requires { ⌜ (wordLanes * len ≤ length (now words)) × (len ≤ length (now coeffs)) ⌝ }
+    ensures { λ r. ⌜ r ≡ insideTo len (now (words .entry)) n (insideTo (length (now (protected .entry)) / wordLanes) (now (protected .entry)) n (finiteTo 0 len (now (coeffs .entry)) Accepted)) ⌝ }
 {
     let outside = first_outside(words, len, n);
     if outside < len {

@@ -8,4 +8,3 @@ pub mod checks;
 pub mod kept;
 pub mod protect;
 pub mod prune;
-pub mod tests;

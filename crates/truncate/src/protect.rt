@@ -6,15 +6,15 @@ ghost use mathlib.Core.Path.{_≡_};
 ghost use mathlib.Core.Bool.{cond};
 ghost use Prim.Native.Nat.{_*_, _/_, _≤_};
 ghost use lib.ListN.{length};
-ghost use Rattle.word.specs.Flat.{words};
-ghost use Rattle.order.specs.Merge.{AllBelow};
+ghost use Rattle.word.specs.Flat.{words, wordLanes};
+ghost use Rattle.order.specs.Between.{AllBelow};
+ghost use Rattle.slots.specs.Between.{Slotted};
 ghost use Rattle.order.specs.Places.{isAmong};
-ghost use Rattle.slots.specs.Slots.{Slotted};
 ghost use Rattle.truncate.specs.Marks.{protectedAt, marked, reflagged};
+use keep::flags::lay_unflagged;
 use slots::has_word;
 use slots::lay_slots;
 use slots::slots_for;
-use keep::flags::lay_unflagged;
 use word::flat::WORD_LANES;
 use word::flat::word_at;
 use word::word::Word;
@@ -38,7 +38,7 @@ fn flag_listed(
     list: &[u64],
     flags: &mut [u64],
 )
-    requires { ⌜ Slotted (words (now protected)) (now heads) (now nexts) × (4 * length (now flags) ≤ length (now lanes)) × AllBelow (length (now flags)) (now list) ⌝ }
+    requires { ⌜ Slotted (words (now protected)) (now heads) (now nexts) × (wordLanes * length (now flags) ≤ length (now lanes)) × AllBelow (length (now flags)) (now list) ⌝ }
     ensures { λ _. ⌜ now (flags .exit) ≡ reflagged (protectedAt (words (now (protected .entry))) (words (now (lanes .entry)))) (now (list .entry)) (now (flags .entry)) ⌝ }
 {
     let mut i = 0;
@@ -59,7 +59,7 @@ fn mark_listed(
     list: &[u64],
     flags: &mut [u64],
 )
-    requires { ⌜ (4 * length (now nexts) ≡ length (now protected)) × (length (now nexts) ≤ length (now heads)) × (4 * length (now flags) ≤ length (now lanes)) × AllBelow (length (now flags)) (now list) ⌝ }
+    requires { ⌜ (wordLanes * length (now nexts) ≡ length (now protected)) × (length (now nexts) ≤ length (now heads)) × (wordLanes * length (now flags) ≤ length (now lanes)) × AllBelow (length (now flags)) (now list) ⌝ }
     ensures { λ _. ⌜ now (flags .exit) ≡ reflagged (protectedAt (words (now (protected .entry))) (words (now (lanes .entry)))) (now (list .entry)) (now (flags .entry)) ⌝ }
 {
     lay_slots(protected, heads, nexts);
@@ -76,7 +76,7 @@ pub fn mark_protected(
     list: &mut [u64],
     flags: &mut [u64],
 )
-    requires { ⌜ (length (now protected) / 4 * 4 ≡ length (now protected)) × (length (now protected) / 4 ≤ length (now order)) × (length (now protected) / 4 ≤ length (now work)) × (length (now flags) ≤ length (now list)) × (4 * length (now flags) ≤ length (now lanes)) ⌝ }
+    requires { ⌜ (length (now protected) / wordLanes * wordLanes ≡ length (now protected)) × (length (now protected) / wordLanes ≤ length (now order)) × (length (now protected) / wordLanes ≤ length (now work)) × (length (now flags) ≤ length (now list)) × (wordLanes * length (now flags) ≤ length (now lanes)) ⌝ }
     ensures { λ _. ⌜ now (flags .exit) ≡ marked (words (now (protected .entry))) (words (now (lanes .entry))) (now (flags .entry)) ⌝ }
 {
     let count = protected.len() / WORD_LANES;

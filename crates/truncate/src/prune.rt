@@ -8,19 +8,20 @@ ghost use mathlib.Core.List.{List};
 ghost use Prim.Native.Nat.{ℕ, _*_, _/_, _≤_, _<_};
 ghost use lib.Ieee.{le};
 ghost use lib.ListN.{length};
+ghost use Rattle.word.specs.Flat.{wordLanes};
 ghost use Rattle.number.specs.Floats.{float0};
 ghost use Rattle.truncate.specs.Prunes.{pruneFlags, left, retained, pruneTests, prune};
 use crate::checks::check_entries;
 use crate::checks::check_lengths;
 use crate::kept::Kept;
 use crate::protect::mark_protected;
-use action::words::MAX_WORDS;
+use keep::flags::flag_large;
+use keep::retain::retain_in_place;
+use lent::clear::clear_lanes;
+use lent::words::MAX_WORDS;
 use number::scalar::is_finite;
 use refusal::Answer;
 use refusal::Refusal;
-use sums::clear::clear_lanes;
-use keep::flags::flag_large;
-use keep::retain::retain_in_place;
 use word::flat::WORD_LANES;
 use word::word::MAX_QUBITS;
 
@@ -78,7 +79,7 @@ fn flag_kept(
     list: &mut [u64],
     kept: &mut [u64],
 )
-    requires { ⌜ (4 * len ≤ length (now words)) × (len ≤ length (now coeffs)) × (length (now protected) / 4 * 4 ≡ length (now protected)) × (0 < len → length (now protected) / 4 ≤ length (now order)) × (0 < len → length (now protected) / 4 ≤ length (now work)) × (len ≤ length (now list)) × (length (now kept) ≡ len) ⌝ }
+    requires { ⌜ (wordLanes * len ≤ length (now words)) × (len ≤ length (now coeffs)) × (length (now protected) / wordLanes * wordLanes ≡ length (now protected)) × (0 < len → length (now protected) / wordLanes ≤ length (now order)) × (0 < len → length (now protected) / wordLanes ≤ length (now work)) × (len ≤ length (now list)) × (length (now kept) ≡ len) ⌝ }
     ensures { λ _. ⌜ now (kept .exit) ≡ pruneFlags len (now (words .entry)) (now (coeffs .entry)) (now (protected .entry)) «drop_tol» ⌝ }
 {
     if len == 0 {
@@ -100,7 +101,7 @@ fn drop_small(
     list: &mut [u64],
     kept: &mut [u64],
 ) -> usize
-    requires { ⌜ (4 * len ≤ length (now words)) × (len ≤ length (now coeffs)) × (length (now protected) / 4 * 4 ≡ length (now protected)) × (0 < len → length (now protected) / 4 ≤ length (now order)) × (0 < len → length (now protected) / 4 ≤ length (now work)) × (len ≤ length (now list)) × (len ≤ length (now kept)) ⌝ }
+    requires { ⌜ (wordLanes * len ≤ length (now words)) × (len ≤ length (now coeffs)) × (length (now protected) / wordLanes * wordLanes ≡ length (now protected)) × (0 < len → length (now protected) / wordLanes ≤ length (now order)) × (0 < len → length (now protected) / wordLanes ≤ length (now work)) × (len ≤ length (now list)) × (len ≤ length (now kept)) ⌝ }
     ensures { λ r. ⌜ ((o w f k : List ℕ) → left len (now (words .entry)) (now (coeffs .entry)) o w f k r (now (words .exit)) (now (coeffs .exit)) ≡ cond (le «drop_tol» float0) (left len (now (words .entry)) (now (coeffs .entry)) o w f k len (now (words .entry)) (now (coeffs .entry))) (retained len (now (words .entry)) (now (coeffs .entry)) o w f k (pruneFlags len (now (words .entry)) (now (coeffs .entry)) (now (protected .entry)) «drop_tol»))) ⌝ }
 {
     if drop_tol <= 0.0 {

@@ -15,11 +15,12 @@ use Rattle.refusal.specs.declared.Refusal.{Refusal}
 use Rattle.refusal.specs.declared.Refusal.the-variants.{TooManyQubits, NumberOutOfRange}
 use Rattle.refusal.specs.declared.Answer.{Answer}
 use Rattle.refusal.specs.declared.Answer.the-variants as Tests
+use Rattle.word.specs.Flat.{wordLanes}
 use Rattle.word.specs.Word.{maxQubits}
 use Rattle.number.specs.Floats.{isFinite}
-use Rattle.model.proofs.BuildLaws.{refused-not, passed, both, lent-passed, counted-passed}
-use Rattle.action.specs.Counts.{maxWords}
-use Rattle.truncate.specs.Tests.{finiteThreshold}
+use Rattle.lent.proofs.Passed.{refused-not, passed, both, lent-passed, counted-passed}
+use Rattle.lent.specs.Words.{maxWords}
+use Rattle.lent.specs.Numbers.{finiteThreshold}
 use Rattle.truncate.specs.Prunes.{Keeping, tested, lengthTests, entryTests, pruneTests, capTests, prune, cap}
 use Rattle.truncate.specs.Admissions as Admissions
 use Rattle.truncate.specs.declared.kept.Kept.the-variants.{Entries, Refused}
@@ -61,7 +62,7 @@ module _ (len : ℕ) (lanes : List ℕ) (coeffs : List Float) (order work fixed 
         let after : Answer = finiteThreshold len tol Tests.Accepted in
         let e1 = passed (ltb maxQubits n) (TooManyQubits n maxQubits) _ prune-accepted in
         let e2 = counted-passed maxWords len _ (e1 .1) in
-        let e3 = counted-passed maxWords (length protected / 4) _ (e2 .1) in
+        let e3 = counted-passed maxWords (length protected / wordLanes) _ (e2 .1) in
         let e4 = both (lengths Tests.Accepted) (entries after) (sym (lengths-then len lanes coeffs order work fixed kept n protected (entries after)) ∙ e3 .1) in
         let e5 = both (entries Tests.Accepted) after (sym (entries-then len lanes coeffs n protected after) ∙ e4 .1) in
         (entries-finite len lanes coeffs n protected (e5 .0), threshold-passed (isFinite tol) (NumberOutOfRange len) (e5 .1))
@@ -82,17 +83,17 @@ module _ (len : ℕ) (lanes : List ℕ) (coeffs : List Float) (list : List ℕ) 
   unfolding Admissions.admit
   admit-accepted = admit-tested (Admissions.admitTests len lanes coeffs list values order work kept n limit) _ answer
 
-  pub admit-lent : (4 * len ≤ length lanes) × (len ≤ length coeffs)
+  pub admit-lent : (wordLanes * len ≤ length lanes) × (len ≤ length coeffs)
   unfolding Admissions.admitTests
   admit-lent =
       let e1 = passed (ltb maxQubits n) (TooManyQubits n maxQubits) _ admit-accepted in
       let e2 = counted-passed maxWords len _ (e1 .1) in
-      let e3 = counted-passed maxWords (length list / 4) _ (e2 .1) in
+      let e3 = counted-passed maxWords (length list / wordLanes) _ (e2 .1) in
       let e4 = counted-passed maxWords limit _ (e3 .1) in
-      let e5 = lent-passed len (length lanes / 4) _ (e4 .1) in
+      let e5 = lent-passed len (length lanes / wordLanes) _ (e4 .1) in
       let e6 = lent-passed len (length coeffs) _ (e5 .1) in
       (omega (arith, e5 .0), e6 .0)
 
   -- a value for each listed word
-  pub admit-each : length values ≡ length list / 4
+  pub admit-each : length values ≡ length list / wordLanes
   admit-each = admit-passed len lanes coeffs list values order work kept n limit admit-accepted .values-each

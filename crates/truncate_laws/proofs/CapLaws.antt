@@ -13,9 +13,10 @@ use lib.Ieee.{Float, nan, binary64}
 use lib.ListN.{length, getD, take, replicate}
 use lib.Seq.{length-take-le, getD-take}
 use Rattle.number.specs.Key.{key}
-use Rattle.order.specs.Magnitudes.{byMagnitude, AllFinite, keyAt}
+use Rattle.order.specs.Magnitudes.{byMagnitude, keyAt}
 use Rattle.keep.specs.Retained.{flagged}
-use Rattle.keep.specs.Chosen.{EachOnce}
+use Rattle.order.specs.Between.{AllFinite}
+use Rattle.keep.specs.Between.{EachOnce}
 use Rattle.keep.proofs.ChosenLaws.{chosen-limit}
 use Rattle.truncate.specs.Prunes.{protectedFlags, capFlags, capTests, cap}
 use Rattle.refusal.specs.declared.Answer.the-variants.{Accepted}

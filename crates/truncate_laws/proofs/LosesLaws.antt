@@ -15,7 +15,7 @@ use lib.Ieee.{Float, nan, binary64, fits, le, isNan, ofBits}
 use lib.Ieee.Bits.{ofBits-fits}
 use lib.ListN.{length, getD, take, replicate, length-replicate, getD-replicate, List·getD-eq-default}
 use lib.Seq.{take-at, length-take-le, getD-take}
-use Rattle.word.specs.Flat.{words}
+use Rattle.word.specs.Flat.{words, wordLanes}
 use Rattle.word.specs.declared.word.Word.{Word}
 use Rattle.word.proofs.FlatLaws.{words-high}
 use Rattle.number.specs.Floats.{float0, isFinite}
@@ -64,7 +64,7 @@ zero-number : Number float0
 zero-number = record { fits-f64 = ofBits-fits binary64 0; no-nan = unfold isNan ofBits in tt }
 
 -- ---- prune
-module _ (len : ℕ) (lanes : List ℕ) (coeffs : List Float) (protected : List ℕ) (room : 4 * len ≤ length lanes) (number : (i : ℕ) → i < length (take len coeffs) → Number (getD (take len coeffs) i nan))
+module _ (len : ℕ) (lanes : List ℕ) (coeffs : List Float) (protected : List ℕ) (room : wordLanes * len ≤ length lanes) (number : (i : ℕ) → i < length (take len coeffs) → Number (getD (take len coeffs) i nan))
     (tol tol′ : Float) (first : Number tol) (second : Number tol′) (lowered : le tol′ tol ≡ true) where
   pruned-more : LosesNobody (prunedFlags len lanes coeffs protected tol) (prunedFlags len lanes coeffs protected tol′)
   unfolding prunedFlags pruneFlags
@@ -78,7 +78,7 @@ module _ (len : ℕ) (lanes : List ℕ) (coeffs : List Float) (protected : List 
           prune-more tol′ tol (second .fits-f64) (first .fits-f64) (above-zero tol′ (second .no-nan) e′) (above-zero tol (first .no-nan) e) lowered (take len coeffs) (protectedFlags len lanes protected) number p k
 
 -- ---- cap
-module _ (len : ℕ) (lanes : List ℕ) (coeffs : List Float) (protected : List ℕ) (room : 4 * len ≤ length lanes) (limit limit′ : ℕ) (raised : limit ≤ limit′) where
+module _ (len : ℕ) (lanes : List ℕ) (coeffs : List Float) (protected : List ℕ) (room : wordLanes * len ≤ length lanes) (limit limit′ : ℕ) (raised : limit ≤ limit′) where
   capped-more : LosesNobody (cappedFlags len lanes coeffs protected limit) (cappedFlags len lanes coeffs protected limit′)
   unfolding cappedFlags capFlags
   capped-more = record { stays = go (leb len limit′) refl (leb len limit) refl }

@@ -12,7 +12,7 @@ use lib.Dec.{leb}
 use lib.Ieee.{Float, le}
 use lib.ListN.{length, take, replicate, length-map, length-replicate}
 use lib.Seq.{take-at, take-all, length-take-le}
-use Rattle.word.specs.Flat.{words}
+use Rattle.word.specs.Flat.{words, wordLanes}
 use Rattle.word.specs.declared.word.Word.{Word}
 use Rattle.word.proofs.FlatLaws.{words-high}
 use Rattle.number.specs.Floats.{float0}
@@ -46,7 +46,7 @@ ones-pick (suc n) [] h = refl
 ones-pick {A} (suc n) (a ∷ l) h = ap (λ (t : List A). a ∷ t) (ones-pick n l (omega arith))
 
 -- ---- a flag for each entry
-module _ (len : ℕ) (lanes : List ℕ) (coeffs : List Float) (protected : List ℕ) (room : 4 * len ≤ length lanes) where
+module _ (len : ℕ) (lanes : List ℕ) (coeffs : List Float) (protected : List ℕ) (room : wordLanes * len ≤ length lanes) where
   entries-long : length (take len (words lanes)) ≡ len
   entries-long = length-take-le len (words lanes) (omega (arith, room, words-high lanes))
 
@@ -72,7 +72,7 @@ admit-long len values limit =
     walked-length fixed (byMagnitude values) (limit - len) (map flagOf fixed) ∙ length-map fixed flagOf ∙ length-replicate (length values) 0
 
 -- ---- what is left by flags, and where nothing is done
-module _ (len : ℕ) (lanes : List ℕ) (coeffs : List Float) (order work fixed kept : List ℕ) (lanes-room : 4 * len ≤ length lanes) (coeffs-room : len ≤ length coeffs) where
+module _ (len : ℕ) (lanes : List ℕ) (coeffs : List Float) (order work fixed kept : List ℕ) (lanes-room : wordLanes * len ≤ length lanes) (coeffs-room : len ≤ length coeffs) where
   all-stay : Stays len lanes coeffs (replicate len 1) (left len lanes coeffs order work fixed kept len lanes coeffs)
   all-stay =
       let c : flagged (replicate len 1) ≡ len = ones-flagged len in

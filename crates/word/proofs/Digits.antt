@@ -171,11 +171,11 @@ zero-bit zero = bit-zero 0
 zero-bit (suc j) = sym (bit-suc 0 j) ∙ zero-bit j
 
 -- the digits of b * 2 ^ k, for a digit b
-shift-same : (b k : ℕ) → b < 2 → bit (b * 2 ^ k) k ≡ b
+pub shift-same : (b k : ℕ) → b < 2 → bit (b * 2 ^ k) k ≡ b
 shift-same b zero h = bit-zero _ ∙ omega arith
 shift-same b (suc k) h = sym (bit-suc _ k) ∙ ap (λ (x : ℕ). bit x k) (shifted-half b k) ∙ shift-same b k h
 
-shift-other : (b k j : ℕ) → b < 2 → (j ≡ k → ⊥) → bit (b * 2 ^ k) j ≡ 0
+pub shift-other : (b k j : ℕ) → b < 2 → (j ≡ k → ⊥) → bit (b * 2 ^ k) j ≡ 0
 shift-other b zero zero h n = absurd (n refl)
 shift-other b zero (suc j) h n =
     let e : b * 2 ^ 0 / 2 ≡ 0 = omega arith in

@@ -43,7 +43,7 @@ module _ (n : ℕ) (f : ℕ → ℕ) where
 
   lane-at : (i : ℕ) → i < n → getD (lanesOf n f) i 0 ≡ made 64 (λ k. f (64 * i + k) % 2)
   unfolding lanesOf
-  lane-at i h = getD-tabulate n (λ i. made 64 (λ k. f (64 * i + k) % 2)) i h
+  lane-at i h = getD-tabulate 0 n (λ i. made 64 (λ k. f (64 * i + k) % 2)) i h
 
   beyond : (i : ℕ) → n ≤ i → getD (lanesOf n f) i 0 ≡ 0
   beyond i h = List·getD-eq-default (lanesOf n f) 0 (omega (arith, lanes-length))

@@ -3,13 +3,17 @@
 
 -- Laws that belong to no one function; WordLaws, OrderLaws and TextLaws are those that other crates cite.
 pub mod Sums
+pub mod CountLaws
 pub mod Digits
+pub mod Lowest
 pub mod Lanes
 pub mod Words
 pub mod WordLaws
 pub mod OrderLaws
 pub mod Planes
+pub mod NextLaws
 pub mod Tests
 pub mod TextLaws
 pub mod RoundTrips
 pub mod FlatLaws
+pub mod HashLaws

@@ -3,22 +3,24 @@
 
 -- Sums modulo 4 in two bit planes, and what they give for words. Assumes nothing.
 use mathlib.Core.Path.{_≡_, refl, sym, ap, ap₂, _∙_}
-use mathlib.Core.List.{List, [], _∷_}
-use Prim.Native.Nat.{ℕ, zero, suc, _+_, _*_, _/_, _%_, _^_, _<_}
+use mathlib.Core.List.{List}
+use Prim.Native.Nat.{ℕ, zero, suc, _+_, _-_, _*_, _/_, _%_, _^_, _<_}
 use native.Mathlib.Omega.{arith}
+use native.Mathlib.Decide.{decLt}
 use lib.Dec.{eqb}
 use lib.Ieee.{Float}
 use lib.Bits.{bitAnd, bitXor, and-lt, xor-lt}
 use lib.Count.{ones}
-use lib.ListN.{getD, length}
-use Rattle.word.specs.Count.{sumTo}
+use lib.ListN.{getD, length, List·getD-eq-default}
+use Rattle.word.specs.Count.{sumTo, tabulate}
 use Rattle.word.specs.Letter.{mulLetter}
-use Rattle.word.specs.Word.{letterAt, Sound}
-use Rattle.word.specs.Product.{phaseSum, mul, phase, product, antiCommute, factor, commutator}
+use Rattle.word.specs.Word.{laneCount, letterAt, Sound}
+use Rattle.word.specs.Product.{mul, phase, product, antiCommute, factor, commutator}
 use Rattle.word.specs.Steps.{lanePhase, planePhase}
 use Rattle.word.specs.declared.word.Word.{Word}
 use Rattle.word.specs.declared.algebra.Phased.{Phased}
 use Rattle.word.specs.declared.algebra.Planes.{Planes}
+use Rattle.word.proofs.Sums.{length-tabulate, getD-tabulate, tabulate-lt}
 use Rattle.word.proofs.Digits.{ones-xor}
 use Rattle.word.proofs.Lanes.{imag, sign, imag-lt, sign-lt, lane-counts, lane-odd, lanes-phase, letter-xor}
 use Rattle.word.proofs.Words.{word-is}
@@ -41,46 +43,48 @@ module _ (low high a b c d : ℕ) (hl : low < 2 ^ 64) (hh : high < 2 ^ 64)
       let l = lane-counts a b c d ha hb hc hd in
       omega arith
 
--- ---- two lanes
+-- ---- lane by lane
 abbrev lane : Word → Word → ℕ → ℕ
 lane p q i = lanePhase (getD (p .x) i 0) (getD (p .z) i 0) (getD (q .x) i 0) (getD (q .z) i 0)
 
-two-lanes : (p q : Word) → lane p q 0 + lane p q 1 ≡ phaseSum 128 (p .x) (p .z) (q .x) (q .z)
+-- the phases of the first n lanes are added
+pub record Added (p q : Word) (n : ℕ) (t : Planes) : Type 0 where
+  pub sum : planePhase t ≡ sumTo n (lane p q) % 4
+
+pub added-none : (p q : Word) → Added p q 0 (record { low = 0; high = 0 })
+unfolding sumTo planePhase ones
+added-none p q = record { sum = refl }
+
+pub added-more : {p q : Word} {n : ℕ} {t u : Planes} → Added p q n t → planePhase u ≡ (planePhase t + lane p q n) % 4 → Added p q (suc n) u
 unfolding sumTo
-two-lanes p q = omega (arith, lanes-phase 2 (p .x) (p .z) (q .x) (q .z))
+added-more h e = record { sum = omega (arith, h .sum, e) }
 
--- a phase after two lanes
-pub phase-is : (p q : Word) (none first both : Planes) (r : ℕ) → planePhase none ≡ 0
-    → planePhase first ≡ (planePhase none + lane p q 0) % 4 → planePhase both ≡ (planePhase first + lane p q 1) % 4 → r ≡ planePhase both
-    → r ≡ phase p q
+pub phase-is : {p q : Word} {t : Planes} {r : ℕ} → Added p q laneCount t → r ≡ planePhase t → r ≡ phase p q
 unfolding phase
-phase-is p q none first both r n f b h = let e = two-lanes p q in omega arith
+phase-is {p} {q} h e = e ∙ h .sum ∙ ap (λ (m : ℕ). m % 4) (lanes-phase laneCount (p .x) (p .z) (q .x) (q .z))
 
+-- ---- the exclusive or, lane by lane
 abbrev xored : List ℕ → List ℕ → List ℕ
-xored xs us = bitXor (getD xs 0 0) (getD us 0 0) ∷ bitXor (getD xs 1 0) (getD us 1 0) ∷ []
+xored xs us = tabulate laneCount (λ i. bitXor (getD xs i 0) (getD us i 0))
 
-xored-at : (xs us : List ℕ) → length xs ≡ 2 → length us ≡ 2 → (i : ℕ) → getD (xored xs us) i 0 ≡ bitXor (getD xs i 0) (getD us i 0)
-xored-at xs us hx hu zero = refl
-xored-at xs us hx hu (suc zero) = refl
-xored-at xs us hx hu (suc (suc i)) = sym (ap₂ bitXor (past xs i hx) (past us i hu))
+xored-at : (xs us : List ℕ) → length xs ≡ laneCount → length us ≡ laneCount → (i : ℕ) → getD (xored xs us) i 0 ≡ bitXor (getD xs i 0) (getD us i 0)
+xored-at xs us hx hu i = go (decLt i laneCount)
   where
-    past : (l : List ℕ) (i : ℕ) → length l ≡ 2 → getD l (suc (suc i)) 0 ≡ 0
-    past [] i e = refl
-    past (a ∷ []) i e = refl
-    past (a ∷ b ∷ []) i e = refl
-    past (a ∷ b ∷ c ∷ l) i e = absurd (omega arith)
+    go : Dec (i < laneCount) → getD (xored xs us) i 0 ≡ bitXor (getD xs i 0) (getD us i 0)
+    go (yes h) = getD-tabulate 0 laneCount (λ i. bitXor (getD xs i 0) (getD us i 0)) i h
+    go (no h) =
+        List·getD-eq-default (xored xs us) 0 (omega (arith, length-tabulate laneCount (λ i. bitXor (getD xs i 0) (getD us i 0))))
+        ∙ sym (ap₂ bitXor (List·getD-eq-default xs 0 (omega (arith, hx))) (List·getD-eq-default us 0 (omega (arith, hu))))
 
 xored-lt : (xs us : List ℕ) → ((i : ℕ) → getD xs i 0 < 2 ^ 64) → ((i : ℕ) → getD us i 0 < 2 ^ 64) → (i : ℕ) → getD (xored xs us) i 0 < 2 ^ 64
-xored-lt xs us hx hu zero = xor-lt 64 _ _ (hx 0) (hu 0)
-xored-lt xs us hx hu (suc zero) = xor-lt 64 _ _ (hx 1) (hu 1)
-xored-lt xs us hx hu (suc (suc i)) = omega arith
+xored-lt xs us hx hu = tabulate-lt (2 ^ 64) laneCount _ (omega arith) (λ i. xor-lt 64 _ _ (hx i) (hu i))
 
 -- the exclusive or of two words is the word of the table's letters
 pub mul-is : (p q : Word) → Sound p → Sound q → record { x = xored (p .x) (q .x); z = xored (p .z) (q .z) } ≡ mul p q
 unfolding mul
 mul-is p q sp sq =
     word-is (record { x = xored (p .x) (q .x); z = xored (p .z) (q .z) }) (λ k. mulLetter (letterAt p k) (letterAt q k))
-    (record { x-lanes = refl; z-lanes = refl; x-fits = xored-lt (p .x) (q .x) (sp .x-fits) (sq .x-fits); z-fits = xored-lt (p .z) (q .z) (sp .z-fits) (sq .z-fits) })
+    (record { x-lanes = length-tabulate laneCount _; z-lanes = length-tabulate laneCount _; x-fits = xored-lt (p .x) (q .x) (sp .x-fits) (sq .x-fits); z-fits = xored-lt (p .z) (q .z) (sp .z-fits) (sq .z-fits) })
     (λ k h. letter-xor (p .x) (p .z) (q .x) (q .z) (xored (p .x) (q .x)) (xored (p .z) (q .z)) k
     (xored-at (p .x) (q .x) (sp .x-lanes) (sq .x-lanes) (k / 64))
     (xored-at (p .z) (q .z) (sp .z-lanes) (sq .z-lanes) (k / 64)))
@@ -92,16 +96,33 @@ phased-eq p q = λ i. record { word = p i; phase = q i }
 abbrev clash : Word → Word → ℕ → ℕ
 clash p q i = imag (getD (p .x) i 0) (getD (p .z) i 0) (getD (q .x) i 0) (getD (q .z) i 0)
 
-parity : (o a b s t r : ℕ) → o + 2 * r ≡ a + b → a % 2 ≡ s % 2 → b % 2 ≡ t % 2 → o % 2 ≡ (s + t) % 4 % 2
-parity o a b s t r h f g = omega arith
+-- f 0 ^ f 1 ^ .. ^ f n
+unfoldable pub xorTo : ℕ → (ℕ → ℕ) → ℕ
+xorTo zero f = f 0
+xorTo (suc n) f = bitXor (xorTo n f) (f (suc n))
 
-pub odd-is : (p q : Word) → Sound p → Sound q → eqb (ones (bitXor (clash p q 0) (clash p q 1)) % 2) 1 ≡ antiCommute p q
+module _ (f g : ℕ → ℕ) (lt : (i : ℕ) → f i < 2 ^ 64) (odd : (i : ℕ) → ones (f i) % 2 ≡ g i % 2) where
+  xors-lt : (n : ℕ) → xorTo n f < 2 ^ 64
+  unfolding xorTo
+  xors-lt zero = lt 0
+  xors-lt (suc n) = xor-lt 64 (xorTo n f) (f (suc n)) (xors-lt n) (lt (suc n))
+
+  xors-odd : (n : ℕ) → ones (xorTo n f) % 2 ≡ sumTo (suc n) g % 2
+  unfolding xorTo sumTo
+  xors-odd zero = omega (arith, odd 0)
+  xors-odd (suc n) = omega (arith, xors-odd n, odd (suc n), ones-xor 64 (xorTo n f) (f (suc n)) (xors-lt n) (lt (suc n)))
+
+pub odd-is : (p q : Word) → Sound p → Sound q → eqb (ones (xorTo (laneCount - 1) (clash p q)) % 2) 1 ≡ antiCommute p q
 unfolding antiCommute phase
 odd-is p q sp sq =
-    let lt : (i : ℕ) → clash p q i < 2 ^ 64 = λ i. imag-lt _ _ _ _ (sp .x-fits i) (sp .z-fits i) (sq .x-fits i) (sq .z-fits i) in
-    let odd : (i : ℕ) → ones (clash p q i) % 2 ≡ lane p q i % 2 = λ i. lane-odd _ _ _ _ (sp .x-fits i) (sp .z-fits i) (sq .x-fits i) (sq .z-fits i) in
-    ap (λ (m : ℕ). eqb m 1)
-    (parity _ _ _ _ _ _ (ones-xor 64 (clash p q 0) (clash p q 1) (lt 0) (lt 1)) (odd 0) (odd 1) ∙ ap (λ (m : ℕ). m % 4 % 2) (two-lanes p q))
+    let e = xors-odd (clash p q) (lane p q)
+    (λ i. imag-lt _ _ _ _ (sp .x-fits i) (sp .z-fits i) (sq .x-fits i) (sq .z-fits i))
+    (λ i. lane-odd _ _ _ _ (sp .x-fits i) (sp .z-fits i) (sq .x-fits i) (sq .z-fits i))
+    (laneCount - 1) in
+    ap (λ (m : ℕ). eqb m 1) (halves _ _ e ∙ ap (λ (m : ℕ). m % 4 % 2) (lanes-phase laneCount (p .x) (p .z) (q .x) (q .z)))
+  where
+    halves : (a b : ℕ) → a % 2 ≡ b % 2 → a % 2 ≡ b % 4 % 2
+    halves a b e = omega arith
 
 -- ---- i times the commutator
 pub factor-none : (k : ℕ) → k < 4 → (k ≡ 1 → ⊥) → (k ≡ 3 → ⊥) → factor 0 ≡ factor k

@@ -113,13 +113,13 @@ module _ (n : ℕ) (text : List ℕ) (l : Lanes) (fits : n ≤ maxQubits) (whole
       go (no h) = all-letters (omega arith) (is-word (sym (refuse-none noLetter s _ (omega arith)) ∙ e))
 
 pub text-read : (n : ℕ) (text : List ℕ) (l : Lanes) → parse n text ≡ Parsed l → Text n text (unpack l)
-text-read n text l e = go (decLt 128 n) (scanFrom 0 text) refl
+text-read n text l e = go (decLt maxQubits n) (scanFrom 0 text) refl
   where
     counted : (k : ℕ) → n ≤ maxQubits → scanFrom 0 text ≡ Letters k → Dec (k ≡ n) → Text n text (unpack l)
     counted k fits f (yes m) = letters-are n text l fits (letters-counted n text k f ∙ m) (parse-letters n text fits k f m ∙ e)
     counted k fits f (no m) = absurd (no-word (parse-length n text fits k f m ∙ e))
 
-    go : Dec (128 < n) → (found : Scan) → scanFrom 0 text ≡ found → Text n text (unpack l)
+    go : Dec (maxQubits < n) → (found : Scan) → scanFrom 0 text ≡ found → Text n text (unpack l)
     go (yes h) found f = absurd (no-word (parse-wide n text h ∙ e))
     go (no h) (Foreign b p) f = absurd (no-word (parse-foreign n text (omega arith) b p f ∙ e))
     go (no h) (Letters k) f = counted k (omega arith) f (ℕ-discrete k n)
@@ -151,13 +151,13 @@ module _ (s : List ℕ) (l : Lanes) (fits : length s ≤ maxQubits) where
   codes-are e = go (decLt (firstWhere noCode s) (length s))
     where
       go : Dec (firstWhere noCode s < length s) → Codes s (unpack l)
-      go (yes h) = absurd (no-word (rw (le-ltb 128 (length s) fits, lt-ltb (firstWhere noCode s) (length s) h) at e))
-      go (no h) = all-codes-are (omega arith) (is-word (rw (le-ltb 128 (length s) fits, le-ltb (firstWhere noCode s) (length s) (omega arith)) at e))
+      go (yes h) = absurd (no-word (rw (le-ltb maxQubits (length s) fits, lt-ltb (firstWhere noCode s) (length s) h) at e))
+      go (no h) = all-codes-are (omega arith) (is-word (rw (le-ltb maxQubits (length s) fits, le-ltb (firstWhere noCode s) (length s) (omega arith)) at e))
 
 pub codes-read-are : (s : List ℕ) (l : Lanes) → readCodes s ≡ Parsed l → Codes s (unpack l)
-codes-read-are s l e = go (decLt 128 (length s))
+codes-read-are s l e = go (decLt maxQubits (length s))
   where
-    go : Dec (128 < length s) → Codes s (unpack l)
+    go : Dec (maxQubits < length s) → Codes s (unpack l)
     go (yes h) = absurd (no-word (codes-wide s h ∙ e))
     go (no h) = codes-are s l (omega arith) e
 
@@ -175,9 +175,9 @@ module _ (s : List ℕ) (l : Lanes) (e : readCodes s ≡ Parsed l) (out : List �
   unfolding writeAnswer written
   read-written =
       let k = codes-read-are s l e in
-      let a : writeAnswer (unpack l) (length s) out ≡ Accepted = rw (le-ltb 128 (length s) (k .few), le-ltb (length out) (length s) room, no-reach) in
+      let a : writeAnswer (unpack l) (length s) out ≡ Accepted = rw (le-ltb maxQubits (length s) (k .few), le-ltb (length out) (length s) room, no-reach) in
       let t : tabulate (length s) (letterAt (unpack l)) ≡ s =
-      ext-getD 0 _ s (length-tabulate (length s) _) (λ i h. getD-tabulate (length s) _ i (omega (arith, length-tabulate (length s) (letterAt (unpack l)))) ∙ k .below i (omega (arith, length-tabulate (length s) (letterAt (unpack l))))) in
+      ext-getD 0 _ s (length-tabulate (length s) _) (λ i h. getD-tabulate 0 (length s) _ i (omega (arith, length-tabulate (length s) (letterAt (unpack l)))) ∙ k .below i (omega (arith, length-tabulate (length s) (letterAt (unpack l))))) in
       (a, ap (λ (b : Answer). writeFor b (unpack l) (length s) out) a ∙ ap (λ (c : List ℕ). c ++ drop (length s) out) t)
 
 -- written, then read
@@ -186,9 +186,9 @@ not-accepted e = let z : _≡_ {A = ℕ} 0 1 = cc in omega arith
 
 module _ (w : Word) (n : ℕ) (out : List ℕ) (e : writeAnswer w n out ≡ Accepted) where
   few : n ≤ maxQubits
-  few = go (decLt 128 n)
+  few = go (decLt maxQubits n)
     where
-      go : Dec (128 < n) → n ≤ maxQubits
+      go : Dec (maxQubits < n) → n ≤ maxQubits
       go (yes h) = absurd (not-accepted (write-wide w n out h .answers ∙ e))
       go (no h) = omega arith
 
@@ -212,7 +212,7 @@ module _ (w : Word) (n : ℕ) (out : List ℕ) (e : writeAnswer w n out ≡ Acce
   codes = tabulate n (letterAt w)
 
   code-at : (q : ℕ) → q < n → getD codes q 0 ≡ letterAt w q
-  code-at q h = getD-tabulate n (letterAt w) q h
+  code-at q h = getD-tabulate 0 n (letterAt w) q h
 
   no-bad-code : length codes ≤ firstWhere noCode codes
   no-bad-code = no-first noCode codes (λ q h. le-ltb 3 (getD codes q 0) (omega (arith, length-tabulate n (letterAt w), word-letter-lt w q, code-at q (omega (arith, length-tabulate n (letterAt w))))))
@@ -229,5 +229,5 @@ module _ (w : Word) (n : ℕ) (out : List ℕ) (e : writeAnswer w n out ≡ Acce
   written-read s =
       let t : take n (writeFor (writeAnswer w n out) w n out) ≡ codes =
       ap (λ (a : Answer). take n (writeFor a w n out)) e ∙ take-at codes (drop n out) n (length-tabulate n (letterAt w)) in
-      rw (t, le-ltb 128 (length codes) (omega (arith, few, length-tabulate n (letterAt w))), le-ltb (firstWhere noCode codes) (length codes) no-bad-code)
+      rw (t, le-ltb maxQubits (length codes) (omega (arith, few, length-tabulate n (letterAt w))), le-ltb (firstWhere noCode codes) (length codes) no-bad-code)
       (ap (λ (v : Word). Parsed (pack v)) (sym (word-is w (λ q. getD codes q 0) s same-letters)))

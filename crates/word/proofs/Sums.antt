@@ -3,13 +3,13 @@
 
 -- Laws of sums, tests and lists over the numbers below n. Assumes nothing.
 use mathlib.Core.Path.{_≡_, refl, sym, ap, ap₂, _∙_}
-use mathlib.Core.Bool.{Bool, true, false, _||_, or-assoc, or-false}
-use mathlib.Core.List.{_∷_}
+use mathlib.Core.Bool.{Bool, true, false, _||_, or-assoc, or-false, or-true}
+use mathlib.Core.List.{List, [], _∷_}
 use Prim.Native.Nat.{ℕ, zero, suc, _+_, _*_, _<_, _%_}
 use native.Mathlib.Nat.{add-zero, add-suc, mul-suc, mul-zero}
 use native.Mathlib.Omega.{arith}
 use native.Mathlib.Decide.{ℕ-discrete}
-use lib.ListN.{length, getD}
+use lib.ListN.{length, getD, replicate}
 use Rattle.word.specs.Count.{sumTo, anyTo, tabulate}
 
 -- ---- sums
@@ -89,6 +89,16 @@ unfolding anyTo
 any-runs w zero f = rw mul-zero
 any-runs w (suc n) f = rw mul-suc (any-cat (w * n) w f ∙ ap (λ (b : Bool). b || anyTo w (λ k. f (w * n + k))) (any-runs w n f))
 
+-- where one holds
+pub any-there : (n : ℕ) (f : ℕ → Bool) (k : ℕ) → k < n → f k ≡ true → anyTo n f ≡ true
+unfolding anyTo
+any-there zero f k l h = absurd (omega arith)
+any-there (suc n) f k l h = go (ℕ-discrete k n) (any-there n f k)
+  where
+    go : Dec (k ≡ n) → (k < n → f k ≡ true → anyTo n f ≡ true) → (anyTo n f || f n) ≡ true
+    go (yes e) r = ap (λ (b : Bool). anyTo n f || b) (sym (ap f e) ∙ h) ∙ or-true (anyTo n f)
+    go (no m) r = ap (λ (b : Bool). b || f n) (r (omega arith) h)
+
 -- where none holds
 pub any-false : (n : ℕ) (f : ℕ → Bool) → anyTo n f ≡ false → (k : ℕ) → k < n → f k ≡ false
 unfolding anyTo
@@ -100,18 +110,39 @@ any-false (suc n) f h k l = go (any-false n f (or-left (anyTo n f) (f n) h) k) (
     go r (no m) = r (omega arith)
 
 -- ---- lists
-pub length-tabulate : (n : ℕ) (f : ℕ → ℕ) → length (tabulate n f) ≡ n
-unfolding tabulate
-length-tabulate zero f = refl
-length-tabulate (suc n) f = ap suc (length-tabulate n (λ k. f (suc k)))
+module _ {A : Type 0} where
+  pub length-tabulate : (n : ℕ) (f : ℕ → A) → length (tabulate n f) ≡ n
+  unfolding tabulate
+  length-tabulate zero f = refl
+  length-tabulate (suc n) f = ap suc (length-tabulate n (λ k. f (suc k)))
 
-pub getD-tabulate : (n : ℕ) (f : ℕ → ℕ) (i : ℕ) → i < n → getD (tabulate n f) i 0 ≡ f i
-unfolding tabulate
-getD-tabulate zero f i h = absurd (omega arith)
-getD-tabulate (suc n) f zero h = refl
-getD-tabulate (suc n) f (suc i) h = getD-tabulate n (λ k. f (suc k)) i (omega arith)
+  pub getD-tabulate : (d : A) (n : ℕ) (f : ℕ → A) (i : ℕ) → i < n → getD (tabulate n f) i d ≡ f i
+  unfolding tabulate
+  getD-tabulate d zero f i h = absurd (omega arith)
+  getD-tabulate d (suc n) f zero h = refl
+  getD-tabulate d (suc n) f (suc i) h = getD-tabulate d n (λ k. f (suc k)) i (omega arith)
 
-pub tabulate-cong : (n : ℕ) (f g : ℕ → ℕ) → ((k : ℕ) → k < n → f k ≡ g k) → tabulate n f ≡ tabulate n g
+  pub tabulate-cong : (n : ℕ) (f g : ℕ → A) → ((k : ℕ) → k < n → f k ≡ g k) → tabulate n f ≡ tabulate n g
+  unfolding tabulate
+  tabulate-cong zero f g h = refl
+  tabulate-cong (suc n) f g h = ap₂ _∷_ (h 0 (omega arith)) (tabulate-cong n (λ k. f (suc k)) (λ k. g (suc k)) (λ k l. h (suc k) (omega arith)))
+
+  -- a list of n elements is its elements in turn
+  pub tabulate-is : (d : A) (n : ℕ) (f : ℕ → A) (l : List A) → length l ≡ n → ((k : ℕ) → k < n → f k ≡ getD l k d) → tabulate n f ≡ l
+  unfolding tabulate
+  tabulate-is d zero f [] e h = refl
+  tabulate-is d zero f (a ∷ l) e h = absurd (omega arith)
+  tabulate-is d (suc n) f [] e h = absurd (omega arith)
+  tabulate-is d (suc n) f (a ∷ l) e h = ap₂ _∷_ (h 0 (omega arith)) (tabulate-is d n (λ k. f (suc k)) l (omega arith) (λ k m. h (suc k) (omega arith)))
+
+-- what every element satisfies, and 0 past them
+pub tabulate-lt : (b n : ℕ) (f : ℕ → ℕ) → 0 < b → ((k : ℕ) → f k < b) → (i : ℕ) → getD (tabulate n f) i 0 < b
 unfolding tabulate
-tabulate-cong zero f g h = refl
-tabulate-cong (suc n) f g h = ap₂ _∷_ (h 0 (omega arith)) (tabulate-cong n (λ k. f (suc k)) (λ k. g (suc k)) (λ k l. h (suc k) (omega arith)))
+tabulate-lt b zero f z h i = z
+tabulate-lt b (suc n) f z h zero = h 0
+tabulate-lt b (suc n) f z h (suc i) = tabulate-lt b n (λ k. f (suc k)) z (λ k. h (suc k)) i
+
+pub zeros-at : (n i : ℕ) → _≡_ {A = ℕ} (getD (replicate n 0) i 0) 0
+zeros-at zero i = refl
+zeros-at (suc n) zero = refl
+zeros-at (suc n) (suc i) = zeros-at n i

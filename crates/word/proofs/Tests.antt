@@ -4,29 +4,26 @@
 -- Tests of lanes against 0 are tests of letters: sharing a qubit, reaching beyond a register, equality. Assumes nothing.
 use mathlib.Core.Path.{_≡_, refl, sym, ap, ap₂, _∙_}
 use mathlib.Core.Bool.{Bool, true, false, not, _&&_, _||_, Bool·beq}
-use mathlib.Core.List.{List, [], _∷_}
-use Prim.Native.Nat.{ℕ, zero, suc, _+_, _-_, _*_, _/_, _^_, _<_, _≤_, min, max}
+use mathlib.Core.List.{List}
+use Prim.Native.Nat.{ℕ, zero, suc, _+_, _-_, _*_, _<_, _≤_, min, max}
 use native.Mathlib.Omega.{arith}
-use native.Mathlib.Nat.{div-one, zero-div, div-eq-of-lt, lt-of-lt-of-le}
-use native.Mathlib.Decide.{ℕ-discrete, decLt}
-use borrow.Author.Tests.{eq-eqb, ne-eqb, le-leb, lt-leb}
-use lib.Dec.{T, eqb, leb, leb·suc-suc, leb·suc-zero}
+use native.Mathlib.Decide.{ℕ-discrete}
+use borrow.Author.Tests.{eq-eqb, ne-eqb}
+use lib.Dec.{T, eqb}
 use lib.Bits.{bitAnd, bitOr, bitXor, or-add-and, xor-add-and, and-le-l, and-le-r, and-lt, or-lt, xor-self}
-use lib.Pow.{shr-shr, pow-mono}
 use lib.ListN.{getD, length}
 use lib.Seq.{ext-getD}
-use Rattle.word.specs.Count.{anyTo}
-use Rattle.word.specs.Word.{bit, Sound}
-use Rattle.word.specs.Register.{actsOn, reaches, share}
-use Rattle.word.specs.Order.{compareThen, compareLanes, compare, same}
-use Rattle.word.specs.Steps.{laneReaches}
+use Rattle.word.specs.Count.{anyTo, tabulate}
+use Rattle.word.specs.Word.{laneCount, bit, Sound}
+use Rattle.word.specs.Register.{actsOn, share}
+use Rattle.word.specs.Order.{compareLanes, same}
 use Rattle.word.specs.declared.word.Word.{Word}
 use Rattle.word.specs.declared.word.Ordering.{Ordering}
-use Rattle.word.specs.declared.word.Ordering.the-variants.{Equal}
-use Rattle.word.proofs.Sums.{any-cong, any-first, any-runs}
-use Rattle.word.proofs.Digits.{at-bits, bit-lt, bit-and, bit-or, bit-suc, any-digit}
+use Rattle.word.proofs.Sums.{any-cong, any-runs}
+use Rattle.word.proofs.Digits.{at-bits, bit-lt, bit-and, bit-or, any-digit}
 use Rattle.word.proofs.Lanes.{letter-in}
-use Rattle.word.proofs.Words.{word-eq}
+use Rattle.word.proofs.Words.{word-eq, one-by-one}
+use Rattle.word.proofs.NextLaws.{acting}
 use Rattle.word.proofs.OrderLaws.{same-self, same-eq}
 
 beq-eq : (a b : Bool) → T (Bool·beq a b) → a ≡ b
@@ -51,6 +48,30 @@ or-test a b = go (ℕ-discrete a 0) (ℕ-discrete b 0)
     go (yes p) (no q) = simp (ne-eqb (bitOr a b) 0 (λ h. q (or-zero a b h .1)), eq-eqb a 0 p, ne-eqb b 0 q)
     go (no p) d = simp (ne-eqb (bitOr a b) 0 (λ h. p (or-zero a b h .0)), ne-eqb a 0 p)
 
+-- f 0 | f 1 | .. | f n
+unfoldable pub orTo : ℕ → (ℕ → ℕ) → ℕ
+orTo zero f = f 0
+orTo (suc n) f = bitOr (orTo n f) (f (suc n))
+
+or-any : (n : ℕ) (f : ℕ → ℕ) → not (eqb (orTo n f) 0) ≡ anyTo (suc n) (λ i. not (eqb (f i) 0))
+unfolding orTo anyTo
+or-any zero f = refl
+or-any (suc n) f = or-test (orTo n f) (f (suc n)) ∙ ap (λ (b : Bool). b || not (eqb (f (suc n)) 0)) (or-any n f)
+
+or-none : (n : ℕ) (f : ℕ → ℕ) → orTo n f ≡ 0 → (i : ℕ) → i ≤ n → f i ≡ 0
+unfolding orTo
+or-none zero f h i l = let z : i ≡ 0 = omega arith in rw z h
+or-none (suc n) f h i l = let o = or-zero (orTo n f) (f (suc n)) h in go (ℕ-discrete i (suc n)) (o .1) (or-none n f (o .0) i)
+  where
+    go : Dec (i ≡ suc n) → f (suc n) ≡ 0 → (i ≤ n → f i ≡ 0) → f i ≡ 0
+    go (yes e) z r = ap f e ∙ z
+    go (no m) z r = r (omega arith)
+
+or-zeros : (n : ℕ) (f : ℕ → ℕ) → ((i : ℕ) → f i ≡ 0) → orTo n f ≡ 0
+unfolding orTo
+or-zeros zero f h = h 0
+or-zeros (suc n) f h = rw (or-zeros n f h, h (suc n))
+
 -- ---- a ^ b is 0 exactly if they are equal
 xor-zero : (a b : ℕ) → bitXor a b ≡ 0 → a ≡ b
 xor-zero a b h =
@@ -60,9 +81,6 @@ xor-zero a b h =
     omega arith
 
 -- ---- sharing a qubit
-abbrev acting : Word → ℕ → ℕ
-acting w i = bitOr (getD (w .x) i 0) (getD (w .z) i 0)
-
 lane-shares : (p q : Word) (i : ℕ) → Sound p → Sound q
     → not (eqb (bitAnd (acting p i) (acting q i)) 0) ≡ anyTo 64 (λ k. actsOn p (64 * i + k) && actsOn q (64 * i + k))
 lane-shares p q i sp sq =
@@ -78,125 +96,40 @@ lane-shares p q i sp sq =
         (bit (getD (p .x) i 0) k) (bit (getD (p .z) i 0) k) (bit (getD (q .x) i 0) k) (bit (getD (q .z) i 0) k)
         (bit-lt _ _) (bit-lt _ _) (bit-lt _ _) (bit-lt _ _)))
 
-pub share-is : (p q : Word) → Sound p → Sound q
-    → not (eqb (bitOr (bitAnd (acting p 0) (acting q 0)) (bitAnd (acting p 1) (acting q 1))) 0) ≡ share p q
-unfolding share anyTo
+pub share-is : (p q : Word) → Sound p → Sound q → not (eqb (orTo (laneCount - 1) (λ i. bitAnd (acting p i) (acting q i))) 0) ≡ share p q
+unfolding share
 share-is p q sp sq =
-    or-test (bitAnd (acting p 0) (acting q 0)) (bitAnd (acting p 1) (acting q 1))
-    ∙ ap₂ _||_ (lane-shares p q 0 sp sq) (lane-shares p q 1 sp sq)
-    ∙ sym (any-runs 64 2 (λ k. actsOn p k && actsOn q k))
-
--- ---- reaching beyond a register
-above : (m w n : ℕ) → n < 2 ^ w → not (eqb (n / 2 ^ m) 0) ≡ anyTo w (λ k. leb m k && not (eqb (bit n k) 0))
-unfolding anyTo
-above zero w n h = ap (λ (x : ℕ). not (eqb x 0)) (div-one n) ∙ any-digit w n h ∙ any-cong w _ _ (λ k l. sym (ap (λ (b : Bool). b && not (eqb (bit n k) 0)) (le-leb 0 k (omega arith))))
-above (suc m) zero n h = let e : n ≡ 0 = omega arith in rw (e, zero-div)
-above (suc m) (suc w) n h =
-    ap (λ (x : ℕ). not (eqb x 0)) (halved m n)
-    ∙ above m w (n / 2) (omega arith)
-    ∙ any-cong w _ _ (λ k l. ap₂ (λ (a : Bool) (d : ℕ). a && not (eqb d 0)) (sym (leb·suc-suc m k)) (bit-suc n k))
-    ∙ sym (any-first w (λ k. leb (suc m) k && not (eqb (bit n k) 0))
-    ∙ ap (λ (b : Bool). (b && not (eqb (bit n 0) 0)) || anyTo w (λ k. leb (suc m) (suc k) && not (eqb (bit n (suc k)) 0))) (leb·suc-zero m))
-  where
-    halved : (m n : ℕ) → n / 2 ^ suc m ≡ n / 2 / 2 ^ m
-    halved m n = let e : suc m ≡ 1 + m = omega arith in rw e (sym (shr-shr n 1 m))
-
-lane-above : (w : Word) (n i : ℕ) → Sound w
-    → laneReaches (acting w i) (n - 64 * i) ≡ anyTo 64 (λ k. leb n (64 * i + k) && actsOn w (64 * i + k))
-unfolding laneReaches
-lane-above w n i s =
-    above (n - 64 * i) 64 _ (or-lt 64 _ _ (s .x-fits i) (s .z-fits i))
-    ∙ any-cong 64 _ _ (λ k h. ap₂ _&&_ (from k) (at k ∙ sym (ap (λ (l : ℕ). not (eqb l 0)) (letter-in (w .x) (w .z) i k h))))
-  where
-    from : (k : ℕ) → leb (n - 64 * i) k ≡ leb n (64 * i + k)
-    from k = go (decLt (64 * i + k) n)
-      where
-        go : Dec (64 * i + k < n) → leb (n - 64 * i) k ≡ leb n (64 * i + k)
-        go (yes l) = lt-leb (n - 64 * i) k (omega arith) ∙ sym (lt-leb n (64 * i + k) l)
-        go (no l) = le-leb (n - 64 * i) k (omega arith) ∙ sym (le-leb n (64 * i + k) (omega arith))
-
-    at : (k : ℕ) → not (eqb (bit (acting w i) k) 0) ≡ not (eqb (bit (getD (w .x) i 0) k + 2 * bit (getD (w .z) i 0) k) 0)
-    at k =
-        simp bit-or
-        (beq-eq _ _
-        (at-bits (λ a b c d. Bool·beq (not (eqb (max a b) 0)) (not (eqb (a + 2 * b) 0))) tt
-        (bit (getD (w .x) i 0) k) (bit (getD (w .z) i 0) k) 0 0 (bit-lt _ _) (bit-lt _ _) (omega arith) (omega arith)))
-
-module _ (w : Word) (n : ℕ) (s : Sound w) where
-  two-lanes : (laneReaches (acting w 0) n || laneReaches (acting w 1) (n - 64)) ≡ reaches w n
-  unfolding reaches anyTo
-  two-lanes =
-      ap₂ _||_ (ap (laneReaches (acting w 0)) (omega arith) ∙ lane-above w n 0 s) (lane-above w n 1 s) ∙ sym (any-runs 64 2 (λ q. leb n q && actsOn w q))
-
-  pub reaches-low : (l : Bool) → l ≡ laneReaches (acting w 0) n → l ≡ true → true ≡ reaches w n
-  reaches-low l h t = ap (λ (b : Bool). b || laneReaches (acting w 1) (n - 64)) (sym t ∙ h) ∙ two-lanes
-
-  pub reaches-high : (l h : Bool) → l ≡ laneReaches (acting w 0) n → l ≡ false → h ≡ laneReaches (acting w 1) (n - 64) → h ≡ reaches w n
-  reaches-high l h e f g = g ∙ ap (λ (b : Bool). b || laneReaches (acting w 1) (n - 64)) (sym f ∙ e) ∙ two-lanes
-
--- no bit of a lane stands at or above bit 64
-pub lane-full : (lane n : ℕ) → lane < 2 ^ 64 → 64 ≤ n → laneReaches lane n ≡ false
-unfolding laneReaches
-lane-full lane n h l = ap (λ (x : ℕ). not (eqb x 0)) (div-eq-of-lt (lt-of-lt-of-le h (pow-mono l)))
-
--- a register that ends before the lane
-pub lane-start : (n lane : ℕ) → n < 64 → laneReaches lane (n - 64) ≡ not (eqb lane 0)
-unfolding laneReaches
-lane-start n lane h = let e : n - 64 ≡ 0 = omega arith in rw e (ap (λ (x : ℕ). not (eqb x 0)) (div-one lane))
+    or-any (laneCount - 1) (λ i. bitAnd (acting p i) (acting q i))
+    ∙ any-cong laneCount _ _ (λ i h. lane-shares p q i sp sq)
+    ∙ sym (any-runs 64 laneCount (λ k. actsOn p k && actsOn q k))
 
 -- ---- equality
-abbrev differing : Word → Word → ℕ
-differing p q =
-    bitOr
-    (bitOr (bitXor (getD (p .x) 0 0) (getD (q .x) 0 0)) (bitXor (getD (p .x) 1 0) (getD (q .x) 1 0)))
-    (bitOr (bitXor (getD (p .z) 0 0) (getD (q .z) 0 0)) (bitXor (getD (p .z) 1 0) (getD (q .z) 1 0)))
+abbrev differing : Word → Word → ℕ → ℕ
+differing p q i = bitOr (bitXor (getD (p .x) i 0) (getD (q .x) i 0)) (bitXor (getD (p .z) i 0) (getD (q .z) i 0))
 
-two : (l m : List ℕ) → length l ≡ 2 → length m ≡ 2 → getD l 0 0 ≡ getD m 0 0 → getD l 1 0 ≡ getD m 1 0 → l ≡ m
-two l m hl hm e f = ext-getD 0 l m (hl ∙ sym hm) at
-  where
-    at : (i : ℕ) → i < length l → getD l i 0 ≡ getD m i 0
-    at zero h = e
-    at (suc zero) h = f
-    at (suc (suc i)) h = absurd (omega arith)
-
-none-differing : (p q : Word) → Sound p → Sound q → differing p q ≡ 0 → p ≡ q
+none-differing : (p q : Word) → Sound p → Sound q → orTo (laneCount - 1) (differing p q) ≡ 0 → p ≡ q
 none-differing p q sp sq h =
-    let o = or-zero _ _ h in
-    let a = or-zero _ _ (o .0) in
-    let b = or-zero _ _ (o .1) in
     word-eq
-    (two (p .x) (q .x) (sp .x-lanes) (sq .x-lanes) (xor-zero _ _ (a .0)) (xor-zero _ _ (a .1)))
-    (two (p .z) (q .z) (sp .z-lanes) (sq .z-lanes) (xor-zero _ _ (b .0)) (xor-zero _ _ (b .1)))
-
-self-differing : (p : Word) → differing p p ≡ 0
-self-differing p = simp xor-self
-
-pub same-is : (p q : Word) → Sound p → Sound q → eqb (differing p q) 0 ≡ same p q
-same-is p q sp sq = go (ℕ-discrete (differing p q) 0) (same p q) refl
+    (ext-getD 0 (p .x) (q .x) (sp .x-lanes ∙ sym (sq .x-lanes)) (λ i l. xor-zero _ _ (lane i (omega (arith, sp .x-lanes)) .0)))
+    (ext-getD 0 (p .z) (q .z) (sp .z-lanes ∙ sym (sq .z-lanes)) (λ i l. xor-zero _ _ (lane i (omega (arith, sp .z-lanes)) .1)))
   where
-    go : Dec (differing p q ≡ 0) → (b : Bool) → same p q ≡ b → eqb (differing p q) 0 ≡ same p q
+    lane : (i : ℕ) → i < laneCount → (bitXor (getD (p .x) i 0) (getD (q .x) i 0) ≡ 0) × (bitXor (getD (p .z) i 0) (getD (q .z) i 0) ≡ 0)
+    lane i l = or-zero _ _ (or-none (laneCount - 1) (differing p q) h i (omega arith))
+
+self-differing : (p : Word) → orTo (laneCount - 1) (differing p p) ≡ 0
+self-differing p = or-zeros (laneCount - 1) (differing p p) (λ i. simp xor-self)
+
+pub same-is : (p q : Word) → Sound p → Sound q → eqb (orTo (laneCount - 1) (differing p q)) 0 ≡ same p q
+same-is p q sp sq = go (ℕ-discrete (orTo (laneCount - 1) (differing p q)) 0) (same p q) refl
+  where
+    go : Dec (orTo (laneCount - 1) (differing p q) ≡ 0) → (b : Bool) → same p q ≡ b → eqb (orTo (laneCount - 1) (differing p q)) 0 ≡ same p q
     go (yes h) b e = eq-eqb _ 0 h ∙ sym (ap (same p) (sym (none-differing p q sp sq h)) ∙ same-self p)
-    go (no h) true e = absurd (h (ap (differing p) (sym (same-eq p q e)) ∙ self-differing p))
+    go (no h) true e = absurd (h (ap (λ (v : Word). orTo (laneCount - 1) (differing p v)) (sym (same-eq p q e)) ∙ self-differing p))
     go (no h) false e = ne-eqb _ 0 h ∙ sym e
 
--- ---- the order of two lanes each
-pair : (l : List ℕ) → length l ≡ 2 → l ≡ getD l 0 0 ∷ getD l 1 0 ∷ []
-pair l h = two l (getD l 0 0 ∷ getD l 1 0 ∷ []) h refl refl refl
+-- ---- the order, lane by lane
+abbrev laneList : List ℕ → List ℕ
+laneList l = tabulate laneCount (λ i. getD l i 0)
 
-lanes-two : (l m : List ℕ) (o : Ordering) → length l ≡ 2 → length m ≡ 2
-    → compareLanes l m o ≡ compareThen (getD l 0 0) (getD m 0 0) (compareThen (getD l 1 0) (getD m 1 0) o)
-unfolding compareLanes
-lanes-two l m o hl hm = ap₂ (λ (a b : List ℕ). compareLanes a b o) (pair l hl) (pair m hm)
-
-pub compare-is : (p q : Word) (z₁ z₀ x₁ x₀ : Ordering) → Sound p → Sound q
-    → z₁ ≡ compareThen (getD (p .z) 1 0) (getD (q .z) 1 0) Equal
-    → z₀ ≡ compareThen (getD (p .z) 0 0) (getD (q .z) 0 0) z₁
-    → x₁ ≡ compareThen (getD (p .x) 1 0) (getD (q .x) 1 0) z₀
-    → x₀ ≡ compareThen (getD (p .x) 0 0) (getD (q .x) 0 0) x₁
-    → x₀ ≡ compare p q
-unfolding compare
-compare-is p q z₁ z₀ x₁ x₀ sp sq h₃ h₂ h₁ h₀ =
-    h₀
-    ∙ ap (compareThen (getD (p .x) 0 0) (getD (q .x) 0 0)) h₁
-    ∙ sym (lanes-two (p .x) (q .x) z₀ (sp .x-lanes) (sq .x-lanes))
-    ∙ ap (compareLanes (p .x) (q .x)) (h₂ ∙ ap (compareThen (getD (p .z) 0 0) (getD (q .z) 0 0)) h₃ ∙ sym (lanes-two (p .z) (q .z) Equal (sp .z-lanes) (sq .z-lanes)))
+pub compare-is : (l m : List ℕ) (after : Ordering) → length l ≡ laneCount → length m ≡ laneCount → compareLanes (laneList l) (laneList m) after ≡ compareLanes l m after
+compare-is l m after hl hm = ap₂ (λ (a b : List ℕ). compareLanes a b after) (one-by-one l hl) (one-by-one m hm)

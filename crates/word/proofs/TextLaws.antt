@@ -23,7 +23,7 @@ use Rattle.refusal.specs.declared.Answer.the-variants as Answers
 use Rattle.word.specs.Count.{tabulate}
 use Rattle.word.specs.Word.{maxQubits, letterAt, wordOf, identity, pack, Sound}
 use Rattle.word.specs.Text.{codeOf, dropped, firstWhere, refuseByte, foreign, noLetter, readLetters, parse}
-use Rattle.word.specs.Codes.{noCode, readCodes, writeAnswer, writeFor, written, Wrote}
+use Rattle.word.specs.Codes.{noCode, readCodes, writeAnswer, writeFor, written}
 use Rattle.word.specs.Register.{reaches}
 use Rattle.word.specs.Steps.{chosen, Put, scanFrom}
 use Rattle.word.specs.declared.word.Word.{Word}
@@ -34,6 +34,7 @@ use Rattle.word.specs.declared.word.ParsedWord.the-variants.{Parsed, Ref
 use Rattle.word.proofs.Sums.{length-tabulate}
 use Rattle.word.proofs.Words.{word-is}
 use Rattle.word.proofs.WordLaws.{letter-identity, sound-identity}
+use Rattle.word.specs.Between.{Wrote}
 
 -- ---- the first place that passes a test
 module _ (p : ℕ → Bool) where
@@ -186,9 +187,9 @@ unfolding refuseByte
 refuse-none p s after h = rw (le-ltb (firstWhere p s) (length s) h)
 
 module _ (n : ℕ) (text : List ℕ) where
-  pub parse-wide : 128 < n → Refused (TooManyQubits n maxQubits) ≡ parse n text
+  pub parse-wide : maxQubits < n → Refused (TooManyQubits n maxQubits) ≡ parse n text
   unfolding parse
-  parse-wide h = rw (lt-ltb 128 n h)
+  parse-wide h = rw (lt-ltb maxQubits n h)
 
   abbrev s : List ℕ
   s = dropped text
@@ -220,27 +221,27 @@ module _ (n : ℕ) (text : List ℕ) where
   pub letters-counted : (k : ℕ) → scanFrom 0 text ≡ Letters k → length (dropped text) ≡ k
   letters-counted k e = found-letters k (sym (scan-finds 0 text) ∙ e) .1
 
-  module _ (fits : n ≤ 128) where
+  module _ (fits : n ≤ maxQubits) where
     pub parse-foreign : (b p : ℕ) → scanFrom 0 text ≡ Foreign b p → Refused (InvalidPauliByte b p) ≡ parse n text
     unfolding parse
     parse-foreign b p e =
         let f = found-foreign b p (sym (scan-finds 0 text) ∙ e) in
-        rw (le-ltb 128 n fits) (ap₂ (λ (b p : ℕ). Refused (InvalidPauliByte b p)) (sym (f .1)) (sym (f .2)) ∙ sym (refuse-first foreign s _ (f .0)))
+        rw (le-ltb maxQubits n fits) (ap₂ (λ (b p : ℕ). Refused (InvalidPauliByte b p)) (sym (f .1)) (sym (f .2)) ∙ sym (refuse-first foreign s _ (f .0)))
 
     pub parse-length : (k : ℕ) → scanFrom 0 text ≡ Letters k → (k ≡ n → ⊥) → Refused (WrongLength n k) ≡ parse n text
     unfolding parse
     parse-length k e m =
         let f = found-letters k (sym (scan-finds 0 text) ∙ e) in
-        rw (le-ltb 128 n fits)
+        rw (le-ltb maxQubits n fits)
         (sym (refuse-none foreign s _ (f .0) ∙ rw (ne-eqb (length s) n (λ h. m (sym (f .1) ∙ h))) (ap (λ (k : ℕ). Refused (WrongLength n k)) (f .1))))
 
     pub parse-letters : (k : ℕ) → scanFrom 0 text ≡ Letters k → k ≡ n → readLetters s ≡ parse n text
     unfolding parse
     parse-letters k e m =
         let f = found-letters k (sym (scan-finds 0 text) ∙ e) in
-        rw (le-ltb 128 n fits) (sym (refuse-none foreign s _ (f .0) ∙ rw (eq-eqb (length s) n (f .1 ∙ m))))
+        rw (le-ltb maxQubits n fits) (sym (refuse-none foreign s _ (f .0) ∙ rw (eq-eqb (length s) n (f .1 ∙ m))))
 
-    pub counted : (k : ℕ) → scanFrom 0 text ≡ Letters k → k ≡ n → length (dropped text) ≤ 128
+    pub counted : (k : ℕ) → scanFrom 0 text ≡ Letters k → k ≡ n → length (dropped text) ≤ maxQubits
     counted k e m = omega (arith, letters-counted k e)
 
 -- ---- letter by letter: s is the text without underscores, of which q letters are read
@@ -293,21 +294,21 @@ pub not-refused : (b c : ℕ) → b ≡ c → codeOf c ≤ 3 → noLetter b ≡ 
 not-refused b c e h = ap noLetter e ∙ le-ltb 3 (codeOf c) h
 
 -- ---- code by code
-pub codes-wide : (s : List ℕ) → 128 < length s → Refused (TooManyQubits (length s) maxQubits) ≡ readCodes s
+pub codes-wide : (s : List ℕ) → maxQubits < length s → Refused (TooManyQubits (length s) maxQubits) ≡ readCodes s
 unfolding readCodes
-codes-wide s h = rw (lt-ltb 128 (length s) h)
+codes-wide s h = rw (lt-ltb maxQubits (length s) h)
 
-pub code-refused : (s : List ℕ) (q : ℕ) → length s ≤ 128 → Passed noCode q s → q < length s → 3 < getD s q 0 → Refused (InvalidPauliCode (getD s q 0)) ≡ readCodes s
+pub code-refused : (s : List ℕ) (q : ℕ) → length s ≤ maxQubits → Passed noCode q s → q < length s → 3 < getD s q 0 → Refused (InvalidPauliCode (getD s q 0)) ≡ readCodes s
 unfolding readCodes
 code-refused s q n p l h =
     let f = found-here noCode q s p l (lt-ltb 3 (getD s q 0) h) in
-    rw (le-ltb 128 (length s) n, lt-ltb (firstWhere noCode s) (length s) (omega arith), f)
+    rw (le-ltb maxQubits (length s) n, lt-ltb (firstWhere noCode s) (length s) (omega arith), f)
 
-pub codes-read : (s : List ℕ) (q : ℕ) (w : Word) → length s ≤ 128 → q ≡ length s → Passed noCode q s → ReadTo (λ k. getD s k 0) q w → Parsed (pack w) ≡ readCodes s
+pub codes-read : (s : List ℕ) (q : ℕ) (w : Word) → length s ≤ maxQubits → q ≡ length s → Passed noCode q s → ReadTo (λ k. getD s k 0) q w → Parsed (pack w) ≡ readCodes s
 unfolding readCodes
 codes-read s q w n e p r =
     let f = found-none noCode s (rw e at p) in
-    rw (le-ltb 128 (length s) n, le-ltb (firstWhere noCode s) (length s) (omega arith))
+    rw (le-ltb maxQubits (length s) n, le-ltb (firstWhere noCode s) (length s) (omega arith))
     (ap (λ (v : Word). Parsed (pack v)) (read-all (λ k. getD s k 0) q w r (λ k l. List·getD-eq-default s 0 (omega arith))))
 
 -- ---- codes written place by place
@@ -335,22 +336,22 @@ module _ (w : Word) (n : ℕ) (out : List ℕ) where
   unfolding written
   refused r e = record { answers = sym e; places = sym (changed-not (writeAnswer w n out) r e) }
 
-  pub write-wide : 128 < n → Wrote w n out (Answers.Refused (TooManyQubits n maxQubits)) out
+  pub write-wide : maxQubits < n → Wrote w n out (Answers.Refused (TooManyQubits n maxQubits)) out
   unfolding writeAnswer
-  write-wide h = refused _ (rw (lt-ltb 128 n h))
+  write-wide h = refused _ (rw (lt-ltb maxQubits n h))
 
-  module _ (fits : n ≤ 128) where
+  module _ (fits : n ≤ maxQubits) where
     pub write-short : length out < n → Wrote w n out (Answers.Refused (LengthMismatch n (length out))) out
     unfolding writeAnswer
-    write-short h = refused _ (rw (le-ltb 128 n fits, lt-ltb (length out) n h))
+    write-short h = refused _ (rw (le-ltb maxQubits n fits, lt-ltb (length out) n h))
 
     module _ (room : n ≤ length out) where
       pub write-outside : reaches w n ≡ true → Wrote w n out (Answers.Refused (WordOutsideRegister 0)) out
       unfolding writeAnswer
-      write-outside h = refused _ (rw (le-ltb 128 n fits, le-ltb (length out) n room, h))
+      write-outside h = refused _ (rw (le-ltb maxQubits n fits, le-ltb (length out) n room, h))
 
       pub write-accepted : reaches w n ≡ false → (after : List ℕ) → after ≡ tabulate n (letterAt w) ++ drop n out → Wrote w n out Accepted after
       unfolding writeAnswer written
       write-accepted h after e =
-          let f : writeAnswer w n out ≡ Accepted = rw (le-ltb 128 n fits, le-ltb (length out) n room, h) in
+          let f : writeAnswer w n out ≡ Accepted = rw (le-ltb maxQubits n fits, le-ltb (length out) n room, h) in
           record { answers = sym f; places = e ∙ ap (λ (b : Answer). writeFor b w n out) (sym f) }

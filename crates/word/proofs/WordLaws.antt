@@ -4,20 +4,19 @@
 -- The laws of products that the layers above cite: words multiply commutatively and associate with their phases, a
 -- word times itself is the identity, p q and q p differ by a sign, words that share no qubit commute. Assumes nothing.
 use mathlib.Core.Path.{_≡_, refl, sym, ap, _∙_}
-use mathlib.Core.List.{[], _∷_}
 use mathlib.Core.Bool.{Bool, true, false, not, _&&_}
-use Prim.Native.Nat.{ℕ, zero, suc, _+_, _*_, _/_, _%_, _^_, _<_}
+use Prim.Native.Nat.{ℕ, zero, suc, _+_, _/_, _%_, _^_, _<_}
 use native.Mathlib.Omega.{arith}
 use borrow.Author.Tests.{eqb-true, eqb-false}
 use lib.Dec.{T, eqb, eqb→eq}
-use lib.ListN.{getD}
+use lib.ListN.{getD, replicate, length-replicate}
 use Rattle.word.specs.Count.{sumTo}
 use Rattle.word.specs.Letter.{mulLetter, mulPhase}
-use Rattle.word.specs.Word.{maxQubits, bit, letterIn, letterAt, identity, Sound}
+use Rattle.word.specs.Word.{laneCount, maxQubits, letterIn, letterAt, identity, Sound}
 use Rattle.word.specs.Product.{phaseSum, mul, phase, antiCommute}
 use Rattle.word.specs.Register.{share}
 use Rattle.word.specs.declared.word.Word.{Word}
-use Rattle.word.proofs.Sums.{sum-cong, sum-add, sum-mod, sum-none, any-false}
+use Rattle.word.proofs.Sums.{sum-cong, sum-add, sum-mod, sum-none, any-false, zeros-at}
 use Rattle.word.proofs.Digits.{zero-bit}
 use Rattle.word.proofs.Lanes.{letter-lt}
 use Rattle.word.proofs.Words.{sound-wordOf, letter-wordOf, wordOf-cong, word-is}
@@ -137,20 +136,13 @@ mul-assoc a b c =
 -- ---- the identity, and a word times itself
 pub letter-identity : (q : ℕ) → letterAt identity q ≡ 0
 unfolding letterIn
-letter-identity q = none (q / 64)
-  where
-    none : (i : ℕ) → bit (getD (identity .x) i 0) (q % 64) + 2 * bit (getD (identity .z) i 0) (q % 64) ≡ 0
-    none zero = omega (arith, zero-bit (q % 64))
-    none (suc zero) = omega (arith, zero-bit (q % 64))
-    none (suc (suc i)) = omega (arith, zero-bit (q % 64))
+letter-identity q = rw (zeros-at laneCount (q / 64)) (omega (arith, zero-bit (q % 64)))
 
 pub sound-identity : Sound identity
-sound-identity = record { x-lanes = refl; z-lanes = refl; x-fits = low; z-fits = low }
+sound-identity = record { x-lanes = length-replicate {A = ℕ} laneCount 0; z-lanes = length-replicate {A = ℕ} laneCount 0; x-fits = low; z-fits = low }
   where
-    low : (i : ℕ) → getD (0 ∷ 0 ∷ []) i 0 < 2 ^ 64
-    low zero = omega arith
-    low (suc zero) = omega arith
-    low (suc (suc i)) = omega arith
+    low : (i : ℕ) → getD (replicate laneCount 0) i 0 < 2 ^ 64
+    low i = omega (arith, zeros-at laneCount i)
 
 pub mul-self : (a : Word) → mul a a ≡ identity
 unfolding mul

@@ -10,12 +10,14 @@ use lib.Dec.{eqb}
 use lib.ListN.{getD, length, set, length-set}
 use mir.Val.{Fits}
 use mir.Syntax.{w64}
+use Rattle.word.specs.Count.{tabulate}
 use Rattle.word.specs.Steps.{chosen, Put}
 use Rattle.word.specs.Word.{bit, laneCount, maxQubits, letterAt, wordOf, Sound, pack, unpack}
 use Rattle.word.specs.declared.word.Word.{Word}
+use Rattle.word.proofs.Sums.{tabulate-is}
 use Rattle.word.proofs.Lanes.{letter-lt, letter-of, letter-of-beyond, lanes-length, lanes-lt, lanes-cong, same-lanes, letter-put}
 
-pub sound : (w : Word) → length (w .x) ≡ 2 → length (w .z) ≡ 2
+pub sound : (w : Word) → length (w .x) ≡ laneCount → length (w .z) ≡ laneCount
     → ((i : ℕ) → Fits w64 (getD (w .x) i 0)) → ((i : ℕ) → Fits w64 (getD (w .z) i 0)) → Sound w
 sound w lx lz hx hz = record { x-lanes = lx; z-lanes = lz; x-fits = λ i. hx i .fits; z-fits = λ i. hz i .fits }
 
@@ -61,14 +63,12 @@ word-is w f s h =
     (λ q l. h q l ∙ sym (letter-wordOf f q l (rw (← (h q l)) (letter-lt (w .x) (w .z) q))))
 
 -- ---- lanes one by one
-two : (l : List ℕ) → length l ≡ 2 → getD l 0 0 ∷ getD l 1 0 ∷ [] ≡ l
-two [] e = absurd (omega arith)
-two (a ∷ []) e = absurd (omega arith)
-two (a ∷ b ∷ []) e = refl
-two (a ∷ b ∷ c ∷ l) e = absurd (omega arith)
+pub one-by-one : (l : List ℕ) → length l ≡ laneCount → tabulate laneCount (λ k. getD l k 0) ≡ l
+one-by-one l e = tabulate-is 0 laneCount (λ k. getD l k 0) l e (λ k h. refl)
 
 pub unpack-pack : (w : Word) → Sound w → unpack (pack w) ≡ w
-unpack-pack w s = word-eq (two (w .x) (s .x-lanes)) (two (w .z) (s .z-lanes))
+unfolding tabulate
+unpack-pack w s = word-eq (one-by-one (w .x) (s .x-lanes)) (one-by-one (w .z) (s .z-lanes))
 
 -- ---- one letter replaced
 set-lt : (l : List ℕ) (j r : ℕ) → ((i : ℕ) → getD l i 0 < 2 ^ 64) → r < 2 ^ 64 → (i : ℕ) → getD (set l j r) i 0 < 2 ^ 64

@@ -3,7 +3,6 @@
 
 -- Words as codes, a number from 0 to 3 for each qubit.
 use Prim.Native.Nat.{ℕ}
-use mathlib.Core.Path.{_≡_}
 use mathlib.Core.Bool.{Bool, cond}
 use mathlib.Core.List.{List, _++_}
 use lib.Dec.{ltb}
@@ -44,8 +43,3 @@ writeFor (Answers.Refused r) w n out = out
 
 unfoldable pub written : Word → ℕ → List ℕ → List ℕ
 written w n out = writeFor (writeAnswer w n out) w n out
-
--- what writing codes answers, and the lent places afterwards
-pub record Wrote (w : Word) (n : ℕ) (out : List ℕ) (answer : Answer) (after : List ℕ) : Type 0 where
-  pub answers : answer ≡ writeAnswer w n out
-  pub places : after ≡ written w n out

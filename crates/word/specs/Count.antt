@@ -17,6 +17,11 @@ anyTo zero f = false
 anyTo (suc n) f = anyTo n f || f n
 
 -- f 0, f 1, .., f (n - 1)
-unfoldable pub tabulate : ℕ → (ℕ → ℕ) → List ℕ
+unfoldable pub tabulate : {A : Type 0} → ℕ → (ℕ → A) → List A
 tabulate zero f = []
 tabulate (suc n) f = f 0 ∷ tabulate n (λ k. f (suc k))
+
+-- the n numbers from k on
+unfoldable pub upTo : ℕ → ℕ → List ℕ
+upTo k zero = []
+upTo k (suc n) = k ∷ upTo (suc k) n

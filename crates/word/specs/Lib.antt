@@ -11,4 +11,6 @@ pub mod Product
 pub mod Register
 pub mod Order
 pub mod Flat
+pub mod Hash
 pub mod Steps
+pub mod Between

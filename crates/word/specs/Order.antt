@@ -1,7 +1,7 @@
 -- SPDX-FileCopyrightText: 2026 The PPVM Authors
 -- SPDX-License-Identifier: Apache-2.0
 
--- Word order: x0, x1, z0, z1 as unsigned numbers; the first difference decides.
+-- Word order: the x lanes, then the z lanes, as unsigned numbers; the first difference decides.
 use Prim.Native.Nat.{ℕ}
 use mathlib.Core.Bool.{Bool, true, false, cond}
 use mathlib.Core.List.{List, [], _∷_}

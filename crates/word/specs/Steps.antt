@@ -1,9 +1,9 @@
 -- SPDX-FileCopyrightText: 2026 The PPVM Authors
 -- SPDX-License-Identifier: Apache-2.0
 
--- What the inner functions compute. No exported promise rests on these names.
-use Prim.Native.Nat.{ℕ, suc, _+_, _*_, _/_, _%_, _^_}
-use mathlib.Core.Bool.{Bool, true, false, not, cond}
+-- Contracts between functions: what the inner functions compute.
+use Prim.Native.Nat.{ℕ, suc, _+_, _*_, _%_}
+use mathlib.Core.Bool.{Bool, true, false, cond}
 use mathlib.Core.Path.{_≡_}
 use mathlib.Core.List.{List, [], _∷_}
 use lib.Dec.{eqb, leb}
@@ -29,10 +29,6 @@ pub record Put (w : Word) (q code : ℕ) (r : Word) : Type 0 where
 unfoldable pub scanFrom : ℕ → List ℕ → Scan
 scanFrom k [] = Letters k
 scanFrom k (b ∷ s) = cond (eqb b 95) (scanFrom k s) (cond (leb 128 b) (Foreign b k) (scanFrom (suc k) s))
-
--- does a lane have a bit at or above bit n
-unfoldable pub laneReaches : ℕ → ℕ → Bool
-laneReaches lane n = not (eqb (lane / 2 ^ n) 0)
 
 -- the phases of 64 qubits, whose letters stand in a and b on the left and in c and d on the right
 unfoldable pub lanePhase : ℕ → ℕ → ℕ → ℕ → ℕ

@@ -5,12 +5,12 @@
 use Prim.Native.Nat.{ℕ, _+_, _*_, _/_, _%_, _^_, _<_}
 use mathlib.Core.List.{List, [], _∷_}
 use mathlib.Core.Path.{_≡_}
-use lib.ListN.{getD, length}
+use lib.ListN.{getD, length, replicate}
 use Rattle.word.specs.Count.{sumTo, tabulate}
 use Rattle.word.specs.declared.word.Word.{Word}
 use Rattle.word.specs.declared.word.Lanes.{Lanes}
 
--- the lanes of a word's x and of its z, and the qubits that they hold: 128
+-- the lanes of a word's x, and as many of its z, and the qubits that they hold
 abbrev pub laneCount : ℕ
 laneCount = 2
 
@@ -46,7 +46,7 @@ pub record Sound (w : Word) : Type 0 where
 
 -- I at every qubit
 abbrev pub identity : Word
-identity = record { x = 0 ∷ 0 ∷ []; z = 0 ∷ 0 ∷ [] }
+identity = record { x = replicate laneCount 0; z = replicate laneCount 0 }
 
 -- a word's lanes one by one, and back
 abbrev pub pack : Word → Lanes

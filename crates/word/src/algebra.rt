@@ -55,22 +55,18 @@ fn phase_of(t: Planes) -> u32
 pub fn pauli_mul(p: Word, q: Word) -> Phased
     ensures { λ r. ⌜ r ≡ product p q ⌝ }
 {
-    let x0 = p.x[0];
-    let x1 = p.x[1];
-    let z0 = p.z[0];
-    let z1 = p.z[1];
-    let u0 = q.x[0];
-    let u1 = q.x[1];
-    let v0 = q.z[0];
-    let v1 = q.z[1];
+    let x = p.x;
+    let z = p.z;
+    let u = q.x;
+    let v = q.z;
     let none = Planes { low: 0, high: 0 };
-    let first = add_lane(none, x0, z0, u0, v0);
-    let both = add_lane(first, x1, z1, u1, v1);
+    let first = add_lane(none, x[0], z[0], u[0], v[0]);
+    let both = add_lane(first, x[1], z[1], u[1], v[1]);
     let phase = phase_of(both);
     Phased {
         word: Word {
-            x: [x0 ^ u0, x1 ^ u1],
-            z: [z0 ^ v0, z1 ^ v1],
+            x: [x[0] ^ u[0], x[1] ^ u[1]],
+            z: [z[0] ^ v[0], z[1] ^ v[1]],
         },
         phase,
     }
@@ -80,8 +76,12 @@ pub fn pauli_mul(p: Word, q: Word) -> Phased
 pub fn anti_commutes(p: Word, q: Word) -> bool
     ensures { λ r. ⌜ r ≡ antiCommute p q ⌝ }
 {
-    let c0 = (p.x[0] & q.z[0]) ^ (p.z[0] & q.x[0]);
-    let c1 = (p.x[1] & q.z[1]) ^ (p.z[1] & q.x[1]);
+    let x = p.x;
+    let z = p.z;
+    let u = q.x;
+    let v = q.z;
+    let c0 = (x[0] & v[0]) ^ (z[0] & u[0]);
+    let c1 = (x[1] & v[1]) ^ (z[1] & u[1]);
     u64::count_ones(c0 ^ c1) % 2 == 1
 }
 

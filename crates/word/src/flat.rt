@@ -7,14 +7,16 @@ ghost use mathlib.Core.Path.{_≡_};
 ghost use Prim.Native.Nat.{_+_, _*_, _≤_};
 ghost use lib.ListN.{length, getD};
 ghost use Rattle.word.specs.Word.{identity};
-ghost use Rattle.word.specs.Flat.{words, LaysWord};
+ghost use Rattle.word.specs.Flat.{wordLanes, words};
+use crate::word::LANES;
 use crate::word::Word;
+ghost use Rattle.word.specs.Between.{LaysWord};
 
-// The lanes of one word.
-pub const WORD_LANES: usize = 4;
+// The lanes of one word: those of x and those of z.
+pub const WORD_LANES: usize = 2 * LANES;
 
 pub fn word_at(table: &[u64], i: usize) -> Word
-    requires { ⌜ 4 * i + 4 ≤ length (now table) ⌝ }
+    requires { ⌜ wordLanes * i + wordLanes ≤ length (now table) ⌝ }
     ensures { λ r. ⌜ r ≡ getD (words (now (table .entry))) i identity ⌝ }
 {
     let at = i * WORD_LANES;
@@ -25,12 +27,14 @@ pub fn word_at(table: &[u64], i: usize) -> Word
 }
 
 pub fn set_word(table: &mut [u64], i: usize, w: Word)
-    requires { ⌜ 4 * i + 4 ≤ length (now table) ⌝ }
+    requires { ⌜ wordLanes * i + wordLanes ≤ length (now table) ⌝ }
     ensures { λ _. ⌜ LaysWord (now (table .entry)) i w (now (table .exit)) ⌝ }
 {
     let at = i * WORD_LANES;
-    table[at] = w.x[0];
-    table[at + 1] = w.x[1];
-    table[at + 2] = w.z[0];
-    table[at + 3] = w.z[1];
+    let x = w.x;
+    let z = w.z;
+    table[at] = x[0];
+    table[at + 1] = x[1];
+    table[at + 2] = z[0];
+    table[at + 3] = z[1];
 }

@@ -5,4 +5,5 @@
 // promises made here and never a lane.
 pub mod algebra;
 pub mod flat;
+pub mod hash;
 pub mod word;

@@ -3,27 +3,29 @@
 
 // The packed Pauli word, its texts and codes, and the order of words.
 ghost use mathlib.Core.Path.{_≡_};
-ghost use mathlib.Core.Bool.{not};
 ghost use Prim.Native.Nat.{ℕ, _+_, _*_, _≤_, _<_};
 ghost use lib.Dec.{eqb};
-ghost use lib.ListN.{length, getD};
-ghost use Rattle.word.specs.Word.{bit, letterAt, identity, pack, unpack};
+ghost use lib.ListN.{length};
+ghost use Rattle.word.specs.Word.{maxQubits, bit, letterAt, identity, pack, unpack};
 ghost use Rattle.word.specs.Text.{codeOf, dropped, readLetters, parse};
-ghost use Rattle.word.specs.Codes.{readCodes, Wrote};
+ghost use Rattle.word.specs.Codes.{readCodes};
 ghost use Rattle.word.specs.Register.{reaches, share};
-ghost use Rattle.word.specs.Order.{compareThen, compare, same};
-ghost use Rattle.word.specs.Steps.{chosen, Put, scanFrom, laneReaches};
+ghost use Rattle.word.specs.Order.{compareThen, compareLanes, compare, same};
+ghost use Rattle.word.specs.Steps.{chosen, Put, scanFrom};
 use refusal::Answer;
 use refusal::Refusal;
+ghost use Rattle.word.specs.Between.{Wrote, NextQubit};
 
-// The qubits that a word holds, 64 to a lane.
-pub const MAX_QUBITS: usize = 128;
+// The lanes of a word's x and of its z, and the qubits that they hold, 64 to a lane.
+pub const LANES: usize = 2;
+
+pub const MAX_QUBITS: usize = 64 * LANES;
 
 // Qubit q is bit q % 64 of lane q / 64: I has neither bit, X its x bit, Z its z bit, and Y both.
 #[repr(C)]
 pub struct Word {
-    pub x: [u64; 2],
-    pub z: [u64; 2],
+    pub x: [u64; LANES],
+    pub z: [u64; LANES],
 }
 
 // A word's lanes one by one, for an enum to hold: an enum cannot hold an array.
@@ -50,10 +52,8 @@ pub enum Ordering {
 pub fn identity_word() -> Word
     ensures { λ r. ⌜ r ≡ identity ⌝ }
 {
-    Word {
-        x: [0, 0],
-        z: [0, 0],
-    }
+    let none = [0; LANES];
+    Word { x: none, z: none }
 }
 
 pub fn packed(w: Word) -> Lanes
@@ -78,7 +78,7 @@ pub fn unpacked(l: Lanes) -> Word
 
 // The letter of a qubit, as its code.
 fn letter(w: Word, q: usize) -> u8
-    requires { ⌜ q < 128 ⌝ }
+    requires { ⌜ q < maxQubits ⌝ }
     ensures { λ r. ⌜ r ≡ letterAt w q ⌝ }
 {
     let i = q / 64;
@@ -98,7 +98,7 @@ fn with_bit(lane: u64, k: usize, b: u64) -> u64
 
 // A word with the letter at a qubit replaced.
 fn with_letter(w: Word, q: usize, code: u8) -> Word
-    requires { ⌜ (q < 128) × (code < 4) ⌝ }
+    requires { ⌜ (q < maxQubits) × (code < 4) ⌝ }
     ensures { λ r. ⌜ Put w q code r ⌝ }
 {
     let mut v = w;
@@ -156,10 +156,10 @@ fn scan_text(text: &[u8]) -> Scan
     Scan::Letters(place)
 }
 
-// The word of a text with at most 128 letters. Most letters of a term are I, and leave the word as
+// The word of a text with at most MAX_QUBITS letters. Most letters of a term are I, and leave the word as
 // it is.
 fn read_letters(text: &[u8]) -> ParsedWord
-    requires { ⌜ length (dropped (now text)) ≤ 128 ⌝ }
+    requires { ⌜ length (dropped (now text)) ≤ maxQubits ⌝ }
     ensures { λ r. ⌜ r ≡ readLetters (dropped (now (text .entry))) ⌝ }
 {
     let mut w = identity_word();
@@ -238,29 +238,35 @@ pub fn word_from_codes(codes: &[u8]) -> ParsedWord
     ParsedWord::Parsed(packed(w))
 }
 
-// Whether a lane has a bit at or above bit n.
-fn lane_reaches(lane: u64, n: usize) -> bool
-    ensures { λ r. ⌜ r ≡ laneReaches lane n ⌝ }
+// The first qubit at or after `from` that has a letter other than I, and MAX_QUBITS where there is
+// none.
+pub fn next_qubit(w: Word, from: usize) -> usize
+    ensures { λ r. ⌜ NextQubit w from r ⌝ }
 {
-    if 64 <= n {
-        return false;
+    if MAX_QUBITS <= from {
+        return MAX_QUBITS;
     }
-    lane >> n != 0
+    let first = from / 64;
+    let rest = (w.x[first] | w.z[first]) >> (from % 64);
+    if rest != 0 {
+        return from + u64::trailing_zeros(rest) as usize;
+    }
+    let mut i = first + 1;
+    while i < LANES {
+        let lane = w.x[i] | w.z[i];
+        if lane != 0 {
+            return i * 64 + u64::trailing_zeros(lane) as usize;
+        }
+        i += 1;
+    }
+    MAX_QUBITS
 }
 
 // Whether a word has a letter other than I at or above qubit n.
 pub fn reaches_beyond(w: Word, n_qubits: usize) -> bool
     ensures { λ r. ⌜ r ≡ reaches w «n_qubits» ⌝ }
 {
-    let low = w.x[0] | w.z[0];
-    let high = w.x[1] | w.z[1];
-    if lane_reaches(low, n_qubits) {
-        return true;
-    }
-    if n_qubits < 64 {
-        return high != 0;
-    }
-    lane_reaches(high, n_qubits - 64)
+    next_qubit(w, n_qubits) < MAX_QUBITS
 }
 
 // Writes a code for each of the first n_qubits qubits; places from n_qubits on stay as they were.
@@ -294,8 +300,12 @@ pub fn codes_from_word(w: Word, n_qubits: usize, out: &mut [u8]) -> Answer
 pub fn shares_qubit(p: Word, q: Word) -> bool
     ensures { λ r. ⌜ r ≡ share p q ⌝ }
 {
-    let low = (p.x[0] | p.z[0]) & (q.x[0] | q.z[0]);
-    let high = (p.x[1] | p.z[1]) & (q.x[1] | q.z[1]);
+    let x = p.x;
+    let z = p.z;
+    let u = q.x;
+    let v = q.z;
+    let low = (x[0] | z[0]) & (u[0] | v[0]);
+    let high = (x[1] | z[1]) & (u[1] | v[1]);
     low | high != 0
 }
 
@@ -312,20 +322,33 @@ fn compare_then(a: u64, b: u64, after: Ordering) -> Ordering
     after
 }
 
-// The order of words: x[0], x[1], z[0], z[1] as numbers; the first difference decides.
+// The lanes a against the lanes b as numbers, and where they are equal, what comes after.
+fn compare_lanes(a: [u64; LANES], b: [u64; LANES], after: Ordering) -> Ordering
+    ensures { λ r. ⌜ r ≡ compareLanes a b after ⌝ }
+{
+    let last = compare_then(a[1], b[1], after);
+    compare_then(a[0], b[0], last)
+}
+
+// The order of words: x lanes, then z lanes; the first difference decides.
 pub fn compare_words(p: Word, q: Word) -> Ordering
     ensures { λ r. ⌜ r ≡ compare p q ⌝ }
 {
-    let z1 = compare_then(p.z[1], q.z[1], Ordering::Equal);
-    let z0 = compare_then(p.z[0], q.z[0], z1);
-    let x1 = compare_then(p.x[1], q.x[1], z0);
-    compare_then(p.x[0], q.x[0], x1)
+    let px = p.x;
+    let qx = q.x;
+    let pz = p.z;
+    let qz = q.z;
+    compare_lanes(px, qx, compare_lanes(pz, qz, Ordering::Equal))
 }
 
 pub fn same_word(p: Word, q: Word) -> bool
     ensures { λ r. ⌜ r ≡ same p q ⌝ }
 {
-    let x = (p.x[0] ^ q.x[0]) | (p.x[1] ^ q.x[1]);
-    let z = (p.z[0] ^ q.z[0]) | (p.z[1] ^ q.z[1]);
-    x | z == 0
+    let x = p.x;
+    let z = p.z;
+    let u = q.x;
+    let v = q.z;
+    let low = (x[0] ^ u[0]) | (z[0] ^ v[0]);
+    let high = (x[1] ^ u[1]) | (z[1] ^ v[1]);
+    low | high == 0
 }

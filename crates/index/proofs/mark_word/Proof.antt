@@ -1,33 +1,79 @@
 -- SPDX-FileCopyrightText: 2026 The PPVM Authors
 -- SPDX-License-Identifier: Apache-2.0
 
--- `mark_word` meets its contract: both lanes of w are marked. Assumes nothing.
-use Prim.Native.Nat.{ℕ}
-use mir.Val.{Fits}
-use mir.Syntax.{w64}
-use lib.ListN.{getD}
-use Rattle.word.proofs.Words.{sound}
-use Rattle.index.proofs.MarkLaws.{both-marked}
+-- `mark_word` meets its contract: the qubits before q that w acts on are marked. Assumes nothing.
+use Prim.Native.Nat.{_-_, _<_}
+use mathlib.Core.Path.{_≡_, refl, _∙_}
+use lib.ListN.{length, length-set}
+use Rattle.word.specs.Word.{maxQubits}
+use Rattle.index.proofs.Walk.{Stands, stands, rises}
+use Rattle.index.proofs.MarkLaws.{Marking, marking-start, marking-turn, marking-done}
+use native.Mathlib.Omega.{arith}
 use borrow.Author.Needs.{needs}
 use Rattle.index.proofs.mark_word.Statement.{statement}
 use Rattle.index.proofs.mark_word.Tie as tie
 
-returns : tie.Need-returns
+abbrev Inv-loop : tie.InvT-loop
+Inv-loop index₀ n j w end q₀ index q = (length index ≡ length index₀) × Stands w q × Marking j w index₀ index q
+
+abbrev μ-loop : tie.MeasureT-loop
+μ-loop index₀ n j w end q₀ index q = maxQubits - q
+
+loop-holds : tie.Need-loop-holds Inv-loop μ-loop
+loop-holds c =
+    let a = c .before .before .before .args in
+    let n = c .next-qubit .ensures in
+    (refl, stands (a .w) 0 _ n (omega arith), marking-start (a .j) (a .w) (a .index .now) _ n)
+
+-- the qubit is one of the word's, and its row one of the index's
+low : (c : tie.In-loop Inv-loop μ-loop) → (c .before .loop .q < maxQubits) × (c .before .loop .q < c .before .before .before .before .before .args .n)
+low c = (omega (arith, c .before .before .before .held-qubits .ensures, c .loop-test .taken), omega (arith, c .before .before .before .held-qubits .ensures, c .loop-test .taken))
+
+loop-less : tie.Need-loop-less Inv-loop μ-loop
+loop-less c =
+    let l = c .before .before .before .loop in
+    let h = low (c .before .before) in
+    omega (arith, h .0, rises (c .before .before .before .before .before .before .before .args .w) (l .q) (c .next-qubit2 .result) (l .inv .1) (h .0) (c .next-qubit2 .ensures))
+
+loop-again : tie.Need-loop-again Inv-loop μ-loop
+loop-again c =
+    let a = c .before .before .before .before .before .before .before .args in
+    let l = c .before .before .before .loop in
+    let h = low (c .before .before) in
+    let n = c .next-qubit2 .ensures in (
+      length-set (l .index) _ _ ∙ l .inv .0,
+      stands (a .w) _ _ n (omega (arith, h .0)),
+      marking-turn (a .j) (a .w) (a .index .now) (l .index) (l .q) (omega arith) (l .inv .1) (l .inv .2) _ (h .0) n (omega (arith, h .1, l .inv .0)),
+    )
+
+same-length : tie.Need-same-length Inv-loop μ-loop
+same-length c = c .before .loop .inv .0
+
+returns : tie.Need-returns Inv-loop μ-loop
 returns c =
-    let s = c .before .before .before .before .before .before .before .before .before .before .before .before .before in
-    let hx : (i : ℕ) → Fits w64 (getD (s .args .t4 .x) i 0) = λ i. search needs in
-    let hz : (i : ℕ) → Fits w64 (getD (s .args .t4 .z) i 0) = λ i. search needs in
-    both-marked (s .args .n) (s .args .j) (s .args .t4) (sound (s .args .t4) (search needs) (search needs) hx hz) (s .args .index .now) _ _ (c .before .before .before .before .before .before .mark-lane .ensures) (c .before .before .mark-lane2 .ensures)
+    let a = c .before .before .before .before .before .args in
+    let l = c .before .loop in
+    marking-done (a .j) (a .w) (a .index .now) (l .index) (l .q) (omega arith) (l .inv .1) (l .inv .2) (a .n) (omega (arith, c .before .before .before .held-qubits .ensures, c .loop-test .left))
 
 pub mark-word-spec : {M : Type 1} → statement M
 mark-word-spec =
     tie.close
     (tie.spec
-    (λ c. search needs)
-    (λ c. search needs)
-    (λ c. search needs)
-    (λ c. search needs)
+    Inv-loop
+    μ-loop
     (λ c κs. search needs)
     (λ c κs. search needs)
+    loop-holds
+    (λ c. let h = low c in search (h .1, needs))
+    (λ c. let h = low c in search (h .1, needs))
+    (λ c. let h = low c in search (h .1, c .before .loop .inv .0, needs))
+    (λ c. let h = low (c .before) in omega (arith, h .1, c .before .before .loop .inv .0))
     (λ c. search needs)
+    (λ c. let h = low (c .before) in search (h .1, c .before .before .loop .inv .0, needs))
+    (λ c. let h = low (c .before) in omega (arith, h .1, c .before .before .loop .inv .0))
+    (λ c. let h = low (c .before) in search (h .1, needs))
+    (λ c κs. search needs)
+    loop-less
+    loop-again
+    same-length
     returns)

@@ -9,7 +9,7 @@ use lib.Count.{trailingZeros, trailing-le}
 use mir.Val.{Fits}
 use mir.Syntax.{w64}
 use Rattle.index.specs.Visit.{left}
-use Rattle.index.proofs.Lowest.{lowest}
+use Rattle.word.proofs.Lowest.{lowest}
 use Rattle.index.proofs.Cursors.{cursor, step-turn, step-done, step-item}
 use native.Mathlib.Omega.{arith}
 use borrow.Author.Needs.{needs}

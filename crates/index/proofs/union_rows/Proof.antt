@@ -1,35 +1,75 @@
 -- SPDX-FileCopyrightText: 2026 The PPVM Authors
 -- SPDX-License-Identifier: Apache-2.0
 
--- `union_rows` meets its contract: from a clear mask both lanes of p are united. Assumes nothing.
-use Prim.Native.Nat.{ℕ}
-use mir.Val.{Fits}
-use mir.Syntax.{w64}
-use lib.ListN.{length, getD}
-use Rattle.word.proofs.Words.{sound}
-use Rattle.index.proofs.Unions.{both-lanes}
+-- `union_rows` meets its contract: the rows of the qubits before q that p acts on are united. Assumes nothing.
+use Prim.Native.Nat.{_-_, _<_}
+use mathlib.Core.Path.{_≡_, refl, _∙_}
+use lib.ListN.{length}
+use Rattle.word.specs.Word.{maxQubits}
+use Rattle.index.proofs.Walk.{Stands, stands, rises}
+use Rattle.index.proofs.Unions.{Uniting, uniting-start, uniting-turn, uniting-done}
+use native.Mathlib.Omega.{arith}
 use borrow.Author.Needs.{needs}
 use Rattle.index.proofs.union_rows.Statement.{statement}
 use Rattle.index.proofs.union_rows.Tie as tie
 
-returns : tie.Need-returns
+abbrev Inv-loop : tie.InvT-loop
+Inv-loop p n index mask₀ end q₀ mask q = (length mask ≡ length mask₀) × Stands p q × Uniting n p index mask q
+
+abbrev μ-loop : tie.MeasureT-loop
+μ-loop p n index mask₀ end q₀ mask q = maxQubits - q
+
+loop-holds : tie.Need-loop-holds Inv-loop μ-loop
+loop-holds c =
+    let a = c .before .before .before .before .before .before .before .before .args in
+    let n = c .next-qubit .ensures in
+    (refl, stands (a .p) 0 _ n (omega arith), uniting-start (a .n) (a .p) (a .index .now) _ (length (a .mask .now)) _ (c .before .before .before .before .clear-lanes .ensures) n)
+
+-- the qubit is one of the word's, and its row one of the index's
+low : (c : tie.In-loop Inv-loop μ-loop) → (c .before .loop .q < maxQubits) × (c .before .loop .q < c .before .before .before .before .before .before .before .before .before .before .args .n)
+low c = (omega (arith, c .before .before .before .held-qubits .ensures, c .loop-test .taken), omega (arith, c .before .before .before .held-qubits .ensures, c .loop-test .taken))
+
+loop-less : tie.Need-loop-less Inv-loop μ-loop
+loop-less c =
+    let l = c .before .before .before .before .before .before .loop in
+    let h = low (c .before .before .before .before .before) in
+    omega (arith, h .0, rises (c .before .before .before .before .before .before .before .before .before .before .before .before .before .before .before .args .p) (l .q) (c .next-qubit2 .result) (l .inv .1) (h .0) (c .next-qubit2 .ensures))
+
+loop-again : tie.Need-loop-again Inv-loop μ-loop
+loop-again c =
+    let a = c .before .before .before .before .before .before .before .before .before .before .before .before .before .before .before .args in
+    let l = c .before .before .before .before .before .before .loop in
+    let h = low (c .before .before .before .before .before) in
+    let n = c .next-qubit2 .ensures in (
+      c .before .before .before .or-row .kept .0 ∙ l .inv .0,
+      stands (a .p) _ _ n (omega (arith, h .0)),
+      uniting-turn (a .n) (a .p) (a .index .now) (l .mask) (l .q) (l .inv .1) (l .inv .2) _ (omega (arith, h .0, h .1)) n _ (c .before .before .before .or-row .ensures),
+    )
+
+same-length : tie.Need-same-length Inv-loop μ-loop
+same-length c = c .before .loop .inv .0 ∙ c .before .before .before .before .before .before .clear-lanes .kept .0
+
+returns : tie.Need-returns Inv-loop μ-loop
 returns c =
-    let s = c .before .before .before .before .before .before .before .before .before .before .before .before .before .before .before .before .before .before in
-    let hx : (i : ℕ) → Fits w64 (getD (s .args .t1 .x) i 0) = λ i. search needs in
-    let hz : (i : ℕ) → Fits w64 (getD (s .args .t1 .z) i 0) = λ i. search needs in
-    both-lanes (s .args .n) (s .args .t1) (sound (s .args .t1) (search needs) (search needs) hx hz) (s .args .index .now) _ _ _ (length (s .args .mask .now)) (c .before .before .before .before .before .before .before .before .before .before .clear-lanes .ensures)
-    (c .before .before .before .before .before .before .unite-lane .ensures) (c .before .before .unite-lane2 .ensures)
+    let a = c .before .before .before .before .before .before .before .before .before .before .args in
+    let l = c .before .loop in
+    uniting-done (a .n) (a .p) (a .index .now) (l .mask) (l .q) (l .inv .1) (l .inv .2) (omega (arith, c .before .before .before .held-qubits .ensures, c .loop-test .left))
 
 pub union-rows-spec : {M : Type 1} → statement M
 union-rows-spec =
     tie.close
     (tie.spec
-    (λ c. search needs)
-    (λ c. search needs)
-    (λ c. search needs)
-    (λ c. search needs)
+    Inv-loop
+    μ-loop
     (λ c κs. search needs)
     (λ c κs. search needs)
     (λ c κs. search needs)
-    (λ c. search needs)
+    loop-holds
+    (λ c. let h = low (c .before) in search (h .1, needs))
+    (λ c κs. let h = low (c .before) in omega (arith, h .1, c .before .before .loop .inv .0))
+    (λ c. let h = low (c .before .before .before .before) in search (h .1, needs))
+    (λ c κs. search needs)
+    loop-less
+    loop-again
+    same-length
     returns)

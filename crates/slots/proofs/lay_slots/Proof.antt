@@ -9,7 +9,7 @@ use borrow.Author.Needs.{needs}
 use lib.ListN.{length}
 use Rattle.word.specs.Flat.{words}
 use Rattle.word.proofs.FlatLaws.{words-low, words-high}
-use Rattle.slots.specs.Slots.{slotOf}
+use Rattle.slots.specs.Between.{slotOf}
 use Rattle.slots.proofs.HashLaws.{slot-below}
 use Rattle.slots.proofs.SlotLaws.{Laying, lay-start, lay-more, lay-done}
 use Rattle.slots.proofs.lay_slots.Statement.{statement}

@@ -3,7 +3,7 @@
 
 -- `slot_of` meets its contract. Assumes nothing.
 use borrow.Author.Needs.{needs}
-use Rattle.slots.specs.Slots.{slotOf}
+use Rattle.slots.specs.Between.{slotOf}
 use Rattle.slots.proofs.slot_of.Statement.{statement}
 use Rattle.slots.proofs.slot_of.Tie as tie
 
@@ -16,4 +16,4 @@ unfolding slotOf
 returns-2 c = rw (c .before .word-hash .ensures)
 
 pub slot-of-spec : {M : Type 1} → statement M
-slot-of-spec = tie.close (tie.spec (λ c κs. search needs) (λ c. search needs) returns (λ c. search needs) returns-2)
+slot-of-spec = tie.close (tie.spec (λ c κs. search needs) returns (λ c. search needs) returns-2)

@@ -7,17 +7,18 @@ use Prim.Native.Nat.{ℕ}
 use native.Mathlib.Omega.{arith}
 use lib.ListN.{length, replicate}
 use Rattle.number.specs.Floats.{float0}
-use Rattle.model.specs.Stored.{ModelTables, tables}
+use Rattle.model.specs.Stored.{ModelTables}
 use Rattle.action.proofs.ActLaws.{empty-room, sums-full, sums-held, listed-are, sums-inside, list-room, act-outside, act-full, act-unlisted, act-listed}
 use borrow.Author.Needs.{needs}
 use Rattle.action.proofs.act.act_tested.Statement.{statement}
 use Rattle.action.proofs.act.act_tested.Tie as tie
+use Rattle.model.specs.Between.{modelTables}
 
 returns : tie.Need-returns
 returns c =
     let s = c .before .before .before .before .before .before .before .before .before .before .before .before in
     let a = s .args in
-    let t : ModelTables = tables (a .h-words .now) (a .h-coeffs .now) (a .jumps .now) (a .rates .now) (a .t-words .now) (a .t-numbers .now) in
+    let t : ModelTables = modelTables (a .h-words .now) (a .h-coeffs .now) (a .jumps .now) (a .rates .now) (a .t-words .now) (a .t-numbers .now) in
     act-outside (a .out-words .now) (a .out-values .now) (a .work-words .now) (a .work-sums .now) (a .m) t (a .p) (s .pre) (sym (c .before .reaches-beyond .ensures) ∙ c .if1 .taken)
 
 put-rules-requires : tie.Need-put-rules-requires
@@ -29,7 +30,7 @@ returns-2 : tie.Need-returns-2
 returns-2 c =
     let s = c .before .before .before .before .before .before .before .before .before .before .before .before .before .before .before .before .before .before .before .before .before .before .before .before .before .before .before .before .before .before in
     let a = s .args in
-    let t : ModelTables = tables (a .h-words .now) (a .h-coeffs .now) (a .jumps .now) (a .rates .now) (a .t-words .now) (a .t-numbers .now) in
+    let t : ModelTables = modelTables (a .h-words .now) (a .h-coeffs .now) (a .jumps .now) (a .rates .now) (a .t-words .now) (a .t-numbers .now) in
     let q = c .before .before .before .before .before .before .before .before .before .before .before .before .before .before .put-rules in
     act-full (a .out-words .now) (a .out-values .now) (a .work-words .now) (a .work-sums .now) (a .m) t (a .p) (s .pre) (sym (c .before .before .before .before .before .before .before .before .before .before .before .before .before .before .before .before .before .before .before .reaches-beyond .ensures) ∙ c .before .before .before .before .before .before .before .before .before .before .before .before .before .before .before .before .before .before .if1 .left) _ _ _ (c .before .before .before .before .before .before .before .before .before .before .before .before .before .before .before .before .before .smaller .ensures)
     (sums-full (a .m) t (a .p) _ (a .work-words .now) (a .work-sums .now) _ _ _ (q .ensures) (c .before .before .before .before .before .before .before .before .enum-told .given .1))
@@ -40,7 +41,7 @@ count-listed-requires : tie.Need-count-listed-requires
 count-listed-requires c κs =
     let s = c .before .before .before .before .before .before .before .before .before .before .before .before .before .before .before .before .before .before .before .before .before .before .before .before .before in
     let a = s .args in
-    let t : ModelTables = tables (a .h-words .now) (a .h-coeffs .now) (a .jumps .now) (a .rates .now) (a .t-words .now) (a .t-numbers .now) in
+    let t : ModelTables = modelTables (a .h-words .now) (a .h-coeffs .now) (a .jumps .now) (a .rates .now) (a .t-words .now) (a .t-numbers .now) in
     let q = c .before .before .before .before .before .before .before .before .before .put-rules in
     sums-inside (a .m) t (a .p) _ (a .work-words .now) (a .work-sums .now) _ _ _ (q .ensures) _ (c .before .before .before .added .given .1) (q .kept .0) (q .kept .1 .0) (omega (arith, c .before .before .before .before .before .before .before .before .before .before .before .before .smaller .ensures)) (omega (arith, c .before .before .before .before .before .before .before .before .before .before .before .before .smaller .ensures))
 
@@ -48,7 +49,7 @@ returns-3 : tie.Need-returns-3
 returns-3 c =
     let s = c .before .before .before .before .before .before .before .before .before .before .before .before .before .before .before .before .before .before .before .before .before .before .before .before .before .before .before .before .before .before .before .before .before .before .before .before in
     let a = s .args in
-    let t : ModelTables = tables (a .h-words .now) (a .h-coeffs .now) (a .jumps .now) (a .rates .now) (a .t-words .now) (a .t-numbers .now) in
+    let t : ModelTables = modelTables (a .h-words .now) (a .h-coeffs .now) (a .jumps .now) (a .rates .now) (a .t-words .now) (a .t-numbers .now) in
     let q = c .before .before .before .before .before .before .before .before .before .before .before .before .before .before .before .before .before .before .before .before .put-rules in
     let e = c .before .before .before .before .before .before .before .before .before .before .before .before .before .before .added .given .1 in
     let h = sums-held (a .m) t (a .p) _ (a .work-words .now) (a .work-sums .now) _ _ _ (q .ensures) _ e in
@@ -63,7 +64,7 @@ list-sums-requires : tie.Need-list-sums-requires
 list-sums-requires c κs =
     let s = c .before .before .before .before .before .before .before .before .before .before .before .before .before .before .before .before .before .before .before .before .before .before .before .before .before .before .before .before .before .before .before .before in
     let a = s .args in
-    let t : ModelTables = tables (a .h-words .now) (a .h-coeffs .now) (a .jumps .now) (a .rates .now) (a .t-words .now) (a .t-numbers .now) in
+    let t : ModelTables = modelTables (a .h-words .now) (a .h-coeffs .now) (a .jumps .now) (a .rates .now) (a .t-words .now) (a .t-numbers .now) in
     let q = c .before .before .before .before .before .before .before .before .before .before .before .before .before .before .before .before .put-rules in
     list-room (a .m) t (a .p) _ (a .work-words .now) (a .work-sums .now) _ _ _ (q .ensures) _ (c .before .before .before .before .before .before .before .before .before .before .added .given .1) (q .kept .0) (q .kept .1 .0) (omega (arith, c .before .before .before .before .before .before .before .before .before .before .before .before .before .before .before .before .before .before .before .smaller .ensures)) (omega (arith, c .before .before .before .before .before .before .before .before .before .before .before .before .before .before .before .before .before .before .before .smaller .ensures))
     (a .out-words .now) (a .out-values .now) _ _ (c .before .before .before .before .before .before .count-listed .ensures) (c .before .before .before .before .before .smaller2 .ensures) (c .before .before .before .before .if2 .left)
@@ -72,7 +73,7 @@ returns-4 : tie.Need-returns-4
 returns-4 c =
     let s = c .before .before .before .before .before .before .before .before .before .before .before .before .before .before .before .before .before .before .before .before .before .before .before .before .before .before .before .before .before .before .before .before .before .before .before .before .before .before .before .before .before .before .before .before .before in
     let a = s .args in
-    let t : ModelTables = tables (a .h-words .now) (a .h-coeffs .now) (a .jumps .now) (a .rates .now) (a .t-words .now) (a .t-numbers .now) in
+    let t : ModelTables = modelTables (a .h-words .now) (a .h-coeffs .now) (a .jumps .now) (a .rates .now) (a .t-words .now) (a .t-numbers .now) in
     let q = c .before .before .before .before .before .before .before .before .before .before .before .before .before .before .before .before .before .before .before .before .before .before .before .before .before .before .before .before .before .put-rules in
     let e = c .before .before .before .before .before .before .before .before .before .before .before .before .before .before .before .before .before .before .before .before .before .before .before .added .given .1 in
     let h = sums-held (a .m) t (a .p) _ (a .work-words .now) (a .work-sums .now) _ _ _ (q .ensures) _ e in

@@ -9,17 +9,20 @@ use lib.ListN.{length}
 use mir.Val.{Fits}
 use mir.Syntax.{w64}
 use Rattle.word.specs.Flat.{words}
-use Rattle.model.specs.Stored.{ModelTables, tables}
+use Rattle.model.specs.Stored.{ModelTables}
 use Rattle.action.specs.Counts.{touchedBy, listedBy}
 use Rattle.action.proofs.ActLaws.{empty-room, sums-full, sums-held, listed-are, sums-inside}
-use Rattle.action.proofs.CountLaws.{MostState, most-start, most-full, most-more, most-done, words-count, word-inside}
+use Rattle.action.proofs.CountLaws.{MostState, most-start, most-full, most-more, most-done}
 use borrow.Author.Needs.{needs}
 use Rattle.action.proofs.count.most_places.Statement.{statement}
 use Rattle.action.proofs.count.most_places.Tie as tie
+use Rattle.lent.proofs.WordLaws.{word-inside}
+use Rattle.model.specs.Between.{modelTables}
+use Rattle.word.proofs.FlatLaws.{words-count}
 
 abbrev Inv-loop : tie.InvT-loop
 Inv-loop m h-words h-coeffs jumps rates t-words t-numbers list h-index j-index mask₀ work-words₀ work-sums₀ room count touched₀ listed₀ k₀ mask work-words work-sums touched listed k =
-    MostState (touchedBy m (tables h-words h-coeffs jumps rates t-words t-numbers)) (listedBy m (tables h-words h-coeffs jumps rates t-words t-numbers)) (words list) room touched listed k
+    MostState (touchedBy m (modelTables h-words h-coeffs jumps rates t-words t-numbers)) (listedBy m (modelTables h-words h-coeffs jumps rates t-words t-numbers)) (words list) room touched listed k
     × (length mask ≡ length mask₀) × (length work-words ≡ length work-words₀) × (length work-sums ≡ length work-sums₀)
 
 abbrev μ-loop : tie.MeasureT-loop
@@ -28,7 +31,7 @@ abbrev μ-loop : tie.MeasureT-loop
 loop-holds : tie.Need-loop-holds Inv-loop μ-loop
 loop-holds c =
     let a = c .before .before .before .before .before .before .before .before .before .before .before .before .args in
-    let t : ModelTables = tables (a .h-words .now) (a .h-coeffs .now) (a .jumps .now) (a .rates .now) (a .t-words .now) (a .t-numbers .now) in
+    let t : ModelTables = modelTables (a .h-words .now) (a .h-coeffs .now) (a .jumps .now) (a .rates .now) (a .t-words .now) (a .t-numbers .now) in
     (most-start (touchedBy (a .m) t) (listedBy (a .m) t) (words (a .list .now)) (a .room), refl, refl, refl)
 
 word-at-requires : tie.Need-word-at-requires Inv-loop μ-loop
@@ -54,7 +57,7 @@ returns : tie.Need-returns Inv-loop μ-loop
 returns c =
     let s = c .before .before .before .before .before .before .before .before .before .before .before .before .before .before .before .before .before .before .before .before .before .before .before .before .before .before .before in
     let a = s .args in
-    let t : ModelTables = tables (a .h-words .now) (a .h-coeffs .now) (a .jumps .now) (a .rates .now) (a .t-words .now) (a .t-numbers .now) in
+    let t : ModelTables = modelTables (a .h-words .now) (a .h-coeffs .now) (a .jumps .now) (a .rates .now) (a .t-words .now) (a .t-numbers .now) in
     let l = c .before .before .before .before .before .before .before .before .before .before .before .before .before .before .loop in
     let n = words-count (a .list .now) in
     let q = c .before .before .before .before .before .before .before .before .put-rules-near in
@@ -65,7 +68,7 @@ count-listed-requires : tie.Need-count-listed-requires Inv-loop μ-loop
 count-listed-requires c κs =
     let s = c .before .before .before .before .before .before .before .before .before .before .before .before .before .before .before .before .before .before .before .before .before .before .before .before .before .before .before .before .before .before in
     let a = s .args in
-    let t : ModelTables = tables (a .h-words .now) (a .h-coeffs .now) (a .jumps .now) (a .rates .now) (a .t-words .now) (a .t-numbers .now) in
+    let t : ModelTables = modelTables (a .h-words .now) (a .h-coeffs .now) (a .jumps .now) (a .rates .now) (a .t-words .now) (a .t-numbers .now) in
     let l = c .before .before .before .before .before .before .before .before .before .before .before .before .before .before .before .before .before .loop in
     let n = words-count (a .list .now) in
     let q = c .before .before .before .before .before .before .before .before .before .before .before .put-rules-near in
@@ -82,7 +85,7 @@ loop-again : tie.Need-loop-again Inv-loop μ-loop
 loop-again c =
     let s = c .before .before .before .before .before .before .before .before .before .before .before .before .before .before .before .before .before .before .before .before .before .before .before .before .before .before .before .before .before .before .before .before .before in
     let a = s .args in
-    let t : ModelTables = tables (a .h-words .now) (a .h-coeffs .now) (a .jumps .now) (a .rates .now) (a .t-words .now) (a .t-numbers .now) in
+    let t : ModelTables = modelTables (a .h-words .now) (a .h-coeffs .now) (a .jumps .now) (a .rates .now) (a .t-words .now) (a .t-numbers .now) in
     let l = c .before .before .before .before .before .before .before .before .before .before .before .before .before .before .before .before .before .before .before .before .loop in
     let n = words-count (a .list .now) in
     let q = c .before .before .before .before .before .before .before .before .before .before .before .before .before .before .put-rules-near in
@@ -90,7 +93,7 @@ loop-again c =
     let k = sums-held (a .m) t (c .before .before .before .before .before .before .before .before .before .before .before .before .before .before .before .before .before .before .word-at .result) (a .room) (l .work-words) (l .work-sums) _ _ _ (q .ensures) _ e in
     let g = listed-are (a .m) t (c .before .before .before .before .before .before .before .before .before .before .before .before .before .before .before .before .before .before .word-at .result) (a .room) (l .work-words) (l .work-sums) _ _ _ (q .ensures) _ e in (
       most-more (touchedBy (a .m) t) (listedBy (a .m) t) (words (a .list .now)) (a .room) (l .touched) (l .listed) (l .k) (l .inv .0) (c .before .before .before .before .before .before .before .before .before .before .before .before .before .before .before .before .before .before .word-at .result) (omega (arith, n, c .before .before .before .before .before .before .before .before .before .before .before .before .before .before .before .before .before .before .before .loop-test .taken)) (c .before .before .before .before .before .before .before .before .before .before .before .before .before .before .before .before .before .before .word-at .ensures)
-          _ _ (c .before .larger-count .ensures ∙ ap (λ (x : ℕ). max (l .touched) x) (k .0)) (c .larger-count2 .ensures ∙ ap (λ (x : ℕ). max (l .listed) x) (c .before .before .count-listed .ensures ∙ ap length g)) (k .1),
+          _ _ (c .before .larger .ensures ∙ ap (λ (x : ℕ). max (l .touched) x) (k .0)) (c .larger2 .ensures ∙ ap (λ (x : ℕ). max (l .listed) x) (c .before .before .count-listed .ensures ∙ ap length g)) (k .1),
       q .kept .1 .1 .1 .1 .1 .1 .1 .1 .1 .1 .1 .1 .0 ∙ l .inv .1,
       q .kept .0 ∙ l .inv .2,
       q .kept .1 .0 ∙ l .inv .3,
@@ -118,7 +121,7 @@ returns-2 : tie.Need-returns-2 Inv-loop μ-loop
 returns-2 c =
     let s = c .before .before .before .before .before .before .before .before .before .before .before .before .before .before in
     let a = s .args in
-    let t : ModelTables = tables (a .h-words .now) (a .h-coeffs .now) (a .jumps .now) (a .rates .now) (a .t-words .now) (a .t-numbers .now) in
+    let t : ModelTables = modelTables (a .h-words .now) (a .h-coeffs .now) (a .jumps .now) (a .rates .now) (a .t-words .now) (a .t-numbers .now) in
     let l = c .before .loop in
     let n = words-count (a .list .now) in
     most-done (touchedBy (a .m) t) (listedBy (a .m) t) (words (a .list .now)) (a .room) (l .touched) (l .listed) (l .k) (l .inv .0) (omega (arith, n, c .loop-test .left))

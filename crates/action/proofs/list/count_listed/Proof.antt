@@ -4,7 +4,7 @@
 -- `list::count_listed` meets its contract. Assumes nothing.
 use mathlib.Core.Path.{sym, _∙_}
 use Prim.Native.Nat.{_-_}
-use Rattle.model.specs.Product.{onto}
+use Rattle.model.specs.Between.{onto}
 use Rattle.action.proofs.ListLaws.{CountState, count-passes, count-lists, count-done}
 use borrow.Author.Needs.{needs}
 use native.Mathlib.Omega.{arith}

@@ -5,7 +5,7 @@
 use mathlib.Core.Path.{refl, sym, _∙_}
 use Prim.Native.Nat.{_-_}
 use lib.ListN.{length-set}
-use Rattle.model.specs.Product.{onto}
+use Rattle.model.specs.Between.{onto}
 use Rattle.action.proofs.ListLaws.{ListState, list-start, list-passes, list-place, list-lays, list-done}
 use borrow.Author.Needs.{needs}
 use native.Mathlib.Omega.{arith}

@@ -8,6 +8,7 @@ use native.Mathlib.Omega.{arith}
 use borrow.Author.Needs.{needs}
 use lib.ListN.{length, take}
 use lib.Seq.{length-take-le}
+use Rattle.word.specs.Flat.{wordLanes}
 use Rattle.candidates.proofs.LogLaws.{first-entries}
 use Rattle.candidates.proofs.merge.absorb.Statement.{statement}
 use Rattle.candidates.proofs.merge.absorb.Tie as tie
@@ -24,7 +25,7 @@ work-taken c = sym (length-take-le _ (c .before .before .before .before .before 
 absorb-all-requires : tie.Need-absorb-all-requires
 absorb-all-requires c κs =
     let s = c .before .before .before .before .before .before .before .before .before .before .before .before .before in
-    let lanes : length (take (s .args .count * 4) (s .args .log .now)) ≡ s .args .count * 4 = length-take-le (s .args .count * 4) (s .args .log .now) (omega arith) in
+    let lanes : length (take (s .args .count * wordLanes) (s .args .log .now)) ≡ s .args .count * wordLanes = length-take-le (s .args .count * wordLanes) (s .args .log .now) (omega arith) in
     let order : length (take (s .args .count) (s .args .order .now)) ≡ s .args .count = length-take-le (s .args .count) (s .args .order .now) (omega arith) in
     let work : length (take (s .args .count) (s .args .work .now)) ≡ s .args .count = length-take-le (s .args .count) (s .args .work .now) (omega arith) in
     ((s .pre .0 .0, s .pre .0 .1), ((omega (arith, lanes, order), omega (arith, lanes, work), omega (arith, order)), s .pre .1 .1))

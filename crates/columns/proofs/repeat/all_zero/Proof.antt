@@ -6,7 +6,7 @@ use mathlib.Core.Path.{_≡_, refl}
 use Prim.Native.Nat.{_-_, _≤_}
 use native.Mathlib.Omega.{arith}
 use lib.ListN.{length, drop}
-use Rattle.columns.specs.Repeats.{allZero}
+use Rattle.columns.specs.Between.{allZero}
 use Rattle.columns.proofs.RepeatLaws.{zero-next, zero-not, zero-end}
 use borrow.Author.Needs.{needs}
 use Rattle.columns.proofs.repeat.all_zero.Statement.{statement}

@@ -5,7 +5,7 @@
 use mathlib.Core.Path.{sym, ap, _∙_}
 use mathlib.Core.Bool.{Bool, _&&_}
 use borrow.Author.Tests.{not-true, not-false}
-use Rattle.columns.specs.Repeats.{allZero}
+use Rattle.columns.specs.Between.{allZero}
 use borrow.Author.Needs.{needs}
 use Rattle.columns.proofs.repeat.both_zero.Statement.{statement}
 use Rattle.columns.proofs.repeat.both_zero.Tie as tie

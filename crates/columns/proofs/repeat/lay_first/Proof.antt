@@ -7,7 +7,7 @@ use Prim.Native.Nat.{ℕ}
 use native.Mathlib.Omega.{arith}
 use lib.ListN.{replicate}
 use Rattle.word.specs.Flat.{words}
-use Rattle.columns.specs.Repeats.{allZero}
+use Rattle.columns.specs.Between.{allZero}
 use Rattle.columns.proofs.RepeatLaws.{zero-all, both-first, both-second, lays-unchanged, lays-slots}
 use borrow.Author.Needs.{needs}
 use Rattle.columns.proofs.repeat.lay_first.Statement.{statement}

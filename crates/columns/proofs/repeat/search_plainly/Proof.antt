@@ -6,8 +6,8 @@ use mathlib.Core.Path.{sym}
 use Prim.Native.Nat.{_-_, _≤_}
 use native.Mathlib.Omega.{arith}
 use Rattle.word.specs.Flat.{words}
-use Rattle.model.proofs.Firsts.{NoneBefore, none-start, stops-here, goes-on, stops-last}
-use Rattle.action.proofs.CountLaws.{words-count}
+use Rattle.lent.proofs.Firsts.{NoneBefore, none-start, stops-here, goes-on, stops-last}
+use Rattle.word.proofs.FlatLaws.{words-count}
 use Rattle.columns.specs.Repeats.{repeatsAt}
 use Rattle.columns.proofs.RepeatLaws.{first-is}
 use borrow.Author.Needs.{needs}

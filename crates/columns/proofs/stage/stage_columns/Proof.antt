@@ -8,20 +8,22 @@ use Prim.Native.Nat.{_-_, _<_}
 use native.Mathlib.Omega.{arith}
 use lib.ListN.{length}
 use Rattle.word.specs.Flat.{words}
-use Rattle.model.specs.Stored.{ModelTables, tables}
+use Rattle.model.specs.Stored.{ModelTables}
 use Rattle.action.specs.Acts.{actionOf}
 use Rattle.action.specs.Counts.{touchedBy}
 use Rattle.action.proofs.ActLaws.{empty-room, sums-full, sums-held, listed-are, sums-inside}
-use Rattle.action.proofs.CountLaws.{words-count, word-inside}
-use Rattle.columns.specs.Stages.{StageRoom}
+use Rattle.word.proofs.FlatLaws.{words-count}
+use Rattle.model.specs.Between.{modelTables}
+use Rattle.columns.specs.Between.{StageRoom}
 use Rattle.columns.proofs.ColumnLaws.{ColumnState, column-start, column-touched, column-full, column-more, column-done, stages-are}
 use borrow.Author.Needs.{needs}
 use Rattle.columns.proofs.stage.stage_columns.Statement.{statement}
 use Rattle.columns.proofs.stage.stage_columns.Tie as tie
+use Rattle.lent.proofs.WordLaws.{word-inside}
 
 abbrev Inv-loop : tie.InvT-loop
 Inv-loop m h-words h-coeffs jumps rates t-words t-numbers basis heads nexts h-index j-index mask₀ work-words₀ work-sums₀ sum-room rows₀ columns₀ values₀ entry-room len end₀ c₀ mask work-words work-sums rows columns values end c =
-    ColumnState (touchedBy m (tables h-words h-coeffs jumps rates t-words t-numbers)) (actionOf m (tables h-words h-coeffs jumps rates t-words t-numbers)) (words basis) sum-room entry-room rows columns values end c
+    ColumnState (touchedBy m (modelTables h-words h-coeffs jumps rates t-words t-numbers)) (actionOf m (modelTables h-words h-coeffs jumps rates t-words t-numbers)) (words basis) sum-room entry-room rows columns values end c
     × (length mask ≡ length mask₀) × (length work-words ≡ length work-words₀) × (length work-sums ≡ length work-sums₀) × (length rows ≡ length rows₀) × (length columns ≡ length columns₀) × (length values ≡ length values₀)
 
 abbrev μ-loop : tie.MeasureT-loop
@@ -30,7 +32,7 @@ abbrev μ-loop : tie.MeasureT-loop
 loop-holds : tie.Need-loop-holds Inv-loop μ-loop
 loop-holds c =
     let a = c .before .before .before .before .before .before .before .before .before .before .before .before .before .before .before .before .before .args in
-    let t : ModelTables = tables (a .h-words .now) (a .h-coeffs .now) (a .jumps .now) (a .rates .now) (a .t-words .now) (a .t-numbers .now) in
+    let t : ModelTables = modelTables (a .h-words .now) (a .h-coeffs .now) (a .jumps .now) (a .rates .now) (a .t-words .now) (a .t-numbers .now) in
     (column-start (touchedBy (a .m) t) (actionOf (a .m) t) (words (a .basis .now)) (a .sum-room) (a .entry-room) (a .rows .now) (a .columns .now) (a .values .now), refl, refl, refl, refl, refl, refl)
 
 word-at-requires : tie.Need-word-at-requires Inv-loop μ-loop
@@ -53,7 +55,7 @@ put-rules-near-requires c κs =
 returns : tie.Need-returns Inv-loop μ-loop
 returns c =
     let a = c .before .before .before .before .before .before .before .before .before .before .before .before .before .before .before .before .before .before .before .before .before .before .before .before .before .before .before .before .before .before .before .before .args in
-    let t : ModelTables = tables (a .h-words .now) (a .h-coeffs .now) (a .jumps .now) (a .rates .now) (a .t-words .now) (a .t-numbers .now) in
+    let t : ModelTables = modelTables (a .h-words .now) (a .h-coeffs .now) (a .jumps .now) (a .rates .now) (a .t-words .now) (a .t-numbers .now) in
     let l = c .before .before .before .before .before .before .before .before .before .before .before .before .before .before .loop in
     let n = words-count (a .basis .now) in
     stages-are (a .m) t (words (a .basis .now)) (a .sum-room) (a .entry-room) (l .rows) (l .columns) (l .values) _
@@ -63,7 +65,7 @@ returns c =
 stage-terms-requires : tie.Need-stage-terms-requires Inv-loop μ-loop
 stage-terms-requires c κs =
     let a = c .before .before .before .before .before .before .before .before .before .before .before .before .before .before .before .before .before .before .before .before .before .before .before .before .before .before .before .before .before .before .before .before .before .before .before .before .before .before .args in
-    let t : ModelTables = tables (a .h-words .now) (a .h-coeffs .now) (a .jumps .now) (a .rates .now) (a .t-words .now) (a .t-numbers .now) in
+    let t : ModelTables = modelTables (a .h-words .now) (a .h-coeffs .now) (a .jumps .now) (a .rates .now) (a .t-words .now) (a .t-numbers .now) in
     let l = c .before .before .before .before .before .before .before .before .before .before .before .before .before .before .before .before .before .before .before .before .loop in
     let n = words-count (a .basis .now) in
     let q = c .before .before .before .before .before .before .before .before .before .before .before .before .before .before .put-rules-near in
@@ -76,7 +78,7 @@ stage-terms-requires c κs =
 returns-2 : tie.Need-returns-2 Inv-loop μ-loop
 returns-2 c =
     let a = c .before .before .before .before .before .before .before .before .before .before .before .before .before .before .before .before .before .before .before .before .before .before .before .before .before .before .before .before .before .before .before .before .before .before .before .before .before .before .before .before .before .before .before .before .before .before .before .args in
-    let t : ModelTables = tables (a .h-words .now) (a .h-coeffs .now) (a .jumps .now) (a .rates .now) (a .t-words .now) (a .t-numbers .now) in
+    let t : ModelTables = modelTables (a .h-words .now) (a .h-coeffs .now) (a .jumps .now) (a .rates .now) (a .t-words .now) (a .t-numbers .now) in
     let l = c .before .before .before .before .before .before .before .before .before .before .before .before .before .before .before .before .before .before .before .before .before .before .before .before .before .before .before .before .before .loop in
     let n = words-count (a .basis .now) in
     let q = c .before .before .before .before .before .before .before .before .before .before .before .before .before .before .before .before .before .before .before .before .before .before .before .put-rules-near in
@@ -93,7 +95,7 @@ add-c c = let n = words-count (c .before .before .before .before .before .before
 loop-again : tie.Need-loop-again Inv-loop μ-loop
 loop-again c =
     let a = c .before .before .before .before .before .before .before .before .before .before .before .before .before .before .before .before .before .before .before .before .before .before .before .before .before .before .before .before .before .before .before .before .before .before .before .before .before .before .before .before .before .before .before .before .before .before .before .before .args in
-    let t : ModelTables = tables (a .h-words .now) (a .h-coeffs .now) (a .jumps .now) (a .rates .now) (a .t-words .now) (a .t-numbers .now) in
+    let t : ModelTables = modelTables (a .h-words .now) (a .h-coeffs .now) (a .jumps .now) (a .rates .now) (a .t-words .now) (a .t-numbers .now) in
     let l = c .before .before .before .before .before .before .before .before .before .before .before .before .before .before .before .before .before .before .before .before .before .before .before .before .before .before .before .before .before .before .loop in
     let n = words-count (a .basis .now) in
     let q = c .before .before .before .before .before .before .before .before .before .before .before .before .before .before .before .before .before .before .before .before .before .before .before .before .put-rules-near in
@@ -167,7 +169,7 @@ same-length-18 c = c .before .loop .inv .6
 returns-3 : tie.Need-returns-3 Inv-loop μ-loop
 returns-3 c =
     let a = c .before .before .before .before .before .before .before .before .before .before .before .before .before .before .before .before .before .before .before .args in
-    let t : ModelTables = tables (a .h-words .now) (a .h-coeffs .now) (a .jumps .now) (a .rates .now) (a .t-words .now) (a .t-numbers .now) in
+    let t : ModelTables = modelTables (a .h-words .now) (a .h-coeffs .now) (a .jumps .now) (a .rates .now) (a .t-words .now) (a .t-numbers .now) in
     let l = c .before .loop in
     let n = words-count (a .basis .now) in
     stages-are (a .m) t (words (a .basis .now)) (a .sum-room) (a .entry-room) (l .rows) (l .columns) (l .values) _

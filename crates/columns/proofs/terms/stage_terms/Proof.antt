@@ -7,7 +7,7 @@ use Prim.Native.Nat.{_-_, _<_}
 use native.Mathlib.Omega.{arith}
 use lib.ListN.{length}
 use Rattle.word.specs.Flat.{words}
-use Rattle.model.specs.Product.{onto}
+use Rattle.model.specs.Between.{onto}
 use Rattle.columns.proofs.TermLaws.{TermState, term-start, term-passes, term-skips, term-full, term-place, term-lays, term-done, place-low}
 use borrow.Author.Needs.{needs}
 use Rattle.columns.proofs.terms.stage_terms.Statement.{statement}

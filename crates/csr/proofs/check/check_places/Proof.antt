@@ -3,7 +3,7 @@
 
 -- `check::check_places` meets its contract, answer by answer. Assumes nothing.
 use native.Mathlib.Omega.{arith}
-use Rattle.model.proofs.Firsts.{first-inside}
+use Rattle.lent.proofs.Firsts.{first-inside}
 use lib.ListN.{length}
 use Prim.Native.Nat.{_+_}
 use Rattle.csr.specs.Lent.{badOffset}

@@ -5,7 +5,7 @@
 use Prim.Native.Nat.{_+_, _-_, _≤_}
 use native.Mathlib.Omega.{arith}
 use lib.ListN.{getD, length}
-use Rattle.model.proofs.Firsts.{NoneBefore, first-before}
+use Rattle.lent.proofs.Firsts.{NoneBefore, first-before}
 use Rattle.csr.specs.Rows.{partOf}
 use Rattle.csr.specs.Lent.{badOffset, badColumn}
 use Rattle.csr.proofs.OffsetLaws.{Rising, rising}

@@ -6,7 +6,7 @@ use mathlib.Core.Path.{_≡_, refl, ap, _∙_}
 use Prim.Native.Nat.{ℕ, _+_, _-_, _≤_}
 use native.Mathlib.Omega.{arith}
 use lib.ListN.{getD, length}
-use Rattle.model.proofs.Firsts.{NoneBefore, none-start, stops-here, goes-on, stops-last}
+use Rattle.lent.proofs.Firsts.{NoneBefore, none-start, stops-here, goes-on, stops-last}
 use Rattle.csr.specs.Lent.{offsetFails, badOffset}
 use borrow.Author.Needs.{needs}
 use Rattle.csr.proofs.check.first_bad_offset.Statement.{statement}

@@ -6,7 +6,7 @@ use Prim.Native.Nat.{_-_, _≤_}
 use native.Mathlib.Omega.{arith}
 use lib.ListN.{length}
 use mathlib.Core.Path.{_≡_, sym, _∙_}
-use Rattle.model.proofs.Firsts.{NoneBefore, none-start, stops-here, goes-on, stops-last}
+use Rattle.lent.proofs.Firsts.{NoneBefore, none-start, stops-here, goes-on, stops-last}
 use Rattle.csr.specs.Walks.{badPlace}
 use Rattle.csr.proofs.PlaceLaws.{in-place, Placed, placed-start, place-is, placed-next}
 use borrow.Author.Needs.{needs}

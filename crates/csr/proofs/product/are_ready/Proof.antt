@@ -6,7 +6,7 @@ use mathlib.Core.Path.{sym, _∙_}
 use mathlib.Core.Bool.{false≢true}
 use borrow.Author.Tests.{leb-true}
 use lib.ListN.{length}
-use Rattle.truncate.specs.Tests.{notFinite}
+use Rattle.lent.specs.Numbers.{notFinite}
 use Rattle.csr.specs.Walks.{notClear}
 use Rattle.csr.proofs.PassLaws.{all-first}
 use borrow.Author.Needs.{needs}

@@ -8,7 +8,7 @@ use Prim.Native.Nat.{ℕ, _-_, _≤_}
 use native.Mathlib.Omega.{arith}
 use lib.Ieee.{nan}
 use lib.ListN.{length, take, drop, length-set, drop-of-length-le}
-use Rattle.keep.proofs.WriteLaws.{written-more}
+use Rattle.lent.proofs.WriteLaws.{written-more}
 use borrow.Author.Needs.{needs}
 use Rattle.csr.proofs.work.copy_numbers.Statement.{statement}
 use Rattle.csr.proofs.work.copy_numbers.Tie as tie

@@ -6,7 +6,7 @@ use mathlib.Core.Path.{ap}
 use mathlib.Core.Bool.{not}
 use Prim.Native.Nat.{_-_, _≤_}
 use native.Mathlib.Omega.{arith}
-use Rattle.model.proofs.Firsts.{NoneBefore, none-start, stops-here, goes-on, stops-last}
+use Rattle.lent.proofs.Firsts.{NoneBefore, none-start, stops-here, goes-on, stops-last}
 use Rattle.csr.specs.Walks.{notClear}
 use borrow.Author.Needs.{needs}
 use Rattle.csr.proofs.work.first_not_clear.Statement.{statement}

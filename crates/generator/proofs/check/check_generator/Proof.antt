@@ -5,31 +5,32 @@
 use mathlib.Core.Path.{sym, _∙_}
 use native.Mathlib.Omega.{arith}
 use Rattle.refusal.specs.declared.Answer.the-variants.{Accepted}
-use Rattle.model.specs.Stored.{ModelTables, tables}
-use Rattle.action.specs.Counts.{insideTo}
+use Rattle.model.specs.Stored.{ModelTables}
+use Rattle.lent.specs.Words.{insideTo}
 use Rattle.generator.specs.Lent.{tableTests}
 use Rattle.generator.proofs.CheckLaws.{tables-passed, then-refused, then-second}
 use borrow.Author.Needs.{needs}
 use Rattle.generator.proofs.check.check_generator.Statement.{statement}
 use Rattle.generator.proofs.check.check_generator.Tie as tie
+use Rattle.model.specs.Between.{modelTables}
 
 returns : tie.Need-returns
 returns c =
     let a = c .before .before .before .before .before .before .before .before .before .before .args in
-    let t : ModelTables = tables (a .h-words .now) (a .h-coeffs .now) (a .jumps .now) (a .rates .now) (a .t-words .now) (a .t-numbers .now) in
+    let t : ModelTables = modelTables (a .h-words .now) (a .h-coeffs .now) (a .jumps .now) (a .rates .now) (a .t-words .now) (a .t-numbers .now) in
     c .enum-told2 .given .1 ∙ then-refused (tableTests (a .m) t (a .words .now) (a .len) (a .h-index) (a .j-index) (a .mask) (a .heads) (a .nexts)) (insideTo (a .len) (a .words .now) (a .m .qubits) Accepted) _ (sym (c .before .before .check-tables .ensures) ∙ c .enum-told2 .given .1)
 
 check-inside-requires : tie.Need-check-inside-requires
 check-inside-requires c κs =
     let a = c .before .before .before .before .before .before .before .before .before .before .args in
-    let t : ModelTables = tables (a .h-words .now) (a .h-coeffs .now) (a .jumps .now) (a .rates .now) (a .t-words .now) (a .t-numbers .now) in
+    let t : ModelTables = modelTables (a .h-words .now) (a .h-coeffs .now) (a .jumps .now) (a .rates .now) (a .t-words .now) (a .t-numbers .now) in
     let p = tables-passed (a .m) t (a .words .now) (a .len) (a .h-index) (a .j-index) (a .mask) (a .heads) (a .nexts) (sym (c .before .before .check-tables .ensures) ∙ c .enum-told .given .1) in
     omega (arith, p .words-long)
 
 returns-2 : tie.Need-returns-2
 returns-2 c =
     let a = c .before .before .before .before .before .before .before .before .before .before .before .args in
-    let t : ModelTables = tables (a .h-words .now) (a .h-coeffs .now) (a .jumps .now) (a .rates .now) (a .t-words .now) (a .t-numbers .now) in
+    let t : ModelTables = modelTables (a .h-words .now) (a .h-coeffs .now) (a .jumps .now) (a .rates .now) (a .t-words .now) (a .t-numbers .now) in
     then-second (tableTests (a .m) t (a .words .now) (a .len) (a .h-index) (a .j-index) (a .mask) (a .heads) (a .nexts)) (insideTo (a .len) (a .words .now) (a .m .qubits) Accepted) (sym (c .before .before .before .check-tables .ensures) ∙ c .before .enum-told .given .1) (c .check-inside .ensures)
 
 pub check-generator-spec : {M : Type 1} → statement M

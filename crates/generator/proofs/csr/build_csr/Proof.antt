@@ -7,7 +7,8 @@ use Prim.Native.Nat.{_*_, _≤_}
 use native.Mathlib.Omega.{arith}
 use lib.ListN.{length}
 use lib.Seq.{length-take-le}
-use Rattle.model.specs.Stored.{ModelTables, tables}
+use Rattle.word.specs.Flat.{wordLanes}
+use Rattle.model.specs.Stored.{ModelTables}
 use Rattle.generator.specs.Lent.{Work, workOf}
 use Rattle.generator.proofs.CheckLaws.{tables-passed, inside-passed}
 use Rattle.generator.proofs.LentLaws.{model-lent, basis-words, basis-lent}
@@ -15,30 +16,31 @@ use Rattle.generator.proofs.CallLaws.{build-refused, build-checked, bui
 use borrow.Author.Needs.{needs}
 use Rattle.generator.proofs.csr.build_csr.Statement.{statement}
 use Rattle.generator.proofs.csr.build_csr.Tie as tie
+use Rattle.model.specs.Between.{modelTables}
 
 mul-csr-tested : tie.Need-mul-csr-tested
 mul-csr-tested c =
     let a = c .before .before .before .before .before .before .before .before .before .before .before .before .before .before .before .before .before .before .before .before .before .before .before .args in
-    let t : ModelTables = tables (a .h-words .now) (a .h-coeffs .now) (a .jumps .now) (a .rates .now) (a .t-words .now) (a .t-numbers .now) in
+    let t : ModelTables = modelTables (a .h-words .now) (a .h-coeffs .now) (a .jumps .now) (a .rates .now) (a .t-words .now) (a .t-numbers .now) in
     let w : Work = workOf (a .h-index .now) (a .j-index .now) (a .mask .now) (a .heads .now) (a .nexts .now) (a .work-words .now) (a .work-sums .now) (a .stage-rows .now) (a .stage-columns .now) (a .stage-values .now) in
     let k = build-checked (a .offsets .now) (a .columns .now) (a .values .now) w (a .m) t (a .words .now) (a .len) (sym (c .before .before .check-csr .ensures) ∙ c .enum-told .given .1) in
     let p = tables-passed (a .m) t (a .words .now) (a .len) (length (a .h-index .now)) (length (a .j-index .now)) (length (a .mask .now)) (length (a .heads .now)) (length (a .nexts .now)) (k .tables) in
-    let h : 4 * a .len ≤ length (a .words .now) = omega (arith, p .words-long) in
+    let h : wordLanes * a .len ≤ length (a .words .now) = omega (arith, p .words-long) in
     search (h, c .before .before .before .before .before .before .before .before .before .before .before .before .before .before .before .before .before .before .before .before .before .before .before .good .1 .1 .1 .1 .1 .1 .1 .0, needs)
 
 slice-aggregate-csr-tested : tie.Need-slice-aggregate-csr-tested
 slice-aggregate-csr-tested c =
     let a = c .before .before .before .before .before .before .before .before .before .before .before .before .before .before .before .before .before .before .before .before .before .before .before .before .args in
-    let t : ModelTables = tables (a .h-words .now) (a .h-coeffs .now) (a .jumps .now) (a .rates .now) (a .t-words .now) (a .t-numbers .now) in
+    let t : ModelTables = modelTables (a .h-words .now) (a .h-coeffs .now) (a .jumps .now) (a .rates .now) (a .t-words .now) (a .t-numbers .now) in
     let w : Work = workOf (a .h-index .now) (a .j-index .now) (a .mask .now) (a .heads .now) (a .nexts .now) (a .work-words .now) (a .work-sums .now) (a .stage-rows .now) (a .stage-columns .now) (a .stage-values .now) in
     let k = build-checked (a .offsets .now) (a .columns .now) (a .values .now) w (a .m) t (a .words .now) (a .len) (sym (c .before .before .before .check-csr .ensures) ∙ c .before .enum-told .given .1) in
     let p = tables-passed (a .m) t (a .words .now) (a .len) (length (a .h-index .now)) (length (a .j-index .now)) (length (a .mask .now)) (length (a .heads .now)) (length (a .nexts .now)) (k .tables) in
-    sym (length-take-le (a .len * 4) (a .words .now) (omega (arith, p .words-long)))
+    sym (length-take-le (a .len * wordLanes) (a .words .now) (omega (arith, p .words-long)))
 
 csr-tested-requires : tie.Need-csr-tested-requires
 csr-tested-requires c κs =
     let a = c .before .before .before .before .before .before .before .before .before .before .before .before .before .before .before .before .before .before .before .before .before .before .before .before .before .before .before .before .before .before .before .before .before .before .before .before .before .args in
-    let t : ModelTables = tables (a .h-words .now) (a .h-coeffs .now) (a .jumps .now) (a .rates .now) (a .t-words .now) (a .t-numbers .now) in
+    let t : ModelTables = modelTables (a .h-words .now) (a .h-coeffs .now) (a .jumps .now) (a .rates .now) (a .t-words .now) (a .t-numbers .now) in
     let w : Work = workOf (a .h-index .now) (a .j-index .now) (a .mask .now) (a .heads .now) (a .nexts .now) (a .work-words .now) (a .work-sums .now) (a .stage-rows .now) (a .stage-columns .now) (a .stage-values .now) in
     let k = build-checked (a .offsets .now) (a .columns .now) (a .values .now) w (a .m) t (a .words .now) (a .len) (sym (c .before .before .before .before .before .before .before .before .before .before .before .before .before .before .before .before .check-csr .ensures) ∙ c .before .before .before .before .before .before .before .before .before .before .before .before .before .before .enum-told .given .1) in
     let p = tables-passed (a .m) t (a .words .now) (a .len) (length (a .h-index .now)) (length (a .j-index .now)) (length (a .mask .now)) (length (a .heads .now)) (length (a .nexts .now)) (k .tables) in
@@ -86,7 +88,7 @@ same-length-13 c = c .before .before .before .before .before .before .before .be
 returns : tie.Need-returns
 returns c =
     let a = c .before .before .before .before .before .before .before .before .before .before .before .before .before .before .before .before .before .before .before .before .before .before .before .before .before .before .before .before .before .before .before .before .before .before .before .before .before .before .before .before .before .before .before .before .before .before .before .before .before .before .before .before .before .before .before .before .before .before .before .before .before .before .before .before .args in
-    let t : ModelTables = tables (a .h-words .now) (a .h-coeffs .now) (a .jumps .now) (a .rates .now) (a .t-words .now) (a .t-numbers .now) in
+    let t : ModelTables = modelTables (a .h-words .now) (a .h-coeffs .now) (a .jumps .now) (a .rates .now) (a .t-words .now) (a .t-numbers .now) in
     let w : Work = workOf (a .h-index .now) (a .j-index .now) (a .mask .now) (a .heads .now) (a .nexts .now) (a .work-words .now) (a .work-sums .now) (a .stage-rows .now) (a .stage-columns .now) (a .stage-values .now) in
     let k = build-checked (a .offsets .now) (a .columns .now) (a .values .now) w (a .m) t (a .words .now) (a .len) (sym (c .before .before .before .before .before .before .before .before .before .before .before .before .before .before .before .before .before .before .before .before .before .before .before .before .before .before .before .before .before .before .before .before .before .before .before .before .before .before .before .before .before .before .before .check-csr .ensures) ∙ c .before .before .before .before .before .before .before .before .before .before .before .before .before .before .before .before .before .before .before .before .before .before .before .before .before .before .before .before .before .before .before .before .before .before .before .before .before .before .before .before .before .enum-told .given .1) in
     let p = tables-passed (a .m) t (a .words .now) (a .len) (length (a .h-index .now)) (length (a .j-index .now)) (length (a .mask .now)) (length (a .heads .now)) (length (a .nexts .now)) (k .tables) in
@@ -95,7 +97,7 @@ returns c =
 returns-2 : tie.Need-returns-2
 returns-2 c =
     let a = c .before .before .before .before .before .before .before .before .before .before .before .before .before .before .before .before .before .before .before .before .before .before .before .before .args in
-    let t : ModelTables = tables (a .h-words .now) (a .h-coeffs .now) (a .jumps .now) (a .rates .now) (a .t-words .now) (a .t-numbers .now) in
+    let t : ModelTables = modelTables (a .h-words .now) (a .h-coeffs .now) (a .jumps .now) (a .rates .now) (a .t-words .now) (a .t-numbers .now) in
     let w : Work = workOf (a .h-index .now) (a .j-index .now) (a .mask .now) (a .heads .now) (a .nexts .now) (a .work-words .now) (a .work-sums .now) (a .stage-rows .now) (a .stage-columns .now) (a .stage-values .now) in
     build-refused (a .offsets .now) (a .columns .now) (a .values .now) w (a .m) t (a .words .now) (a .len) _ (sym (c .before .before .before .check-csr .ensures) ∙ c .before .answer .given .1)
 

@@ -10,8 +10,9 @@ use lib.ListN.{drop, replicate}
 use lib.Seq.{length-take-le, length-front}
 use Rattle.number.specs.Floats.{float0}
 use Rattle.word.specs.Flat.{words as wordsIn}
-use Rattle.model.specs.Stored.{ModelTables, tables}
-use Rattle.columns.specs.Stages.{StageRoom}
+use Rattle.model.specs.Stored.{ModelTables}
+use Rattle.model.specs.Between.{modelTables}
+use Rattle.columns.specs.Between.{StageRoom}
 use Rattle.generator.specs.Lent.{Work, workOf}
 use Rattle.generator.proofs.LentLaws.{basis-size, slots-asked, repeated, heads-kept, nexts-kept, differ, basis-ready}
 use Rattle.generator.proofs.ListingLaws.{all-zero}
@@ -40,7 +41,7 @@ same-length-2 c = length-front (c .before .before .before .before .before .befor
 returns : tie.Need-returns
 returns c =
     let a = c .before .before .before .before .before .before .before .before .before .before .before .before .before .before .before .before .before .before .before .before .before .before .before .before .before .before .before .before .args in
-    let t : ModelTables = tables (a .h-words .now) (a .h-coeffs .now) (a .jumps .now) (a .rates .now) (a .t-words .now) (a .t-numbers .now) in
+    let t : ModelTables = modelTables (a .h-words .now) (a .h-coeffs .now) (a .jumps .now) (a .rates .now) (a .t-words .now) (a .t-numbers .now) in
     let w : Work = workOf (a .h-index .now) (a .j-index .now) (a .mask .now) (a .heads .now) (a .nexts .now) (a .work-words .now) (a .work-sums .now) (a .stage-rows .now) (a .stage-columns .now) (a .stage-values .now) in
     csr-repeated (a .offsets .now) (a .columns .now) (a .values .now) w (a .m) t (a .len) (wordsIn (a .basis .now)) _ _ (repeated (a .m .qubits) (a .len) (a .basis .now) (a .heads .now) (a .nexts .now) (c .before .before .before .before .before .before .before .before .before .before .before .before .before .before .before .before .before .before .before .before .before .before .before .before .before .before .before .before .pre .1) _ _ _ (c .before .before .before .before .before .lay-distinct .ensures) (c .if1 .taken))
     (ap₂ (λ (h n : List ℕ). workOf (a .h-index .now) (a .j-index .now) (a .mask .now) h n (a .work-words .now) (a .work-sums .now) (a .stage-rows .now) (a .stage-columns .now) (a .stage-values .now)) (heads-kept (a .m .qubits) (a .len) (a .basis .now) (a .heads .now) (a .nexts .now) (c .before .before .before .before .before .before .before .before .before .before .before .before .before .before .before .before .before .before .before .before .before .before .before .before .before .before .before .before .pre .1) _ _ _ (c .before .before .before .before .before .lay-distinct .ensures) (c .if1 .taken)) (nexts-kept (a .m .qubits) (a .len) (a .basis .now) (a .heads .now) (a .nexts .now) (c .before .before .before .before .before .before .before .before .before .before .before .before .before .before .before .before .before .before .before .before .before .before .before .before .before .before .before .before .pre .1) _ _ _ (c .before .before .before .before .before .lay-distinct .ensures) (c .if1 .taken)))
@@ -64,7 +65,7 @@ gather-requires c κs =
 list-rows-requires : tie.Need-list-rows-requires
 list-rows-requires c κs =
     let a = c .before .before .before .before .before .before .before .before .before .before .before .before .before .before .before .before .before .before .before .before .before .before .before .before .before .before .before .before .before .before .before .before .before .before .before .before .before .before .before .before .before .before .before .before .before .before .before .before .before .before .before .before .before .before .before .before .before .before .before .before .before .before .before .before .before .before .before .before .before .before .before .before .args in
-    let t : ModelTables = tables (a .h-words .now) (a .h-coeffs .now) (a .jumps .now) (a .rates .now) (a .t-words .now) (a .t-numbers .now) in
+    let t : ModelTables = modelTables (a .h-words .now) (a .h-coeffs .now) (a .jumps .now) (a .rates .now) (a .t-words .now) (a .t-numbers .now) in
     let p = c .before .before .before .before .before .before .before .before .before .before .before .before .before .before .before .before .before .before .before .before .before .before .before .before .before .before .before .before .before .before .before .before .before .before .before .before .before .before .before .before .places-of .ensures in
     let q = c .before .before .before .before .before .before .before .before .before .before .before .before .before .before .before .before .before .before .before .before .before .before .before .before .before .before .before .before .before .before .before .before .before .before .before .before .before .before .before .smaller .ensures in
     let e = c .before .before .before .before .before .before .before .before .before .before .before .before .before .before .before .before .before .before .before .before .before .before .before .before .before .before .before .before .before .before .before .before .before .before .before .before .before .before .smaller2 .ensures in
@@ -114,7 +115,7 @@ same-length-15 c = c .before .before .before .before .before .before .before .be
 returns-2 : tie.Need-returns-2
 returns-2 c =
     let a = c .before .before .before .before .before .before .before .before .before .before .before .before .before .before .before .before .before .before .before .before .before .before .before .before .before .before .before .before .before .before .before .before .before .before .before .before .before .before .before .before .before .before .before .before .before .before .before .before .before .before .before .before .before .before .before .before .before .before .before .before .before .before .before .before .before .before .before .before .before .before .before .before .before .before .before .before .before .before .before .before .before .before .before .before .before .before .before .before .before .before .before .args in
-    let t : ModelTables = tables (a .h-words .now) (a .h-coeffs .now) (a .jumps .now) (a .rates .now) (a .t-words .now) (a .t-numbers .now) in
+    let t : ModelTables = modelTables (a .h-words .now) (a .h-coeffs .now) (a .jumps .now) (a .rates .now) (a .t-words .now) (a .t-numbers .now) in
     let w : Work = workOf (a .h-index .now) (a .j-index .now) (a .mask .now) (a .heads .now) (a .nexts .now) (a .work-words .now) (a .work-sums .now) (a .stage-rows .now) (a .stage-columns .now) (a .stage-values .now) in
     let g = c .before .before .before .before .before .before .before .before .before .before .before .before .before .before .before .before .before .before .before .before .before .before .before .before .before .before .before .before .before .before .before .before .before .before .before .before .before .before .before .before .before .before .before .before .before .before .gather .ensures in
     csr-listed (a .offsets .now) (a .columns .now) (a .values .now) w (a .m) t (a .len) (wordsIn (a .basis .now)) _ _ _ _ _ _ _ (differ (a .m .qubits) (a .len) (a .basis .now) (a .heads .now) (a .nexts .now) (c .before .before .before .before .before .before .before .before .before .before .before .before .before .before .before .before .before .before .before .before .before .before .before .before .before .before .before .before .before .before .before .before .before .before .before .before .before .before .before .before .before .before .before .before .before .before .before .before .before .before .before .before .before .before .before .before .before .before .before .before .before .before .before .before .before .before .before .before .before .before .before .before .before .before .before .before .before .before .before .before .before .before .before .before .before .before .before .before .before .before .before .pre .1) _ _ _ (c .before .before .before .before .before .before .before .before .before .before .before .before .before .before .before .before .before .before .before .before .before .before .before .before .before .before .before .before .before .before .before .before .before .before .before .before .before .before .before .before .before .before .before .before .before .before .before .before .before .before .before .before .before .before .before .before .before .before .before .before .before .before .before .before .before .before .before .before .lay-distinct .ensures) (c .before .before .before .before .before .before .before .before .before .before .before .before .before .before .before .before .before .before .before .before .before .before .before .before .before .before .before .before .before .before .before .before .before .before .before .before .before .before .before .before .before .before .before .before .before .before .before .before .before .before .before .before .before .before .before .before .before .before .before .before .before .before .before .if1 .left)) (c .before .before .before .before .before .before .before .before .before .before .before .before .before .before .before .before .before .before .before .before .before .before .before .before .before .before .before .before .before .before .before .before .before .before .before .before .before .before .before .before .before .before .before .before .before .before .before .before .before .before .before .before .before .before .before .before .before .smaller2 .ensures ∙ ap₂ min (c .before .before .before .before .before .before .before .before .before .before .before .before .before .before .before .before .before .before .before .before .before .before .before .before .before .before .before .before .before .before .before .before .before .before .before .before .before .before .before .before .before .before .before .before .before .before .before .before .before .before .before .before .before .before .before .before .before .before .before .places-of .ensures) (c .before .before .before .before .before .before .before .before .before .before .before .before .before .before .before .before .before .before .before .before .before .before .before .before .before .before .before .before .before .before .before .before .before .before .before .before .before .before .before .before .before .before .before .before .before .before .before .before .before .before .before .before .before .before .before .before .before .before .smaller .ensures)) (g .0) (c .before .before .before .before .before .before .before .before .before .before .before .before .before .before .before .before .before .before .list-rows .ensures .0)

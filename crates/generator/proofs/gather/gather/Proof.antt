@@ -7,23 +7,24 @@ use Prim.Native.Nat.{ℕ}
 use lib.ListN.{replicate}
 use Rattle.number.specs.Floats.{float0}
 use Rattle.word.specs.Flat.{words as wordsIn}
-use Rattle.model.specs.Stored.{ModelTables, tables}
-use Rattle.model_laws.proofs.StandsLaws.{tested-stands}
+use Rattle.model.specs.Stored.{ModelTables}
+use Rattle.model.proofs.StandsLaws.{tested-stands}
 use Rattle.generator.proofs.LentLaws.{model-ready, sums-room, stages-room}
 use borrow.Author.Needs.{needs}
 use Rattle.generator.proofs.gather.gather.Statement.{statement}
 use Rattle.generator.proofs.gather.gather.Tie as tie
+use Rattle.model.specs.Between.{modelTables}
 
 index-model-requires : tie.Need-index-model-requires
 index-model-requires c κs =
     let a = c .before .before .before .before .before .before .before .before .before .before .before .before .before .before .before .before .before .before .before .args in
-    let t : ModelTables = tables (a .h-words .now) (a .h-coeffs .now) (a .jumps .now) (a .rates .now) (a .t-words .now) (a .t-numbers .now) in
+    let t : ModelTables = modelTables (a .h-words .now) (a .h-coeffs .now) (a .jumps .now) (a .rates .now) (a .t-words .now) (a .t-numbers .now) in
     λ w. let h = c .before .before .before .before .before .before .before .before .before .before .before .before .before .before .before .before .before .before .before .pre .0 w in let k = tested-stands (a .m) t (h .accepted) in (h .h-rows, h .j-rows, k .few-reals, k .few-jumps, k .h-words-room, k .jumps-room, k .rates-room, k .t-words-room, k .fits)
 
 stage-columns-requires : tie.Need-stage-columns-requires
 stage-columns-requires c κs =
     let a = c .before .before .before .before .before .before .before .before .before .before .before .before .before .before .before .before .before .before .before .before .before .before .before .before .before .before .before .before .before .before .before .before .before .args in
-    let t : ModelTables = tables (a .h-words .now) (a .h-coeffs .now) (a .jumps .now) (a .rates .now) (a .t-words .now) (a .t-numbers .now) in
+    let t : ModelTables = modelTables (a .h-words .now) (a .h-coeffs .now) (a .jumps .now) (a .rates .now) (a .t-words .now) (a .t-numbers .now) in
     let q = c .before .before .before .before .before .before .before .before .before .before .before .before .before .index-model in
     ((λ w. model-ready (a .m) t (a .h-index .now) _ (a .j-index .now) _ (a .mask .now) (c .before .before .before .before .before .before .before .before .before .before .before .before .before .before .before .before .before .before .before .before .before .before .before .before .before .before .before .before .before .before .before .before .before .pre .0 w) (q .ensures w t refl refl refl refl) (q .kept .0) (q .kept .1 .0)), c .before .before .before .before .before .before .before .before .before .before .before .before .before .before .before .before .before .before .before .before .before .before .before .before .before .before .before .before .before .before .before .before .before .pre .1, sums-room (a .work-words .now) (a .work-sums .now) (c .before .before .before .before .before .before .before .before .smaller .ensures), c .before .before .before .before .before .before .before .before .before .before .before .before .before .before .before .before .before .before .before .before .before .before .before .before .before .before .before .before .before .before .before .before .before .pre .2)
 
@@ -54,7 +55,7 @@ same-length-8 c = c .before .before .before .before .before .before .before .bef
 returns : tie.Need-returns
 returns c =
     let a = c .before .before .before .before .before .before .before .before .before .before .before .before .before .before .before .before .before .before .before .before .before .before .before .before .before .before .before .before .before .before .before .before .before .before .before .before .before .before .before .before .before .before .before .before .before .before .before .before .before .before .before .before .before .before .before .before .before .before .before .before .before .before .before .before .before .before .args in
-    let t : ModelTables = tables (a .h-words .now) (a .h-coeffs .now) (a .jumps .now) (a .rates .now) (a .t-words .now) (a .t-numbers .now) in
+    let t : ModelTables = modelTables (a .h-words .now) (a .h-coeffs .now) (a .jumps .now) (a .rates .now) (a .t-words .now) (a .t-numbers .now) in
     let r = c .before .before .before .before .before .before .before .before .before .before .before .before .before .before .before .before .before .before .before .before .before .before .before .before .before .before .before .before .before .before .before .before .stage-columns in (
       stages-room (a .m) t (wordsIn (a .basis .now)) (a .work-words .now) (a .work-sums .now) (a .entry-room) (c .before .before .before .before .before .before .before .before .before .before .before .before .before .before .before .before .before .before .before .before .before .before .before .before .before .before .before .before .before .before .before .before .before .before .before .before .before .before .before .before .before .smaller .ensures) _ _ _ _ (r .ensures),
       c .before .before .before .before .before .before .before .before .before .before .before .before .before .before .before .before .before .before .clear-lanes .ensures ∙ ap (λ (n : ℕ). replicate n 0) (c .before .before .before .before .before .before .before .before .before .before .before .before .before .before .before .before .before .before .before .before .before .before .before .before .before .before .before .before .before .before .before .before .before .before .before .before .before .before .before .before .before .before .before .before .before .before .index-model .kept .0),

@@ -8,9 +8,10 @@ use native.Mathlib.Omega.{arith}
 use lib.ListN.{length}
 use lib.Seq.{length-take-le}
 use Rattle.refusal.specs.declared.Answer.the-variants.{Accepted}
-use Rattle.model.specs.Stored.{ModelTables, tables}
-use Rattle.model.proofs.BuildLaws.{both}
-use Rattle.action.specs.Counts.{insideTo}
+use Rattle.word.specs.Flat.{wordLanes}
+use Rattle.model.specs.Stored.{ModelTables}
+use Rattle.lent.proofs.Passed.{both}
+use Rattle.lent.specs.Words.{insideTo}
 use Rattle.generator.specs.Lent.{Work, workOf, lentTests}
 use Rattle.generator.proofs.CheckLaws.{tables-passed, inside-passed}
 use Rattle.generator.proofs.LentLaws.{model-lent, basis-words, basis-lent}
@@ -18,30 +19,31 @@ use Rattle.generator.proofs.CallLaws.{generate-refused, generate-tested
 use borrow.Author.Needs.{needs}
 use Rattle.generator.proofs.generator.generator.Statement.{statement}
 use Rattle.generator.proofs.generator.generator.Tie as tie
+use Rattle.model.specs.Between.{modelTables}
 
 mul-generator-tested : tie.Need-mul-generator-tested
 mul-generator-tested c =
     let a = c .before .before .before .before .before .before .before .before .before .before .before .before .before .before .before .before .before .before .before .before .before .before .before .args in
-    let t : ModelTables = tables (a .h-words .now) (a .h-coeffs .now) (a .jumps .now) (a .rates .now) (a .t-words .now) (a .t-numbers .now) in
+    let t : ModelTables = modelTables (a .h-words .now) (a .h-coeffs .now) (a .jumps .now) (a .rates .now) (a .t-words .now) (a .t-numbers .now) in
     let w : Work = workOf (a .h-index .now) (a .j-index .now) (a .mask .now) (a .heads .now) (a .nexts .now) (a .work-words .now) (a .work-sums .now) (a .stage-rows .now) (a .stage-columns .now) (a .stage-values .now) in
     let k = both (lentTests (a .m) t (a .words .now) (a .len) w) (insideTo (a .len) (a .words .now) (a .m .qubits) Accepted) (sym (c .before .before .check-generator .ensures) ∙ c .enum-told .given .1) in
     let p = tables-passed (a .m) t (a .words .now) (a .len) (length (a .h-index .now)) (length (a .j-index .now)) (length (a .mask .now)) (length (a .heads .now)) (length (a .nexts .now)) (k .0) in
-    let h : 4 * a .len ≤ length (a .words .now) = omega (arith, p .words-long) in
+    let h : wordLanes * a .len ≤ length (a .words .now) = omega (arith, p .words-long) in
     search (h, c .before .before .before .before .before .before .before .before .before .before .before .before .before .before .before .before .before .before .before .before .before .before .before .good .1 .1 .1 .1 .1 .1 .1 .0, needs)
 
 slice-aggregate-generator-tested : tie.Need-slice-aggregate-generator-tested
 slice-aggregate-generator-tested c =
     let a = c .before .before .before .before .before .before .before .before .before .before .before .before .before .before .before .before .before .before .before .before .before .before .before .before .args in
-    let t : ModelTables = tables (a .h-words .now) (a .h-coeffs .now) (a .jumps .now) (a .rates .now) (a .t-words .now) (a .t-numbers .now) in
+    let t : ModelTables = modelTables (a .h-words .now) (a .h-coeffs .now) (a .jumps .now) (a .rates .now) (a .t-words .now) (a .t-numbers .now) in
     let w : Work = workOf (a .h-index .now) (a .j-index .now) (a .mask .now) (a .heads .now) (a .nexts .now) (a .work-words .now) (a .work-sums .now) (a .stage-rows .now) (a .stage-columns .now) (a .stage-values .now) in
     let k = both (lentTests (a .m) t (a .words .now) (a .len) w) (insideTo (a .len) (a .words .now) (a .m .qubits) Accepted) (sym (c .before .before .before .check-generator .ensures) ∙ c .before .enum-told .given .1) in
     let p = tables-passed (a .m) t (a .words .now) (a .len) (length (a .h-index .now)) (length (a .j-index .now)) (length (a .mask .now)) (length (a .heads .now)) (length (a .nexts .now)) (k .0) in
-    sym (length-take-le (a .len * 4) (a .words .now) (omega (arith, p .words-long)))
+    sym (length-take-le (a .len * wordLanes) (a .words .now) (omega (arith, p .words-long)))
 
 generator-tested-requires : tie.Need-generator-tested-requires
 generator-tested-requires c κs =
     let a = c .before .before .before .before .before .before .before .before .before .before .before .before .before .before .before .before .before .before .before .before .before .before .before .before .before .before .before .before .before .before .before .before .before .before .before .before .before .args in
-    let t : ModelTables = tables (a .h-words .now) (a .h-coeffs .now) (a .jumps .now) (a .rates .now) (a .t-words .now) (a .t-numbers .now) in
+    let t : ModelTables = modelTables (a .h-words .now) (a .h-coeffs .now) (a .jumps .now) (a .rates .now) (a .t-words .now) (a .t-numbers .now) in
     let w : Work = workOf (a .h-index .now) (a .j-index .now) (a .mask .now) (a .heads .now) (a .nexts .now) (a .work-words .now) (a .work-sums .now) (a .stage-rows .now) (a .stage-columns .now) (a .stage-values .now) in
     let k = both (lentTests (a .m) t (a .words .now) (a .len) w) (insideTo (a .len) (a .words .now) (a .m .qubits) Accepted) (sym (c .before .before .before .before .before .before .before .before .before .before .before .before .before .before .before .before .check-generator .ensures) ∙ c .before .before .before .before .before .before .before .before .before .before .before .before .before .before .enum-told .given .1) in
     let p = tables-passed (a .m) t (a .words .now) (a .len) (length (a .h-index .now)) (length (a .j-index .now)) (length (a .mask .now)) (length (a .heads .now)) (length (a .nexts .now)) (k .0) in
@@ -89,7 +91,7 @@ same-length-13 c = c .before .before .before .before .before .before .before .be
 returns : tie.Need-returns
 returns c =
     let a = c .before .before .before .before .before .before .before .before .before .before .before .before .before .before .before .before .before .before .before .before .before .before .before .before .before .before .before .before .before .before .before .before .before .before .before .before .before .before .before .before .before .before .before .before .before .before .before .before .before .before .before .before .before .before .before .before .before .before .before .before .before .before .before .before .args in
-    let t : ModelTables = tables (a .h-words .now) (a .h-coeffs .now) (a .jumps .now) (a .rates .now) (a .t-words .now) (a .t-numbers .now) in
+    let t : ModelTables = modelTables (a .h-words .now) (a .h-coeffs .now) (a .jumps .now) (a .rates .now) (a .t-words .now) (a .t-numbers .now) in
     let w : Work = workOf (a .h-index .now) (a .j-index .now) (a .mask .now) (a .heads .now) (a .nexts .now) (a .work-words .now) (a .work-sums .now) (a .stage-rows .now) (a .stage-columns .now) (a .stage-values .now) in
     let k = both (lentTests (a .m) t (a .words .now) (a .len) w) (insideTo (a .len) (a .words .now) (a .m .qubits) Accepted) (sym (c .before .before .before .before .before .before .before .before .before .before .before .before .before .before .before .before .before .before .before .before .before .before .before .before .before .before .before .before .before .before .before .before .before .before .before .before .before .before .before .before .before .before .before .check-generator .ensures) ∙ c .before .before .before .before .before .before .before .before .before .before .before .before .before .before .before .before .before .before .before .before .before .before .before .before .before .before .before .before .before .before .before .before .before .before .before .before .before .before .before .before .before .enum-told .given .1) in
     let p = tables-passed (a .m) t (a .words .now) (a .len) (length (a .h-index .now)) (length (a .j-index .now)) (length (a .mask .now)) (length (a .heads .now)) (length (a .nexts .now)) (k .0) in
@@ -98,7 +100,7 @@ returns c =
 returns-2 : tie.Need-returns-2
 returns-2 c =
     let a = c .before .before .before .before .before .before .before .before .before .before .before .before .before .before .before .before .before .before .before .before .before .before .before .before .args in
-    let t : ModelTables = tables (a .h-words .now) (a .h-coeffs .now) (a .jumps .now) (a .rates .now) (a .t-words .now) (a .t-numbers .now) in
+    let t : ModelTables = modelTables (a .h-words .now) (a .h-coeffs .now) (a .jumps .now) (a .rates .now) (a .t-words .now) (a .t-numbers .now) in
     let w : Work = workOf (a .h-index .now) (a .j-index .now) (a .mask .now) (a .heads .now) (a .nexts .now) (a .work-words .now) (a .work-sums .now) (a .stage-rows .now) (a .stage-columns .now) (a .stage-values .now) in
     generate-refused (a .rows .now) (a .columns .now) (a .values .now) w (a .m) t (a .words .now) (a .len) _ (sym (c .before .before .before .check-generator .ensures) ∙ c .before .answer .given .1)
 

@@ -7,7 +7,7 @@ use mathlib.Core.List.{_++_}
 use Prim.Native.Nat.{_≤_, _-_}
 use native.Mathlib.Omega.{arith}
 use lib.ListN.{length, replicate, drop, length-set}
-use Rattle.sums.proofs.Filled.{filled-more, filled}
+use Rattle.lent.proofs.Filled.{filled-more, filled}
 use borrow.Author.Needs.{needs}
 use Rattle.generator.proofs.tables.clear_places.Statement.{statement}
 use Rattle.generator.proofs.tables.clear_places.Tie as tie

@@ -7,7 +7,7 @@ use Prim.Native.Nat.{_-_, _≤_}
 use native.Mathlib.Omega.{arith}
 use lib.Ieee.{nan}
 use lib.ListN.{length, take, drop, set, length-set}
-use Rattle.model.specs.Laid.{laid}
+use Rattle.lent.specs.Laid.{laid}
 use Rattle.generator.proofs.TableLaws.{copy-turn, copy-end}
 use borrow.Author.Needs.{needs}
 use Rattle.generator.proofs.tables.copy_values.Statement.{statement}

@@ -9,7 +9,7 @@ use lib.ListN.{length, take, drop, length-set, length-map, drop-of-length-le, Li
 use borrow.Author.Needs.{needs}
 use native.Mathlib.Omega.{arith}
 use Rattle.keep.specs.Chosen.{flagOf}
-use Rattle.keep.proofs.WriteLaws.{written-more, written}
+use Rattle.lent.proofs.WriteLaws.{written-more, written}
 use Rattle.keep.proofs.choose.copy_flags.Statement.{statement}
 use Rattle.keep.proofs.choose.copy_flags.Tie as tie
 

@@ -10,7 +10,7 @@ use lib.ListN.{length, getD, take, drop, replicate, length-set, length-replicate
 use borrow.Author.Needs.{needs}
 use native.Mathlib.Omega.{arith}
 use Rattle.keep.specs.Pruned.{largeFlag, largeFlags}
-use Rattle.keep.proofs.WriteLaws.{written-more, written}
+use Rattle.lent.proofs.WriteLaws.{written-more, written}
 use Rattle.keep.proofs.PruneLaws.{large-length, large-first}
 use Rattle.keep.proofs.flags.flag_large.Statement.{statement}
 use Rattle.keep.proofs.flags.flag_large.Tie as tie

@@ -7,7 +7,7 @@ use Prim.Native.Nat.{_≤_, _-_}
 use lib.ListN.{length, getD, take, length-set}
 use borrow.Author.Needs.{needs}
 use native.Mathlib.Omega.{arith}
-use Rattle.keep.specs.Retained.{unflaggedTo}
+use Rattle.keep.specs.Between.{unflaggedTo}
 use Rattle.keep.proofs.UnflaggedLaws.{laid-start, one-small, laid-next, laid-all}
 use Rattle.keep.proofs.flags.lay_unflagged.Statement.{statement}
 use Rattle.keep.proofs.flags.lay_unflagged.Tie as tie

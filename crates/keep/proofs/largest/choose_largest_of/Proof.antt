@@ -7,12 +7,13 @@ use mathlib.Core.Path.{sym, subst, _∙_}
 use Prim.Native.Nat.{ℕ}
 use borrow.Author.Needs.{needs}
 use native.Mathlib.Omega.{arith}
-use Rattle.order.specs.Magnitudes.{byMagnitude, AllFinite}
+use Rattle.order.specs.Magnitudes.{byMagnitude}
 use Rattle.keep.specs.Largest.{KeepsTo}
 use Rattle.keep.proofs.WalkLaws.{walked-none}
 use Rattle.keep.proofs.LargestLaws.{chosen-all, chosen-by-last}
 use Rattle.keep.proofs.largest.choose_largest_of.Statement.{statement}
 use Rattle.keep.proofs.largest.choose_largest_of.Tie as tie
+use Rattle.order.specs.Between.{AllFinite}
 
 returns : tie.Need-returns
 returns c =

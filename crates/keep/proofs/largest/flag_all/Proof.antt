@@ -6,7 +6,7 @@ use mathlib.Core.Path.{_≡_, refl}
 use mathlib.Core.List.{_++_}
 use Prim.Native.Nat.{_≤_, _-_}
 use lib.ListN.{length, replicate, drop, length-set}
-use Rattle.sums.proofs.Filled.{filled-more, filled}
+use Rattle.lent.proofs.Filled.{filled-more, filled}
 use borrow.Author.Needs.{needs}
 use native.Mathlib.Omega.{arith}
 use Rattle.keep.proofs.largest.flag_all.Statement.{statement}

@@ -9,16 +9,17 @@ use native.Mathlib.Omega.{arith}
 use lib.ListN.{length}
 use Rattle.refusal.specs.declared.Answer.the-variants.{Accepted}
 use Rattle.model.specs.Stored.{ModelTables}
-use Rattle.model.specs.Tested.{firstTo, testModel}
+use Rattle.model.specs.Tested.{testModel}
 use Rattle.model.specs.Fails.{numberFails}
-use Rattle.model.specs.Items.{answerOf}
-use Rattle.kossakowski.specs.Added.{Input, lengthsAnswer, readOperators}
-use Rattle.kossakowski.specs.Work.{Square}
-use Rattle.kossakowski.proofs.MatrixLaws.{places-few, some-ops}
-use Rattle.kossakowski.proofs.MatrixLengths.{LengthsFit, lengths-fit}
+use Rattle.model_build.specs.Items.{answerOf}
+use Rattle.k_matrix.specs.Added.{Input, lengthsAnswer, readOperators}
+use Rattle.k_matrix.specs.Work.{Square}
+use Rattle.k_matrix.proofs.MatrixLaws.{places-few, some-ops}
+use Rattle.k_matrix.proofs.MatrixLengths.{LengthsFit, lengths-fit}
 use Rattle.kossakowski.proofs.MatrixTests.{jumps-few, range-first, model-refused, operators-above, lengths-refused, number-outside, not-hermitian, operators-refused, pairs-above, all-passed}
 use Rattle.kossakowski.proofs.check.check_matrix.Statement.{statement}
 use Rattle.kossakowski.proofs.check.check_matrix.Tie as tie
+use Rattle.lent.specs.Tests.{firstTo}
 
 abbrev input : tie.Start → Input
 input s =
@@ -180,7 +181,7 @@ pub check-matrix-spec : {M : Type 1} → statement M
 check-matrix-spec =
     tie.close
     (tie.spec
-    (λ c κs. search needs)
+    (λ c κs. tt)
     (λ c. search needs)
     (λ c. search needs)
     returns
@@ -192,7 +193,7 @@ check-matrix-spec =
     mul-places
     test-range-requires
     returns-4
-    (λ c κs. search needs)
+    (λ c κs. tt)
     first-apart-requires
     div-t28
     rem-t29

@@ -11,7 +11,7 @@ use mir.Syntax.{w64}
 use borrow.Author.Needs.{needs}
 use Rattle.number.specs.Floats.{float0}
 use Rattle.model.specs.Stored.{ModelTables}
-use Rattle.kossakowski.specs.Added.{Input, operators}
+use Rattle.k_matrix.specs.Added.{Input, operators}
 use Rattle.kossakowski.proofs.MatrixAccepted.{Accepts, matrix-accepted}
 use Rattle.kossakowski.proofs.CompiledLaws.{terms-inside, own-few, read-fits, read-room, square, work-room, store-room, pairs-room, compiled-none, compiled-full, compiled-model}
 use Rattle.kossakowski.proofs.kossakowski.compile_matrix.Statement.{statement}
@@ -119,33 +119,33 @@ pub compile-matrix-spec : {M : Type 1} → statement M
 compile-matrix-spec =
     tie.close
     (tie.spec
-    (λ c κs. search needs)
-    (λ c κs. search needs)
-    (λ c. search needs)
-    (λ c. search needs)
+    (λ c κs. tt)
+    (λ c κs. tt)
+    (λ c. c .before .before .before .before .before .before .clear-lanes .kept .0)
+    (λ c. c .before .before .clear-numbers .kept .0)
     returns
-    (λ c κs. search needs)
+    (λ c κs. tt)
     read-operator-requires
     count-pairs-requires
     count-terms-requires
     add-at
     add-terms
-    (λ c κs. search needs)
-    (λ c κs. search needs)
-    (λ c κs. search needs)
-    (λ c. search needs)
-    (λ c. search needs)
+    (λ c κs. tt)
+    (λ c κs. tt)
+    (λ c κs. tt)
+    (λ c. c .before .before .before .before .before .before .clear-lanes2 .kept .0 ∙ c .before .before .before .before .before .before .before .before .before .before .before .before .before .before .count-terms .kept .1 .1 .1 .0 ∙ c .before .before .before .before .before .before .before .before .before .before .before .before .before .before .before .before .before .before .before .before .before .before .read-operator .kept .1 .1 .1 .1 .0)
+    (λ c. c .before .before .clear-numbers2 .kept .0 ∙ c .before .before .before .before .before .before .before .before .before .before .before .before .before .before .count-terms .kept .1 .1 .1 .1 .0 ∙ c .before .before .before .before .before .before .before .before .before .before .before .before .before .before .before .before .before .before .before .before .before .before .read-operator .kept .1 .1 .1 .1 .1 .0)
     returns-2
     add-store-terms
     store-terms-requires
     store-pairs-requires
-    (λ c κs. search needs)
-    (λ c κs. search needs)
+    (λ c κs. tt)
+    (λ c κs. tt)
     add-t24
-    (λ c. search needs)
-    (λ c. search needs)
-    (λ c. search needs)
-    (λ c. search needs)
+    (λ c. c .before .before .before .before .before .before .before .before .before .before .before .before .before .before .before .before .before .before .before .before .store-pairs .kept .1 .1 .1 .1 .1 .1 .1 .1 .0)
+    (λ c. c .before .before .before .before .before .before .before .before .before .before .before .before .before .before .before .before .before .before .before .before .store-pairs .kept .1 .1 .1 .1 .1 .1 .1 .1 .1 .0)
+    (λ c. c .before .before .before .before .before .before .before .before .before .before .before .before .before .before .before .before .before .before .before .before .store-pairs .kept .1 .1 .1 .1 .1 .1 .1 .1 .1 .1 .0 ∙ c .before .before .before .before .before .before .before .before .before .before .before .before .before .before .before .before .before .before .before .before .before .before .before .before .before .before .before .before .before .before .before .store-terms .kept .1 .1 .1 .1 .0)
+    (λ c. c .before .before .before .before .before .before .before .before .before .before .before .before .before .before .before .before .before .before .before .before .store-pairs .kept .1 .1 .1 .1 .1 .1 .1 .1 .1 .1 .1 .0 ∙ c .before .before .before .before .before .before .before .before .before .before .before .before .before .before .before .before .before .before .before .before .before .before .before .before .before .before .before .before .before .before .before .store-terms .kept .1 .1 .1 .1 .1 .0)
     same-length-9
     same-length-10
     returns-3)

@@ -5,8 +5,8 @@
 use mathlib.Core.Path.{_≡_, refl, sym, _∙_}
 use Prim.Native.Nat.{_+_, _-_, _≤_}
 use lib.ListN.{length, drop, getD}
-use Rattle.model.specs.Items.{total}
-use Rattle.model.proofs.Parts.{total-turn, total-part}
+use Rattle.lent.specs.Laid.{total}
+use Rattle.model_build.proofs.Parts.{total-turn, total-part}
 use Rattle.kossakowski.proofs.OperatorTests.{operatorsLeft, operators-start, operators-on, operators-stop, operators-end}
 use borrow.Author.Needs.{needs}
 use native.Mathlib.Omega.{arith}

@@ -4,8 +4,8 @@
 -- `pairs::count_pair` meets its contract. Assumes nothing.
 use mathlib.Core.Path.{sym, ap, subst}
 use Prim.Native.Nat.{ℕ, _+_, _-_, _*_}
-use Rattle.kossakowski.specs.Work.{CountsPair}
-use Rattle.model.specs.Product.{termsOf}
+use Rattle.k_matrix.specs.Work.{CountsPair}
+use Rattle.model.specs.Terms.{termsOf}
 use Rattle.kossakowski.proofs.PairLaws.{many-few, product-few, pair-counted, work-stays}
 use borrow.Author.Needs.{needs}
 use native.Mathlib.Omega.{arith}
@@ -49,6 +49,6 @@ count-pair-spec =
     mul-result
     count-kept-requires
     add-result
-    (λ c. search needs)
-    (λ c. search needs)
+    (λ c. c .before .before .before .before .before .before .before .before .before .precompute-adag-b .kept .0)
+    (λ c. c .before .before .before .before .before .before .before .before .before .precompute-adag-b .kept .1 .0)
     returns)

@@ -8,7 +8,7 @@ use lib.ListN.{length}
 use mir.Val.{Fits}
 use mir.Syntax.{w64}
 use Rattle.sums.specs.Numbers.{complexes}
-use Rattle.kossakowski.proofs.MatrixLaws.{places-few, some-ops, row-below, column-below}
+use Rattle.k_matrix.proofs.MatrixLaws.{places-few, some-ops, row-below, column-below}
 use Rattle.kossakowski.proofs.PairsLaws.{standing-room, CountState, count-start, count-skips, count-next, count-done}
 use borrow.Author.Needs.{needs}
 use native.Mathlib.Omega.{arith}

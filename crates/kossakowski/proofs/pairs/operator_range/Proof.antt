@@ -5,7 +5,7 @@
 use mathlib.Core.Path.{_≡_, ap, _∙_}
 use Prim.Native.Nat.{ℕ, _+_, _-_}
 use lib.ListN.{getD, take}
-use Rattle.model.specs.Items.{total}
+use Rattle.lent.specs.Laid.{total}
 use Rattle.model.specs.Stored.{range}
 use Rattle.kossakowski.proofs.PairsLaws.{range-fits}
 use borrow.Author.Needs.{needs}

@@ -8,7 +8,7 @@ use mir.Val.{Fits}
 use mir.Syntax.{w64}
 use Rattle.number.specs.Floats.{cx}
 use Rattle.model.specs.Stored.{range}
-use Rattle.model.specs.Product.{onto}
+use Rattle.model.specs.Between.{onto}
 use Rattle.kossakowski.proofs.PairLaws.{FactorsState, factors-start, row-ends, factors-room, factors-next, factors-done}
 use borrow.Author.Needs.{needs}
 use native.Mathlib.Omega.{arith}

@@ -2,7 +2,7 @@
 -- SPDX-License-Identifier: Apache-2.0
 
 -- `pairs::store_pair` meets its contract. Assumes nothing.
-use mathlib.Core.Path.{refl}
+use mathlib.Core.Path.{refl, _∙_}
 use Rattle.number.specs.Floats.{cx}
 use Rattle.kossakowski.proofs.PairLaws.{many-few, work-stays, pair-factors, pair-keeps, pair-stored}
 use borrow.Author.Needs.{needs}
@@ -69,10 +69,10 @@ store-pair-spec =
     mul-rates
     slice-write-rates
     lay-entry-requires
+    (λ c. c .before .before .before .before .before .before .before .before .before .before .before .before .before .before .before .before .before .precompute-adag-b .kept .0)
+    (λ c. c .before .before .before .before .before .before .before .before .before .before .before .before .before .before .before .before .before .precompute-adag-b .kept .1 .0)
+    (λ c. c .before .before .lay-entry .kept .0)
     (λ c. search needs)
-    (λ c. search needs)
-    (λ c. search needs)
-    (λ c. search needs)
-    (λ c. search needs)
-    (λ c. search needs)
+    (λ c. c .before .before .before .before .before .before .before .before .store-scaled .kept .1 .1 .1 .1 .0 ∙ c .before .before .before .before .before .before .before .before .before .before .before .before .before .before .before .before .before .before .before .before .before .before .before .before .store-factors .kept .1 .1 .1 .1 .1 .0)
+    (λ c. c .before .before .before .before .before .before .before .before .store-scaled .kept .1 .1 .1 .1 .1 .0 ∙ c .before .before .before .before .before .before .before .before .before .before .before .before .before .before .before .before .before .before .before .before .before .before .before .before .store-factors .kept .1 .1 .1 .1 .1 .1 .0)
     returns)

@@ -6,8 +6,8 @@ use mathlib.Core.Path.{sym, _∙_}
 use Prim.Native.Nat.{_-_}
 use Rattle.number.specs.Floats.{cx}
 use Rattle.sums.specs.Numbers.{complexes}
-use Rattle.model.proofs.Parts.{length-complexes}
-use Rattle.kossakowski.proofs.MatrixLaws.{places-few, some-ops, row-below, column-below}
+use Rattle.model_build.proofs.Parts.{length-complexes}
+use Rattle.k_matrix.proofs.MatrixLaws.{places-few, some-ops, row-below, column-below}
 use Rattle.kossakowski.proofs.PairsLaws.{standing-room, StoreState, store-start, store-skips, store-room, store-next, store-done}
 use borrow.Author.Needs.{needs}
 use native.Mathlib.Omega.{arith}

@@ -9,9 +9,9 @@ use mir.Val.{Fits}
 use mir.Syntax.{w64}
 use Rattle.number.specs.Floats.{cx}
 use Rattle.model.specs.Stored.{range}
-use Rattle.model.specs.Product.{onto}
-use Rattle.model.proofs.StoreLaws.{lays-one}
-use Rattle.kossakowski.specs.Pairs.{factorOf}
+use Rattle.model.specs.Between.{onto}
+use Rattle.model_build.proofs.StoreLaws.{lays-one}
+use Rattle.k_matrix.specs.Pairs.{factorOf}
 use Rattle.kossakowski.proofs.PairLaws.{RowState, row-start, row-room, row-next, row-done}
 use borrow.Author.Needs.{needs}
 use native.Mathlib.Omega.{arith}
@@ -86,7 +86,7 @@ store-row-spec =
     μ-loop
     loop-holds
     term-at-requires
-    (λ c κs. search needs)
+    (λ c κs. tt)
     set-word-requires
     set-complex-requires
     add-place

@@ -8,10 +8,12 @@ use Prim.Native.Nat.{ℕ, _*_, _≤_, _<_}
 use native.Mathlib.Omega.{arith}
 use lib.ListN.{length, take, replicate}
 use lib.Seq.{length-take-le}
+use Rattle.word.specs.Flat.{wordLanes}
 use Rattle.number.specs.Floats.{float0}
-use Rattle.model.specs.Stored.{ModelTables, tables}
-use Rattle.model_laws.proofs.StandsLaws.{tested-stands}
-use Rattle.passes.specs.Leaks.{Took}
+use Rattle.model.specs.Stored.{ModelTables}
+use Rattle.model.proofs.StandsLaws.{tested-stands}
+use Rattle.model.specs.Between.{modelTables}
+use Rattle.passes.specs.Between.{Took}
 use Rattle.leakage.specs.Leakages.{Basis, basisOf, Work, workOf, candidatePlaces, leakTests, leakCourse}
 use Rattle.refusal.specs.declared.Answer.the-variants.{Accepted}
 use Rattle.leakage.proofs.GatherLaws.{Passed, leak-passed, basis-lent, fixed-lent, candidate-room}
@@ -23,7 +25,7 @@ use Rattle.leakage.proofs.leak.leakage_with_prune.Tie as tie
 
 -- ---- what is lent, as the definitions name it
 abbrev stored : tie.Start → ModelTables
-stored s = let a = s .args in tables (a .h-words .now) (a .h-coeffs .now) (a .jumps .now) (a .rates .now) (a .t-words .now) (a .t-numbers .now)
+stored s = let a = s .args in modelTables (a .h-words .now) (a .h-coeffs .now) (a .jumps .now) (a .rates .now) (a .t-words .now) (a .t-numbers .now)
 
 abbrev lent : tie.Start → Basis
 lent s = let a = s .args in basisOf (a .words .now) (a .coeffs .now) (a .len) (a .protected .now)
@@ -80,14 +82,14 @@ mul-run-and-clear c =
     let s = start-of (c .before .before .before .before .before .before .before .before .before .before .before .before .before .before .before .before .before .before .before .before .before .before .before .before .before .before .before .before .before .before) in
     let a = s .args in
     let p = passed (c .before .before .before .before .before .before .before .before .before .before .before .before .before .before .before .before .before .before .before .before .before .before .before .before .before .before .before .before .before .before) in
-    let h : 4 * a .len ≤ length (a .words .now) = omega (arith, p .words-long) in
+    let h : wordLanes * a .len ≤ length (a .words .now) = omega (arith, p .words-long) in
     search (h, s .good .1 .1 .1 .1 .1 .1 .1 .0, needs)
 
 slice-aggregate-run-and-clear : tie.Need-slice-aggregate-run-and-clear
 slice-aggregate-run-and-clear c =
     let s = start-of (c .before .before .before .before .before .before .before .before .before .before .before .before .before .before .before .before .before .before .before .before .before .before .before .before .before .before .before .before .before .before .before) in
     let a = s .args in
-    sym (length-take-le (a .len * 4) (a .words .now) (omega (arith, passed (c .before .before .before .before .before .before .before .before .before .before .before .before .before .before .before .before .before .before .before .before .before .before .before .before .before .before .before .before .before .before .before) .words-long)))
+    sym (length-take-le (a .len * wordLanes) (a .words .now) (omega (arith, passed (c .before .before .before .before .before .before .before .before .before .before .before .before .before .before .before .before .before .before .before .before .before .before .before .before .before .before .before .before .before .before .before) .words-long)))
 
 slice-aggregate-run-and-clear-2 : tie.Need-slice-aggregate-run-and-clear-2
 slice-aggregate-run-and-clear-2 c =

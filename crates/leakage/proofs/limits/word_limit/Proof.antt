@@ -12,7 +12,7 @@ returns : tie.Need-returns
 returns c = limit-alone (c .before .before .args .limits) (c .if1 .taken)
 
 returns-2 : tie.Need-returns-2
-returns-2 c = c .larger-count .ensures ∙ limit-raised (c .before .before .before .args .limits) (c .before .if1 .left)
+returns-2 c = c .larger .ensures ∙ limit-raised (c .before .before .before .args .limits) (c .before .if1 .left)
 
 pub word-limit-spec : {M : Type 1} → statement M
 word-limit-spec = tie.close (tie.spec returns (λ c κs. search needs) returns-2)

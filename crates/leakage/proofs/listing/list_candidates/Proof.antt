@@ -4,11 +4,12 @@
 -- `listing::list_candidates` meets its contract. Assumes nothing.
 use mathlib.Core.Path.{_∙_, sym, ap}
 use Rattle.passes.specs.declared.taken.Taken.{Taken}
-use Rattle.leakage.specs.Leakages.{listing, stepRows}
+use Rattle.leakage.specs.Leakages.{listing}
 use Rattle.leakage.proofs.OutLaws.{listing-stopped}
 use borrow.Author.Needs.{needs}
 use Rattle.leakage.proofs.listing.list_candidates.Statement.{statement}
 use Rattle.leakage.proofs.listing.list_candidates.Tie as tie
+use Rattle.leakage.specs.Between.{stepRows}
 
 list-held-requires : tie.Need-list-held-requires
 list-held-requires c κs =

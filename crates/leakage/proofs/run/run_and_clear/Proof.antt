@@ -6,7 +6,7 @@ use mathlib.Core.Path.{ap, _∙_}
 use Prim.Native.Nat.{ℕ}
 use lib.ListN.{replicate}
 use Rattle.number.specs.Floats.{float0}
-use Rattle.leakage.specs.Leakages.{passWork}
+use Rattle.leakage.specs.Between.{passWork}
 use Rattle.leakage.proofs.GatherLaws.{action-room, candidate-room}
 use Rattle.leakage.proofs.OutLaws.{pass-zero}
 use borrow.Author.Needs.{needs}

@@ -4,7 +4,7 @@
 -- `stored::lay_entry` meets its contract. Assumes nothing.
 use native.Mathlib.Numerals.{towards-suc}
 use lib.ListN.{length-set}
-use Rattle.model.specs.Laid.{laid}
+use Rattle.lent.specs.Laid.{laid}
 use borrow.Author.Needs.{needs}
 use native.Mathlib.Omega.{arith}
 use Rattle.model.proofs.stored.lay_entry.Statement.{statement}

@@ -3,9 +3,9 @@
 
 -- `test::test_each` meets its contract: none of the terms before i fails. Assumes nothing.
 use Prim.Native.Nat.{_-_, _≤_}
-use Rattle.model.specs.Fails.{termFails}
+use Rattle.model.specs.Between.{termFails}
 use Rattle.model.proofs.ModelTests.{term-at}
-use Rattle.model.proofs.Firsts.{NoneBefore, none-start, stops-here, goes-on, stops-last}
+use Rattle.lent.proofs.Firsts.{NoneBefore, none-start, stops-here, goes-on, stops-last}
 use borrow.Author.Needs.{needs}
 use native.Mathlib.Omega.{arith}
 use Rattle.model.proofs.test.test_each.Statement.{statement}

@@ -4,8 +4,8 @@
 -- `test::test_given` meets its contract: the first of the terms of the jumps before j. Assumes nothing.
 use mathlib.Core.Path.{_≡_, ap, ap₂, _∙_}
 use Prim.Native.Nat.{ℕ, _-_, _≤_, min}
-use Rattle.model.specs.Tested.{firstTo}
-use Rattle.model.specs.Fails.{failsOf, givenFails}
+use Rattle.lent.specs.Tests.{firstTo}
+use Rattle.model.specs.Between.{failsOf, givenFails}
 use Rattle.model.specs.declared.stored.Jump.{Jump}
 use Rattle.model.proofs.GivenTerms.{given-none, given-more}
 use borrow.Author.Needs.{needs}

@@ -3,9 +3,9 @@
 
 -- `test::test_hamiltonian` meets its contract: none of the terms before i fails. Assumes nothing.
 use Prim.Native.Nat.{_-_, _≤_}
-use Rattle.model.specs.Fails.{realFails}
+use Rattle.model.specs.Between.{realFails}
 use Rattle.model.proofs.ModelTests.{real-at}
-use Rattle.model.proofs.Firsts.{NoneBefore, none-start, stops-here, goes-on, stops-last}
+use Rattle.lent.proofs.Firsts.{NoneBefore, none-start, stops-here, goes-on, stops-last}
 use borrow.Author.Needs.{needs}
 use native.Mathlib.Omega.{arith}
 use Rattle.model.proofs.test.test_hamiltonian.Statement.{statement}

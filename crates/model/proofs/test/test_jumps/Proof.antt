@@ -3,8 +3,8 @@
 
 -- `test::test_jumps` meets its contract: none of the entries before j fails. Assumes nothing.
 use Prim.Native.Nat.{_-_, _≤_}
-use Rattle.model.specs.Fails.{entryFails}
-use Rattle.model.proofs.Firsts.{NoneBefore, none-start, stops-here, goes-on, stops-last}
+use Rattle.model.specs.Between.{entryFails}
+use Rattle.lent.proofs.Firsts.{NoneBefore, none-start, stops-here, goes-on, stops-last}
 use borrow.Author.Needs.{needs}
 use native.Mathlib.Omega.{arith}
 use Rattle.model.proofs.test.test_jumps.Statement.{statement}

@@ -4,7 +4,7 @@
 -- `columns::diagonal_of` meets its contract. Assumes nothing.
 use mathlib.Core.Path.{sym, _∙_}
 use Prim.Native.Nat.{_-_}
-use Rattle.model.specs.Product.{onto}
+use Rattle.model.specs.Between.{onto}
 use Rattle.norm.proofs.ColumnLaws.{DiagState, diag-start, diag-passes, diag-found, diag-other, diag-none}
 use borrow.Author.Needs.{needs}
 use Rattle.norm.proofs.columns.diagonal_of.Statement.{statement}

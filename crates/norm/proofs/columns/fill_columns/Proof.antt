@@ -7,7 +7,7 @@ use Prim.Native.Nat.{_-_, _<_}
 use native.Mathlib.Omega.{arith}
 use lib.ListN.{length, take, length-set}
 use Rattle.word.specs.Flat.{words}
-use Rattle.model.specs.Stored.{ModelTables, tables}
+use Rattle.model.specs.Stored.{ModelTables}
 use Rattle.action.specs.Counts.{touchedBy}
 use Rattle.action.proofs.ActLaws.{empty-room, sums-full, sums-held, listed-are, sums-inside}
 use Rattle.norm.specs.Columns.{rawOf, diagOf, rawBy, diagBy}
@@ -15,10 +15,11 @@ use Rattle.norm.proofs.FillLaws.{FillState, fill-start, fill-more, fill
 use borrow.Author.Needs.{needs}
 use Rattle.norm.proofs.columns.fill_columns.Statement.{statement}
 use Rattle.norm.proofs.columns.fill_columns.Tie as tie
+use Rattle.model.specs.Between.{modelTables}
 
 abbrev Inv-loop : tie.InvT-loop
 Inv-loop m h-words h-coeffs jumps rates t-words t-numbers lanes len h-index j-index mask₀ work-words₀ work-sums₀ room raws₀ diags₀ k₀ mask work-words work-sums raws diags k =
-    FillState (touchedBy m (tables h-words h-coeffs jumps rates t-words t-numbers)) (rawBy m (tables h-words h-coeffs jumps rates t-words t-numbers)) (diagBy m (tables h-words h-coeffs jumps rates t-words t-numbers)) (take len (words lanes)) room raws diags k
+    FillState (touchedBy m (modelTables h-words h-coeffs jumps rates t-words t-numbers)) (rawBy m (modelTables h-words h-coeffs jumps rates t-words t-numbers)) (diagBy m (modelTables h-words h-coeffs jumps rates t-words t-numbers)) (take len (words lanes)) room raws diags k
     × (length mask ≡ length mask₀) × (length work-words ≡ length work-words₀) × (length work-sums ≡ length work-sums₀) × (length raws ≡ length raws₀) × (length diags ≡ length diags₀)
 
 abbrev μ-loop : tie.MeasureT-loop
@@ -27,7 +28,7 @@ abbrev μ-loop : tie.MeasureT-loop
 loop-holds : tie.Need-loop-holds Inv-loop μ-loop
 loop-holds c =
     let a = c .before .before .before .before .before .before .before .before .before .before .before .before .before .before .args in
-    let t : ModelTables = tables (a .h-words .now) (a .h-coeffs .now) (a .jumps .now) (a .rates .now) (a .t-words .now) (a .t-numbers .now) in
+    let t : ModelTables = modelTables (a .h-words .now) (a .h-coeffs .now) (a .jumps .now) (a .rates .now) (a .t-words .now) (a .t-numbers .now) in
     (fill-start (touchedBy (a .m) t) (rawBy (a .m) t) (diagBy (a .m) t) (take (a .len) (words (a .words .now))) (a .room) (a .raws .now) (a .diags .now), refl, refl, refl, refl, refl)
 
 word-at-requires : tie.Need-word-at-requires Inv-loop μ-loop
@@ -53,7 +54,7 @@ returns : tie.Need-returns Inv-loop μ-loop
 returns c =
     let s = c .before .before .before .before .before .before .before .before .before .before .before .before .before .before .before .before .before .before .before .before .before .before .before .before .before .before .before .before .before in
     let a = c .before .before .before .before .before .before .before .before .before .before .before .before .before .before .before .before .before .before .before .before .before .before .before .before .before .before .before .before .before .args in
-    let t : ModelTables = tables (a .h-words .now) (a .h-coeffs .now) (a .jumps .now) (a .rates .now) (a .t-words .now) (a .t-numbers .now) in
+    let t : ModelTables = modelTables (a .h-words .now) (a .h-coeffs .now) (a .jumps .now) (a .rates .now) (a .t-words .now) (a .t-numbers .now) in
     let l = c .before .before .before .before .before .before .before .before .before .before .before .before .before .before .loop in
     let w = c .before .before .before .before .before .before .before .before .before .before .before .before .word-at in
     let q = c .before .before .before .before .before .before .before .before .put-rules-near in
@@ -65,7 +66,7 @@ raw-of-requires : tie.Need-raw-of-requires Inv-loop μ-loop
 raw-of-requires c κs =
     let s = c .before .before .before .before .before .before .before .before .before .before .before .before .before .before .before .before .before .before .before .before .before .before .before .before .before .before .before .before .before .before .before .before in
     let a = c .before .before .before .before .before .before .before .before .before .before .before .before .before .before .before .before .before .before .before .before .before .before .before .before .before .before .before .before .before .before .before .before .args in
-    let t : ModelTables = tables (a .h-words .now) (a .h-coeffs .now) (a .jumps .now) (a .rates .now) (a .t-words .now) (a .t-numbers .now) in
+    let t : ModelTables = modelTables (a .h-words .now) (a .h-coeffs .now) (a .jumps .now) (a .rates .now) (a .t-words .now) (a .t-numbers .now) in
     let l = c .before .before .before .before .before .before .before .before .before .before .before .before .before .before .before .before .before .loop in
     let q = c .before .before .before .before .before .before .before .before .before .before .before .put-rules-near in
     let h = s .pre in
@@ -75,7 +76,7 @@ diagonal-of-requires : tie.Need-diagonal-of-requires Inv-loop μ-loop
 diagonal-of-requires c κs =
     let s = c .before .before .before .before .before .before .before .before .before .before .before .before .before .before .before .before .before .before .before .before .before .before .before .before .before .before .before .before .before .before .before .before .before .before .before in
     let a = c .before .before .before .before .before .before .before .before .before .before .before .before .before .before .before .before .before .before .before .before .before .before .before .before .before .before .before .before .before .before .before .before .before .before .before .args in
-    let t : ModelTables = tables (a .h-words .now) (a .h-coeffs .now) (a .jumps .now) (a .rates .now) (a .t-words .now) (a .t-numbers .now) in
+    let t : ModelTables = modelTables (a .h-words .now) (a .h-coeffs .now) (a .jumps .now) (a .rates .now) (a .t-words .now) (a .t-numbers .now) in
     let l = c .before .before .before .before .before .before .before .before .before .before .before .before .before .before .before .before .before .before .before .before .loop in
     let q = c .before .before .before .before .before .before .before .before .before .before .before .before .before .before .put-rules-near in
     let h = s .pre in
@@ -103,7 +104,7 @@ loop-again : tie.Need-loop-again Inv-loop μ-loop
 loop-again c =
     let s = c .before .before .before .before .before .before .before .before .before .before .before .before .before .before .before .before .before .before .before .before .before .before .before .before .before .before .before .before .before .before .before .before .before .before .before .before in
     let a = c .before .before .before .before .before .before .before .before .before .before .before .before .before .before .before .before .before .before .before .before .before .before .before .before .before .before .before .before .before .before .before .before .before .before .before .before .args in
-    let t : ModelTables = tables (a .h-words .now) (a .h-coeffs .now) (a .jumps .now) (a .rates .now) (a .t-words .now) (a .t-numbers .now) in
+    let t : ModelTables = modelTables (a .h-words .now) (a .h-coeffs .now) (a .jumps .now) (a .rates .now) (a .t-words .now) (a .t-numbers .now) in
     let l = c .before .before .before .before .before .before .before .before .before .before .before .before .before .before .before .before .before .before .before .before .before .loop in
     let w = c .before .before .before .before .before .before .before .before .before .before .before .before .before .before .before .before .before .before .before .word-at in
     let q = c .before .before .before .before .before .before .before .before .before .before .before .before .before .before .before .put-rules-near in
@@ -124,7 +125,7 @@ returns-2 : tie.Need-returns-2 Inv-loop μ-loop
 returns-2 c =
     let s = c .before .before .before .before .before .before .before .before .before .before .before .before .before .before .before .before in
     let a = c .before .before .before .before .before .before .before .before .before .before .before .before .before .before .before .before .args in
-    let t : ModelTables = tables (a .h-words .now) (a .h-coeffs .now) (a .jumps .now) (a .rates .now) (a .t-words .now) (a .t-numbers .now) in
+    let t : ModelTables = modelTables (a .h-words .now) (a .h-coeffs .now) (a .jumps .now) (a .rates .now) (a .t-words .now) (a .t-numbers .now) in
     let l = c .before .loop in
     let n = words-are (a .words .now) (a .len) (s .pre .lanes-long) in
     fill-done (a .m) t (take (a .len) (words (a .words .now))) (a .room) (a .len) (l .raws) (l .diags) (l .k) (l .inv .0) n (omega (arith, n, c .loop-test .left))

@@ -4,7 +4,7 @@
 -- `columns::raw_of` meets its contract. Assumes nothing.
 use mathlib.Core.Path.{sym, _∙_}
 use Prim.Native.Nat.{_-_}
-use Rattle.model.specs.Product.{onto}
+use Rattle.model.specs.Between.{onto}
 use Rattle.norm.proofs.ColumnLaws.{RawState, raw-start, raw-passes, raw-adds, raw-done}
 use borrow.Author.Needs.{needs}
 use Rattle.norm.proofs.columns.raw_of.Statement.{statement}

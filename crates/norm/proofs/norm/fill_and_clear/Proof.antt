@@ -8,19 +8,20 @@ use Prim.Native.Nat.{ℕ}
 use native.Mathlib.Omega.{arith}
 use lib.ListN.{length, replicate}
 use Rattle.number.specs.Floats.{float0}
-use Rattle.model.specs.Stored.{ModelTables, tables}
-use Rattle.model_laws.proofs.StandsLaws.{tested-stands}
+use Rattle.model.specs.Stored.{ModelTables}
+use Rattle.model.proofs.StandsLaws.{tested-stands}
 use Rattle.norm.proofs.CheckLaws.{norm-passed}
 use Rattle.norm.proofs.FillLaws.{fills-places}
 use borrow.Author.Needs.{needs}
 use Rattle.norm.proofs.norm.fill_and_clear.Statement.{statement}
 use Rattle.norm.proofs.norm.fill_and_clear.Tie as tie
+use Rattle.model.specs.Between.{modelTables}
 
 index-model-requires : tie.Need-index-model-requires
 index-model-requires c κs =
     let s = c .before .before .before .before .before .before .before .before .before .before .before .before .before .before .before .before in
     let a = c .before .before .before .before .before .before .before .before .before .before .before .before .before .before .before .before .args in
-    let t : ModelTables = tables (a .h-words .now) (a .h-coeffs .now) (a .jumps .now) (a .rates .now) (a .t-words .now) (a .t-numbers .now) in
+    let t : ModelTables = modelTables (a .h-words .now) (a .h-coeffs .now) (a .jumps .now) (a .rates .now) (a .t-words .now) (a .t-numbers .now) in
     let h = norm-passed (a .m) t (a .words .now) (a .len) (length (a .h-index .now)) (length (a .j-index .now)) (length (a .mask .now)) (length (a .raws .now)) (length (a .diags .now)) (s .pre) in
     let k = tested-stands (a .m) t (h .model) in
     λ w. (h .h-long w, h .j-long w, k .few-reals, k .few-jumps, k .h-words-room, k .jumps-room, k .rates-room, k .t-words-room, k .fits)
@@ -29,7 +30,7 @@ fill-columns-requires : tie.Need-fill-columns-requires
 fill-columns-requires c κs =
     let s = c .before .before .before .before .before .before .before .before .before .before .before .before .before .before .before .before .before .before .before .before .before .before .before .before .before .before .before .before .before in
     let a = c .before .before .before .before .before .before .before .before .before .before .before .before .before .before .before .before .before .before .before .before .before .before .before .before .before .before .before .before .before .args in
-    let t : ModelTables = tables (a .h-words .now) (a .h-coeffs .now) (a .jumps .now) (a .rates .now) (a .t-words .now) (a .t-numbers .now) in
+    let t : ModelTables = modelTables (a .h-words .now) (a .h-coeffs .now) (a .jumps .now) (a .rates .now) (a .t-words .now) (a .t-numbers .now) in
     let h = norm-passed (a .m) t (a .words .now) (a .len) (length (a .h-index .now)) (length (a .j-index .now)) (length (a .mask .now)) (length (a .raws .now)) (length (a .diags .now)) (s .pre) in
     let q = c .before .before .before .before .before .before .before .before .before .before .before .before .index-model in
     let e = c .before .before .before .before .before .before .before .smaller .ensures in

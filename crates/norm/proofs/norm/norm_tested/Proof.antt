@@ -8,13 +8,14 @@ use native.Mathlib.Omega.{arith}
 use lib.ListN.{length, take, replicate}
 use Rattle.word.specs.Flat.{words}
 use Rattle.number.specs.Floats.{float0}
-use Rattle.model.specs.Stored.{ModelTables, tables}
+use Rattle.model.specs.Stored.{ModelTables}
 use Rattle.action.specs.Acts.{sumPlaces}
 use Rattle.norm.proofs.CheckLaws.{norm-passed}
 use Rattle.norm.proofs.AnswerLaws.{normed-is, work-zero}
 use borrow.Author.Needs.{needs}
 use Rattle.norm.proofs.norm.norm_tested.Statement.{statement}
 use Rattle.norm.proofs.norm.norm_tested.Tie as tie
+use Rattle.model.specs.Between.{modelTables}
 
 fill-and-clear-requires : tie.Need-fill-and-clear-requires
 fill-and-clear-requires c κs = c .before .before .before .before .before .before .before .before .before .before .before .before .before .before .before .before .before .before .before .before .before .pre
@@ -23,7 +24,7 @@ norm-of-requires : tie.Need-norm-of-requires
 norm-of-requires c κs =
     let s = c .before .before .before .before .before .before .before .before .before .before .before .before .before .before .before .before .before .before .before .before .before .before .before .before .before .before .before .before .before .before .before .before .before .before .before .before .before .before in
     let a = c .before .before .before .before .before .before .before .before .before .before .before .before .before .before .before .before .before .before .before .before .before .before .before .before .before .before .before .before .before .before .before .before .before .before .before .before .before .before .args in
-    let t : ModelTables = tables (a .h-words .now) (a .h-coeffs .now) (a .jumps .now) (a .rates .now) (a .t-words .now) (a .t-numbers .now) in
+    let t : ModelTables = modelTables (a .h-words .now) (a .h-coeffs .now) (a .jumps .now) (a .rates .now) (a .t-words .now) (a .t-numbers .now) in
     let h = norm-passed (a .m) t (a .words .now) (a .len) (length (a .h-index .now)) (length (a .j-index .now)) (length (a .mask .now)) (length (a .raws .now)) (length (a .diags .now)) (s .pre) in
     let f = c .before .before .before .before .before .before .before .before .before .before .before .before .before .before .before .before .fill-and-clear in
     (omega (arith, h .raws-long, f .kept .1 .1 .1 .1 .1 .1 .1 .1 .1 .1 .1 .1 .1 .1 .0), omega (arith, h .diags-long, f .kept .1 .1 .1 .1 .1 .1 .1 .1 .1 .1 .1 .1 .1 .1 .1 .0), h .few)
@@ -31,7 +32,7 @@ norm-of-requires c κs =
 returns : tie.Need-returns
 returns c =
     let a = c .before .before .before .before .before .before .before .before .before .before .before .before .before .before .before .before .before .before .before .before .before .before .before .before .before .before .before .before .before .before .before .before .before .before .before .before .before .before .before .before .before .before .before .before .before .before .before .args in
-    let t : ModelTables = tables (a .h-words .now) (a .h-coeffs .now) (a .jumps .now) (a .rates .now) (a .t-words .now) (a .t-numbers .now) in
+    let t : ModelTables = modelTables (a .h-words .now) (a .h-coeffs .now) (a .jumps .now) (a .rates .now) (a .t-words .now) (a .t-numbers .now) in
     let f = c .before .before .before .before .before .before .before .before .before .before .before .before .before .before .before .before .before .before .before .before .before .before .before .before .before .fill-and-clear in (
       c .before .before .before .before .before .before .before .before .norm-of .ensures ∙ normed-is (sumPlaces (a .work-words .now) (a .work-sums .now)) (a .m) t (take (a .len) (words (a .words .now))) (a .len) _ _ _ (f .ensures .0),
       work-zero (a .h-index .now) (a .j-index .now) (a .mask .now) (a .work-words .now) (a .work-sums .now) (a .raws .now) (a .diags .now) _ _ _ _ _ _ _ (f .ensures .1) (f .ensures .2) (f .ensures .3) (f .ensures .4) (f .ensures .5)

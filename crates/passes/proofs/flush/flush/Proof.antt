@@ -6,6 +6,7 @@ use mathlib.Core.Path.{_≡_, sym, _∙_}
 use Prim.Native.Nat.{_*_, _≤_}
 use lib.ListN.{length, take}
 use lib.Seq.{length-take-le}
+use Rattle.word.specs.Flat.{wordLanes}
 use Rattle.passes.proofs.FlushLaws.{flush-full, flush-inside, flush-front, flush-held}
 use native.Mathlib.Omega.{arith}
 use borrow.Author.Needs.{needs}
@@ -21,7 +22,7 @@ sums-taken c = sym (length-take-le _ (c .before .before .before .before .before 
 absorb-requires : tie.Need-absorb-requires
 absorb-requires c κs =
     let s = c .before .before .before .before .before .before .before .before .before .before .before .before .before .before in
-    let lanes : length (take (s .args .room * 4) (s .args .next-words .now)) ≡ s .args .room * 4 = length-take-le (s .args .room * 4) (s .args .next-words .now) (omega arith) in
+    let lanes : length (take (s .args .room * wordLanes) (s .args .next-words .now)) ≡ s .args .room * wordLanes = length-take-le (s .args .room * wordLanes) (s .args .next-words .now) (omega arith) in
     let sums : length (take (s .args .room) (s .args .next-sums .now)) ≡ s .args .room = length-take-le (s .args .room) (s .args .next-sums .now) (omega arith) in
     ((omega arith, omega arith), ((omega arith, omega arith, omega arith, omega arith), omega (arith, lanes, sums)))
 
@@ -36,7 +37,7 @@ copy-rows-requires c κs =
     let s = c .before .before .before .before .before .before .before .before .before .before .before .before .before .before .before .before .before .before .before .before .before .before .before .before .before .before .before .before .before .before in
     let q = c .before .before .before .before .before .before .before .before .before .before .before .before .before .before .before .absorb in
     let a = c .before .before .before .before .before .added in
-    let lanes : length (q .last .1 .1 .1 .1 .1 .1 .1 .1 .0) ≡ 4 * s .args .room = q .kept .1 .1 .1 .1 .1 .1 .1 .1 .0 ∙ length-take-le (s .args .room * 4) (s .args .next-words .now) (omega arith) ∙ omega arith in
+    let lanes : length (q .last .1 .1 .1 .1 .1 .1 .1 .1 .0) ≡ wordLanes * s .args .room = q .kept .1 .1 .1 .1 .1 .1 .1 .1 .0 ∙ length-take-le (s .args .room * wordLanes) (s .args .next-words .now) (omega arith) ∙ omega arith in
     let inside : a .given .0 .0 ≤ s .args .room = flush-inside (s .args .room) (s .args .next-sums .now) (omega arith) _ (q .last .1 .1 .1 .1 .1 .1 .1 .1 .0) (q .last .1 .1 .1 .1 .1 .1 .1 .1 .1 .0) (q .result) (q .ensures) (a .given .0 .0) (a .given .1) in (
       flush-front (s .args .room) (s .args .next-sums .now) (omega arith) _ (q .last .1 .1 .1 .1 .1 .1 .1 .1 .0) (q .last .1 .1 .1 .1 .1 .1 .1 .1 .1 .0) (q .result) (q .ensures) (a .given .0 .0) (a .given .1) _ _ lanes (q .kept .1 .1 .1 .1 .1 .1 .1 .1 .1 .0),
       record { lanes-long = omega arith; sums-long = omega arith; inside = omega arith },
@@ -47,7 +48,7 @@ returns-2 c =
     let s = c .before .before .before .before .before .before .before .before .before .before .before .before .before .before .before .before .before .before .before .before .before .before .before .before .before .before .before .before .before .before .before .before .before .before .before in
     let q = c .before .before .before .before .before .before .before .before .before .before .before .before .before .before .before .before .before .before .before .before .absorb in
     let a = c .before .before .before .before .before .before .before .before .before .before .added in
-    let lanes : length (q .last .1 .1 .1 .1 .1 .1 .1 .1 .0) ≡ 4 * s .args .room = q .kept .1 .1 .1 .1 .1 .1 .1 .1 .0 ∙ length-take-le (s .args .room * 4) (s .args .next-words .now) (omega arith) ∙ omega arith in
+    let lanes : length (q .last .1 .1 .1 .1 .1 .1 .1 .1 .0) ≡ wordLanes * s .args .room = q .kept .1 .1 .1 .1 .1 .1 .1 .1 .0 ∙ length-take-le (s .args .room * wordLanes) (s .args .next-words .now) (omega arith) ∙ omega arith in
     flush-held (s .args .room) (s .args .next-sums .now) (omega arith) _ (q .last .1 .1 .1 .1 .1 .1 .1 .1 .0) (q .last .1 .1 .1 .1 .1 .1 .1 .1 .1 .0) (q .result) (q .ensures) (a .given .0 .0) (a .given .1) _ _ _ _ lanes (q .kept .1 .1 .1 .1 .1 .1 .1 .1 .1 .0) (c .before .before .before .before .copy-rows .ensures)
 
 pub flush-spec : {M : Type 1} → statement M

@@ -7,8 +7,8 @@ use Prim.Native.Nat.{_+_, _-_, _*_, _≤_, _<_}
 use native.Mathlib.Omega.{arith}
 use borrow.Author.Needs.{needs}
 use lib.ListN.{length, length-set}
-use Rattle.word.specs.Flat.{words}
-use Rattle.model.specs.Product.{onto}
+use Rattle.word.specs.Flat.{words, wordLanes}
+use Rattle.model.specs.Between.{onto}
 use Rattle.passes.specs.Leaks.{outside}
 use Rattle.passes.proofs.LogLaws.{LogState, log-start, log-place, log-passes, log-skips, log-lays, log-done}
 use Rattle.passes.proofs.log.log_terms.Statement.{statement}
@@ -42,7 +42,7 @@ is-outside-requires : tie.Need-is-outside-requires Inv-loop μ-loop
 is-outside-requires c κs = let h = c .before .before .before .before .before .before .before .before .before .before .before .before .before .before .before .before .pre in (h .2, h .3)
 
 -- a place in the log
-place : (c : tie.Then2 Inv-loop μ-loop) → (4 * c .before .before .before .before .before .before .before .loop .end + 4 ≤ length (c .before .before .before .before .before .before .before .loop .log-words)) × (c .before .before .before .before .before .before .before .loop .end < length (c .before .before .before .before .before .before .before .loop .log-values))
+place : (c : tie.Then2 Inv-loop μ-loop) → (wordLanes * c .before .before .before .before .before .before .before .loop .end + wordLanes ≤ length (c .before .before .before .before .before .before .before .loop .log-words)) × (c .before .before .before .before .before .before .before .loop .end < length (c .before .before .before .before .before .before .before .loop .log-values))
 place c =
     let s = c .before .before .before .before .before .before .before .before .before .before .before .before .before .before .before .before .before .before in
     let l = c .before .before .before .before .before .before .before .loop in

@@ -3,7 +3,7 @@
 
 -- `pass::held_after` meets its contract. Assumes nothing.
 use mathlib.Core.Path.{sym, ap}
-use Rattle.passes.specs.Leaks.{heldAfter}
+use Rattle.passes.specs.Between.{heldAfter}
 use borrow.Author.Needs.{needs}
 use Rattle.passes.proofs.pass.held_after.Statement.{statement}
 use Rattle.passes.proofs.pass.held_after.Tie as tie

@@ -3,7 +3,7 @@
 
 -- `pass::no_sums` meets its contract. Assumes nothing.
 use mathlib.Core.Path.{sym, ap}
-use Rattle.passes.specs.Leaks.{noSums}
+use Rattle.passes.specs.Between.{noSums}
 use borrow.Author.Needs.{needs}
 use Rattle.passes.proofs.pass.no_sums.Statement.{statement}
 use Rattle.passes.proofs.pass.no_sums.Tie as tie

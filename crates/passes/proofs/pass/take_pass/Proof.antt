@@ -8,22 +8,24 @@ use native.Mathlib.Omega.{arith}
 use lib.ListN.{length, getD}
 use mir.Val.{Fits}
 use mir.Syntax.{w64}
-use Rattle.word.specs.Flat.{words as wordsIn}
+use Rattle.word.specs.Flat.{words as wordsIn, wordLanes}
 use Rattle.candidates.specs.Log.{candidateRows}
 use Rattle.order.proofs.Members.{all-at}
-use Rattle.model.specs.Stored.{ModelTables, tables}
+use Rattle.model.specs.Stored.{ModelTables}
 use Rattle.action.proofs.ActLaws.{empty-room, sums-full, sums-held, listed-are, sums-inside}
-use Rattle.action.proofs.CountLaws.{word-inside}
-use Rattle.passes.specs.Leaks.{takenBy, touchedAt, leaksAt, Holding}
+use Rattle.lent.proofs.WordLaws.{word-inside}
+use Rattle.passes.specs.Leaks.{takenBy, touchedAt, leaksAt}
 use Rattle.passes.proofs.PassLaws.{Passing, passing-first, passing-end, passing-full, passing-stopped, passing-next, log-long, log-enough, leaks-are}
 use borrow.Author.Needs.{needs}
 use Rattle.passes.proofs.pass.take_pass.Statement.{statement}
 use Rattle.passes.proofs.pass.take_pass.Tie as tie
+use Rattle.model.specs.Between.{modelTables}
+use Rattle.passes.specs.Between.{Holding}
 
 abbrev Inv-loop : tie.InvT-loop
 Inv-loop m h-words h-coeffs jumps rates t-words t-numbers h-index j-index mask₀ work-words₀ work-sums₀ sum-room basis coeffs heads nexts protected fixed-heads fixed-nexts positions log-words₀ log-values₀ words₀ sums₀ room n order₀ work₀ next-words₀ next-sums₀ capacity held₀ count₀ i₀ mask work-words work-sums log-words log-values words sums order work next-words next-sums held count i =
-    Passing (touchedAt m (tables h-words h-coeffs jumps rates t-words t-numbers) (wordsIn basis) coeffs (wordsIn protected)) (leaksAt m (tables h-words h-coeffs jumps rates t-words t-numbers) (wordsIn basis) coeffs (wordsIn protected)) sum-room room positions
-    (takenBy (touchedAt m (tables h-words h-coeffs jumps rates t-words t-numbers) (wordsIn basis) coeffs (wordsIn protected)) (leaksAt m (tables h-words h-coeffs jumps rates t-words t-numbers) (wordsIn basis) coeffs (wordsIn protected)) sum-room room positions (candidateRows n words₀ sums₀))
+    Passing (touchedAt m (modelTables h-words h-coeffs jumps rates t-words t-numbers) (wordsIn basis) coeffs (wordsIn protected)) (leaksAt m (modelTables h-words h-coeffs jumps rates t-words t-numbers) (wordsIn basis) coeffs (wordsIn protected)) sum-room room positions
+    (takenBy (touchedAt m (modelTables h-words h-coeffs jumps rates t-words t-numbers) (wordsIn basis) coeffs (wordsIn protected)) (leaksAt m (modelTables h-words h-coeffs jumps rates t-words t-numbers) (wordsIn basis) coeffs (wordsIn protected)) sum-room room positions (candidateRows n words₀ sums₀))
     i held count log-words log-values words sums
     × (count ≤ capacity)
     × (length mask ≡ length mask₀) × (length work-words ≡ length work-words₀) × (length work-sums ≡ length work-sums₀) × (length log-words ≡ length log-words₀) × (length log-values ≡ length log-values₀) × (length words ≡ length words₀) × (length sums ≡ length sums₀) × (length order ≡ length order₀) × (length work ≡ length work₀) × (length next-words ≡ length next-words₀) × (length next-sums ≡ length next-sums₀)
@@ -42,13 +44,13 @@ next-room c =
     let h = c .before .before .before .before .before .before .before .before .before .before .before .before .before .before .before .before .before .before .before .before .before .before .before .before .before .before .before .before .before .before .before .before .before .pre .1 .1 .1 .1 in
     record { lanes-long = omega (arith, h .lanes-long, c .loop .inv .11); sums-long = omega (arith, h .sums-long, c .loop .inv .12); inside = h .inside }
 
-log-room : (c : tie.At-loop Inv-loop μ-loop) → (4 * c .before .log-places .result ≤ length (c .loop .log-words)) × (c .before .log-places .result ≤ length (c .loop .log-values)) × (c .before .log-places .result ≤ length (c .loop .order)) × (c .before .log-places .result ≤ length (c .loop .work))
+log-room : (c : tie.At-loop Inv-loop μ-loop) → (wordLanes * c .before .log-places .result ≤ length (c .loop .log-words)) × (c .before .log-places .result ≤ length (c .loop .log-values)) × (c .before .log-places .result ≤ length (c .loop .order)) × (c .before .log-places .result ≤ length (c .loop .work))
 log-room c =
     let a = c .before .before .before .before .before .before .before .before .before .before .before .before .before .before .before .before .before .before .before .before .before .before .before .before .before .before .before .before .before .before .before .before .before .args in
     let h = log-long (a .log-words .now) (a .log-values .now) (a .order .now) (a .work .now) _ (c .before .log-places .ensures) in
     (omega (arith, h .0, c .loop .inv .5), omega (arith, h .1, c .loop .inv .6), omega (arith, h .2, c .loop .inv .9), omega (arith, h .3, c .loop .inv .10))
 
-flush-room : (c : tie.At-loop Inv-loop μ-loop) → (4 * c .loop .count ≤ length (c .loop .log-words)) × (c .loop .count ≤ length (c .loop .log-values)) × (c .loop .count ≤ length (c .loop .order)) × (c .loop .count ≤ length (c .loop .work))
+flush-room : (c : tie.At-loop Inv-loop μ-loop) → (wordLanes * c .loop .count ≤ length (c .loop .log-words)) × (c .loop .count ≤ length (c .loop .log-values)) × (c .loop .count ≤ length (c .loop .order)) × (c .loop .count ≤ length (c .loop .work))
 flush-room c =
     let h = log-room c in
     let e = c .loop .inv .1 in
@@ -61,7 +63,7 @@ in-coeffs c = all-at (λ x. x < length (c .before .before .before .before .befor
 loop-holds : tie.Need-loop-holds Inv-loop μ-loop
 loop-holds c =
     let a = c .before .before .before .before .before .before .before .before .before .before .before .before .before .before .before .before .before .before .before .before .before .before .before .before .before .before .before .before .before .before .before .before .args in
-    let t : ModelTables = tables (a .h-words .now) (a .h-coeffs .now) (a .jumps .now) (a .rates .now) (a .t-words .now) (a .t-numbers .now) in
+    let t : ModelTables = modelTables (a .h-words .now) (a .h-coeffs .now) (a .jumps .now) (a .rates .now) (a .t-words .now) (a .t-numbers .now) in
     (passing-first (touchedAt (a .m) t (wordsIn (a .basis .now)) (a .coeffs .now) (wordsIn (a .protected .now))) (leaksAt (a .m) t (wordsIn (a .basis .now)) (a .coeffs .now) (wordsIn (a .protected .now))) (a .sum-room) (a .room) (a .positions .now) (a .n) (a .log-words .now) (a .log-values .now) (a .words .now) (a .sums .now) (c .before .before .before .before .before .before .before .before .before .before .before .before .before .before .before .before .before .before .before .before .before .before .before .before .before .before .before .before .before .before .before .before .pre .1 .1 .1 .0 .inside), omega arith, refl, refl, refl, refl, refl, refl, refl, refl, refl, refl, refl)
 
 mul-p : tie.Need-mul-p Inv-loop μ-loop
@@ -130,7 +132,7 @@ returns c =
     let l = c .before .before .before .before .before .before .before .before .before .before .before .before .before .before .before .before .before .before .before .before .before .before .before .before .before .before .before .before .before .before .before .before .before .before .before .before .before .loop in
     let q = c .before .before .before .before .before .before .before .before .before .before .before .before .before .before .before .before .before .before .before .before .before .before .before .before .before .before .before .before .before .before .put-rules-near in
     let w = c .before .before .before .before .before .before .before .before .before .before .before .before .before .before .before .before .before .before .before .before .before .before .before .before .before .before .before .before .before .before .before .before .before .before .word-at in
-    let t : ModelTables = tables (a .h-words .now) (a .h-coeffs .now) (a .jumps .now) (a .rates .now) (a .t-words .now) (a .t-numbers .now) in
+    let t : ModelTables = modelTables (a .h-words .now) (a .h-coeffs .now) (a .jumps .now) (a .rates .now) (a .t-words .now) (a .t-numbers .now) in
     let p : ℕ = getD (a .positions .now) (l .i) 0 in
     let full : a .sum-room < (touchedAt (a .m) t (wordsIn (a .basis .now)) (a .coeffs .now) (wordsIn (a .protected .now))) p = rw (w .ensures) at (sums-full (a .m) t (w .result) (a .sum-room) (l .work-words) (l .work-sums) _ _ _ (q .ensures) (c .before .before .before .before .before .before .before .before .before .before .before .before .before .before .before .before .before .before .before .before .before .before .enum-told .given .1)) in
     rw (c .no-sums .ensures) (passing-stopped (touchedAt (a .m) t (wordsIn (a .basis .now)) (a .coeffs .now) (wordsIn (a .protected .now))) (leaksAt (a .m) t (wordsIn (a .basis .now)) (a .coeffs .now) (wordsIn (a .protected .now))) (a .sum-room) (a .room) (a .positions .now) _ (l .i) (l .held) (l .count) (l .log-words) (l .log-values) (l .words) (l .sums) (l .inv .0) (c .before .before .before .before .before .before .before .before .before .before .before .before .before .before .before .before .before .before .before .before .before .before .before .before .before .before .before .before .before .before .before .before .before .before .before .before .loop-test .taken) p refl (c .before .before .before .before .before .before .before .before .before .before .before .before .before .flush .last .0) (c .before .before .before .before .before .before .before .before .before .before .before .before .before .flush .last .1 .0) (c .before .before .before .before .before .before .before .before .before .before .before .before .before .flush .result) full (c .before .before .before .before .before .before .before .before .before .before .before .before .before .flush .ensures))
@@ -141,7 +143,7 @@ make-room-requires c κs =
     let d = c .before .before .before .before .before .before .before .before .before .before .before .before .before .before .before .before .before .before .before .before .before .before .before .before in
     let l = d .loop in
     let q = c .before .before .before .before .before .before .before .before .before .before .before .before .before .before .before .before .before .put-rules-near in
-    let t : ModelTables = tables (a .h-words .now) (a .h-coeffs .now) (a .jumps .now) (a .rates .now) (a .t-words .now) (a .t-numbers .now) in
+    let t : ModelTables = modelTables (a .h-words .now) (a .h-coeffs .now) (a .jumps .now) (a .rates .now) (a .t-words .now) (a .t-numbers .now) in
     let k = sums-held (a .m) t (c .before .before .before .before .before .before .before .before .before .before .before .before .before .before .before .before .before .before .before .before .before .word-at .result) (a .sum-room) (l .work-words) (l .work-sums) _ _ _ (q .ensures) _ (c .before .before .before .before .before .before .before .before .before .added .given .1) in
     let e = log-enough (a .sum-room) (a .work-words .now) (a .work-sums .now) (a .log-words .now) (a .log-values .now) (a .order .now) (a .work .now) _ (d .before .log-places .ensures) (c .before .before .before .before .before .before .before .before .before .before .before .before .before .before .before .before .before .before .before .before .before .before .before .before .before .before .before .before .before .before .before .before .before .before .before .before .before .before .before .before .before .before .before .before .before .before .before .before .before .before .before .before .before .before .before .before .before .pre .1 .1 .0) in
     ((held-room d, next-room d, omega (arith, k .0, k .1, e), l .inv .1), log-room d)
@@ -183,7 +185,7 @@ returns-2 : tie.Need-returns-2 Inv-loop μ-loop
 returns-2 c =
     let a = c .before .before .before .before .before .before .before .before .before .before .before .before .before .before .before .before .before .before .before .before .before .before .before .before .before .before .before .before .before .before .before .before .before .before .before .before .before .before .before .before .before .before .before .before .before .before .before .before .before .before .before .before .before .before .before .before .before .before .before .before .before .before .before .before .before .before .before .before .before .before .before .before .args in
     let l = c .before .before .before .before .before .before .before .before .before .before .before .before .before .before .before .before .before .before .before .before .before .before .before .before .before .before .before .before .before .before .before .before .before .before .before .before .before .before .before .loop in
-    let t : ModelTables = tables (a .h-words .now) (a .h-coeffs .now) (a .jumps .now) (a .rates .now) (a .t-words .now) (a .t-numbers .now) in
+    let t : ModelTables = modelTables (a .h-words .now) (a .h-coeffs .now) (a .jumps .now) (a .rates .now) (a .t-words .now) (a .t-numbers .now) in
     passing-full (touchedAt (a .m) t (wordsIn (a .basis .now)) (a .coeffs .now) (wordsIn (a .protected .now))) (leaksAt (a .m) t (wordsIn (a .basis .now)) (a .coeffs .now) (wordsIn (a .protected .now))) (a .sum-room) (a .room) (a .positions .now) _ (l .i) (l .held) (l .count) (l .log-words) (l .log-values) (l .words) (l .sums) (l .inv .0) (c .before .before .before .before .before .before .before .before .before .before .before .before .before .before .make-room .last .0) (c .before .before .before .before .before .before .before .before .before .before .before .before .before .before .make-room .last .1 .0) (c .before .before .before .before .before .before .before .before .before .before .before .before .before .before .make-room .ensures .full (c .enum-told2 .given .1))
 
 mul-c : tie.Need-mul-c Inv-loop μ-loop
@@ -199,7 +201,7 @@ log-terms-requires c κs =
     let d = c .before .before .before .before .before .before .before .before .before .before .before .before .before .before .before .before .before .before .before .before .before .before .before .before .before .before .before .before .before .before .before .before .before .before .before .before .before .before .before .before .before .before .before .before .before in
     let l = d .loop in
     let q = c .before .before .before .before .before .before .before .before .before .before .before .before .before .before .before .before .before .before .before .before .before .before .before .before .before .before .before .before .before .before .before .before .before .before .before .before .before .before .put-rules-near in
-    let t : ModelTables = tables (a .h-words .now) (a .h-coeffs .now) (a .jumps .now) (a .rates .now) (a .t-words .now) (a .t-numbers .now) in
+    let t : ModelTables = modelTables (a .h-words .now) (a .h-coeffs .now) (a .jumps .now) (a .rates .now) (a .t-words .now) (a .t-numbers .now) in
     let h = log-room d in
     let o = c .before .before .before .before .before .before .before .before .before .before .before .before .before .before .before .before .before .before .before .before .make-room .ensures .opened _ _ (c .before .before .before .before .before .before .pending .given .1) in
     let k = sums-inside (a .m) t (c .before .before .before .before .before .before .before .before .before .before .before .before .before .before .before .before .before .before .before .before .before .before .before .before .before .before .before .before .before .before .before .before .before .before .before .before .before .before .before .before .before .before .word-at .result) (a .sum-room) (l .work-words) (l .work-sums) _ _ _ (q .ensures) _ (c .before .before .before .before .before .before .before .before .before .before .before .before .before .before .before .before .before .before .before .before .before .before .before .before .before .before .before .before .before .before .added .given .1) (q .kept .0) (q .kept .1 .0) (omega (arith, s .pre .1 .1 .0 .work-words, l .inv .3)) (omega (arith, s .pre .1 .1 .0 .work-sums, l .inv .4)) in
@@ -223,7 +225,7 @@ loop-again c =
     let r = c .before .before .before .before .before .before .before .before .before .before .before .before .before .before .before .before .before .before .before .before .before .before .before .before .before .make-room in
     let g = c .before .before .before .before .log-terms in
     let e = c .before .before .before .before .before .before .before .before .before .before .before .before .before .before .before .before .before .before .before .before .before .before .before .before .before .before .before .before .before .before .before .before .before .before .before .added .given .1 in
-    let t : ModelTables = tables (a .h-words .now) (a .h-coeffs .now) (a .jumps .now) (a .rates .now) (a .t-words .now) (a .t-numbers .now) in
+    let t : ModelTables = modelTables (a .h-words .now) (a .h-coeffs .now) (a .jumps .now) (a .rates .now) (a .t-words .now) (a .t-numbers .now) in
     let p : ℕ = getD (a .positions .now) (l .i) 0 in
     let o = r .ensures .opened _ _ (c .before .before .before .before .before .before .before .before .before .before .before .pending .given .1) in
     let fits : (touchedAt (a .m) t (wordsIn (a .basis .now)) (a .coeffs .now) (wordsIn (a .protected .now))) p ≤ a .sum-room = rw (w .ensures) at (sums-held (a .m) t (w .result) (a .sum-room) (l .work-words) (l .work-sums) _ _ _ (q .ensures) _ e .1) in
@@ -283,7 +285,7 @@ returns-3 : tie.Need-returns-3 Inv-loop μ-loop
 returns-3 c =
     let a = c .before .before .before .before .before .before .before .before .before .before .before .before .before .before .before .before .before .before .before .before .before .before .before .before .before .before .before .before .before .before .before .before .before .before .before .before .before .before .before .before .before .before .before .before .before .before .before .before .before .before .before .before .before .before .before .before .args in
     let l = c .before .before .before .before .before .before .before .before .before .before .before .before .before .before .before .before .before .before .before .before .before .before .before .loop in
-    let t : ModelTables = tables (a .h-words .now) (a .h-coeffs .now) (a .jumps .now) (a .rates .now) (a .t-words .now) (a .t-numbers .now) in
+    let t : ModelTables = modelTables (a .h-words .now) (a .h-coeffs .now) (a .jumps .now) (a .rates .now) (a .t-words .now) (a .t-numbers .now) in
     rw (c .held-after .ensures) (passing-end (touchedAt (a .m) t (wordsIn (a .basis .now)) (a .coeffs .now) (wordsIn (a .protected .now))) (leaksAt (a .m) t (wordsIn (a .basis .now)) (a .coeffs .now) (wordsIn (a .protected .now))) (a .sum-room) (a .room) (a .positions .now) _ (l .i) (l .held) (l .count) (l .log-words) (l .log-values) (l .words) (l .sums) (l .inv .0) (c .before .before .before .before .before .before .before .before .before .before .before .before .before .flush2 .last .0) (c .before .before .before .before .before .before .before .before .before .before .before .before .before .flush2 .last .1 .0) (c .before .before .before .before .before .before .before .before .before .before .before .before .before .flush2 .result) (omega (arith, c .before .before .before .before .before .before .before .before .before .before .before .before .before .before .before .before .before .before .before .before .before .before .loop-test .left)) (c .before .before .before .before .before .before .before .before .before .before .before .before .before .flush2 .ensures))
 
 pub take-pass-spec : {M : Type 1} → statement M

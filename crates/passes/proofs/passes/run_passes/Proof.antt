@@ -10,7 +10,7 @@ use lib.ListN.{length, drop}
 use Rattle.word.specs.Flat.{words as wordsIn}
 use Rattle.order.proofs.Members.{all-take, all-drop}
 use Rattle.candidates.specs.Log.{candidateRows}
-use Rattle.model.specs.Stored.{tables}
+use Rattle.model.specs.Between.{modelTables}
 use Rattle.passes.specs.Leaks.{passes, passCount, touchedAt, leaksAt}
 use Rattle.passes.proofs.PassesLaws.{ready-still, action-room-still, holding-still, rest, rest-start, pass-refused, end-refused, end-held, passes-end}
 use borrow.Author.Needs.{needs}
@@ -19,8 +19,8 @@ use Rattle.passes.proofs.passes.run_passes.Tie as tie
 
 abbrev Inv-loop : tie.InvT-loop
 Inv-loop m h-words h-coeffs jumps rates t-words t-numbers h-index j-index mask₀ work-words₀ work-sums₀ sum-room basis coeffs heads nexts protected fixed-heads fixed-nexts positions log-words₀ log-values₀ words₀ sums₀ candidate-room room order₀ work₀ kept₀ next-words₀ next-sums₀ held₀ from₀ mask work-words work-sums log-words log-values words sums order work kept next-words next-sums held from =
-    (rest (touchedAt m (tables h-words h-coeffs jumps rates t-words t-numbers) (wordsIn basis) coeffs (wordsIn protected)) (leaksAt m (tables h-words h-coeffs jumps rates t-words t-numbers) (wordsIn basis) coeffs (wordsIn protected)) sum-room candidate-room room positions from (candidateRows held words sums)
-    ≡ passes (touchedAt m (tables h-words h-coeffs jumps rates t-words t-numbers) (wordsIn basis) coeffs (wordsIn protected)) (leaksAt m (tables h-words h-coeffs jumps rates t-words t-numbers) (wordsIn basis) coeffs (wordsIn protected)) sum-room candidate-room room (passCount (length positions)) positions [])
+    (rest (touchedAt m (modelTables h-words h-coeffs jumps rates t-words t-numbers) (wordsIn basis) coeffs (wordsIn protected)) (leaksAt m (modelTables h-words h-coeffs jumps rates t-words t-numbers) (wordsIn basis) coeffs (wordsIn protected)) sum-room candidate-room room positions from (candidateRows held words sums)
+    ≡ passes (touchedAt m (modelTables h-words h-coeffs jumps rates t-words t-numbers) (wordsIn basis) coeffs (wordsIn protected)) (leaksAt m (modelTables h-words h-coeffs jumps rates t-words t-numbers) (wordsIn basis) coeffs (wordsIn protected)) sum-room candidate-room room (passCount (length positions)) positions [])
     × (held ≤ candidate-room)
     × (length mask ≡ length mask₀)
     × (length work-words ≡ length work-words₀)
@@ -56,7 +56,7 @@ abbrev end-of-stop : tie.After-enum-told2 Inv-loop μ-loop → tie.After-end-pas
 end-of-stop c = c .before .before .before .before .before .before .before .before .before .before .before .before
 
 loop-holds : tie.Need-loop-holds Inv-loop μ-loop
-loop-holds c = let a = c .before .before .before .before .before .before .before .before .before .before .before .before .before .before .before .before .before .before .before .before .before .before .before .before .before .before .before .before .args in (rest-start (touchedAt (a .m) (tables (a .h-words .now) (a .h-coeffs .now) (a .jumps .now) (a .rates .now) (a .t-words .now) (a .t-numbers .now)) (wordsIn (a .basis .now)) (a .coeffs .now) (wordsIn (a .protected .now))) (leaksAt (a .m) (tables (a .h-words .now) (a .h-coeffs .now) (a .jumps .now) (a .rates .now) (a .t-words .now) (a .t-numbers .now)) (wordsIn (a .basis .now)) (a .coeffs .now) (wordsIn (a .protected .now))) (a .sum-room) (a .candidate-room) (a .room) (a .positions .now), omega arith, refl, refl, refl, refl, refl, refl, refl, refl, refl, refl, refl, refl)
+loop-holds c = let a = c .before .before .before .before .before .before .before .before .before .before .before .before .before .before .before .before .before .before .before .before .before .before .before .before .before .before .before .before .args in (rest-start (touchedAt (a .m) (modelTables (a .h-words .now) (a .h-coeffs .now) (a .jumps .now) (a .rates .now) (a .t-words .now) (a .t-numbers .now)) (wordsIn (a .basis .now)) (a .coeffs .now) (wordsIn (a .protected .now))) (leaksAt (a .m) (modelTables (a .h-words .now) (a .h-coeffs .now) (a .jumps .now) (a .rates .now) (a .t-words .now) (a .t-numbers .now)) (wordsIn (a .basis .now)) (a .coeffs .now) (wordsIn (a .protected .now))) (a .sum-room) (a .candidate-room) (a .room) (a .positions .now), omega arith, refl, refl, refl, refl, refl, refl, refl, refl, refl, refl, refl, refl)
 
 add-smaller : tie.Need-add-smaller Inv-loop μ-loop
 add-smaller c = search (c .before .before .before .before .before .before .before .before .before .before .before .before .before .before .before .before .before .before .before .before .before .before .before .before .before .before .before .before .before .before .good .1 .1 .1 .1 .1 .1 .1 .1 .1 .1 .1 .1 .1 .1 .1 .1 .1 .1 .1 .1 .0, c .loop-test .taken, needs)
@@ -77,7 +77,7 @@ take-pass-requires c κs =
     let l = c .before .before .before .before .before .before .before .before .before .before .before .before .before .before .loop in
     let i = l .inv in
     let w : 0 < length (a .positions .now) = omega (arith, c .before .before .before .before .before .before .before .before .before .before .before .before .before .loop-test .taken) in (
-      ready-still (a .m) (tables (a .h-words .now) (a .h-coeffs .now) (a .jumps .now) (a .rates .now) (a .t-words .now) (a .t-numbers .now)) (a .h-index .now) (a .j-index .now) (a .mask .now) (l .mask) (s .pre .0 w) (i .2),
+      ready-still (a .m) (modelTables (a .h-words .now) (a .h-coeffs .now) (a .jumps .now) (a .rates .now) (a .t-words .now) (a .t-numbers .now)) (a .h-index .now) (a .j-index .now) (a .mask .now) (l .mask) (s .pre .0 w) (i .2),
       (
         (s .pre .1 .0 w .0, all-take (λ x. x < length (a .coeffs .now)) (c .before .before .before .before .before .before .before .before .before .before .before .before .smaller .result - l .from) (drop (l .from) (a .positions .now)) (all-drop (λ x. x < length (a .coeffs .now)) (l .from) (a .positions .now) (s .pre .1 .0 w .1))),
         (
@@ -95,7 +95,7 @@ returns c =
     let p = pass-of-stop c in
     let l = loop-of p .loop in
     let a = start-of (loop-of p) .args in
-    pass-refused (touchedAt (a .m) (tables (a .h-words .now) (a .h-coeffs .now) (a .jumps .now) (a .rates .now) (a .t-words .now) (a .t-numbers .now)) (wordsIn (a .basis .now)) (a .coeffs .now) (wordsIn (a .protected .now))) (leaksAt (a .m) (tables (a .h-words .now) (a .h-coeffs .now) (a .jumps .now) (a .rates .now) (a .t-words .now) (a .t-numbers .now)) (wordsIn (a .basis .now)) (a .coeffs .now) (wordsIn (a .protected .now))) (a .sum-room) (a .candidate-room) (a .room) (a .positions .now) _ (l .from) _ _ (l .inv .0) (p .before .before .before .before .before .before .before .before .before .before .before .before .before .smaller .ensures) (p .before .before .before .before .before .before .before .before .before .before .before .before .before .before .loop-test .taken) _ _ _ (p .take-pass .ensures) _ (c .enum-told .given .1)
+    pass-refused (touchedAt (a .m) (modelTables (a .h-words .now) (a .h-coeffs .now) (a .jumps .now) (a .rates .now) (a .t-words .now) (a .t-numbers .now)) (wordsIn (a .basis .now)) (a .coeffs .now) (wordsIn (a .protected .now))) (leaksAt (a .m) (modelTables (a .h-words .now) (a .h-coeffs .now) (a .jumps .now) (a .rates .now) (a .t-words .now) (a .t-numbers .now)) (wordsIn (a .basis .now)) (a .coeffs .now) (wordsIn (a .protected .now))) (a .sum-room) (a .candidate-room) (a .room) (a .positions .now) _ (l .from) _ _ (l .inv .0) (p .before .before .before .before .before .before .before .before .before .before .before .before .before .smaller .ensures) (p .before .before .before .before .before .before .before .before .before .before .before .before .before .before .loop-test .taken) _ _ _ (p .take-pass .ensures) _ (c .enum-told .given .1)
 
 end-pass-requires : tie.Need-end-pass-requires Inv-loop μ-loop
 end-pass-requires c κs =
@@ -116,7 +116,7 @@ returns-2 c =
     let p = pass-of e in
     let l = loop-of p .loop in
     let a = start-of (loop-of p) .args in
-    end-refused (touchedAt (a .m) (tables (a .h-words .now) (a .h-coeffs .now) (a .jumps .now) (a .rates .now) (a .t-words .now) (a .t-numbers .now)) (wordsIn (a .basis .now)) (a .coeffs .now) (wordsIn (a .protected .now))) (leaksAt (a .m) (tables (a .h-words .now) (a .h-coeffs .now) (a .jumps .now) (a .rates .now) (a .t-words .now) (a .t-numbers .now)) (wordsIn (a .basis .now)) (a .coeffs .now) (wordsIn (a .protected .now))) (a .sum-room) (a .candidate-room) (a .room) (a .positions .now) _ (l .from) _ _ (l .inv .0) (p .before .before .before .before .before .before .before .before .before .before .before .before .before .smaller .ensures) (p .before .before .before .before .before .before .before .before .before .before .before .before .before .before .loop-test .taken) _ _ _ (p .take-pass .ensures) _ (e .before .before .before .before .before .before .before .taken .given .1) _ _ _ (e .end-pass .ensures) _ (c .enum-told2 .given .1)
+    end-refused (touchedAt (a .m) (modelTables (a .h-words .now) (a .h-coeffs .now) (a .jumps .now) (a .rates .now) (a .t-words .now) (a .t-numbers .now)) (wordsIn (a .basis .now)) (a .coeffs .now) (wordsIn (a .protected .now))) (leaksAt (a .m) (modelTables (a .h-words .now) (a .h-coeffs .now) (a .jumps .now) (a .rates .now) (a .t-words .now) (a .t-numbers .now)) (wordsIn (a .basis .now)) (a .coeffs .now) (wordsIn (a .protected .now))) (a .sum-room) (a .candidate-room) (a .room) (a .positions .now) _ (l .from) _ _ (l .inv .0) (p .before .before .before .before .before .before .before .before .before .before .before .before .before .smaller .ensures) (p .before .before .before .before .before .before .before .before .before .before .before .before .before .before .loop-test .taken) _ _ _ (p .take-pass .ensures) _ (e .before .before .before .before .before .before .before .taken .given .1) _ _ _ (e .end-pass .ensures) _ (c .enum-told2 .given .1)
 
 loop-less : tie.Need-loop-less Inv-loop μ-loop
 loop-less c = let p = pass-of (c .before .before .before .before .before .before .before .before .before .before .before .before .before) in omega (arith, p .before .before .before .before .before .before .before .before .before .before .before .before .before .smaller .ensures, p .before .before .before .before .before .before .before .before .before .before .before .before .before .before .loop-test .taken)
@@ -127,7 +127,7 @@ loop-again c =
     let p = pass-of e in
     let l = loop-of p .loop in
     let a = start-of (loop-of p) .args in
-    let q = end-held (touchedAt (a .m) (tables (a .h-words .now) (a .h-coeffs .now) (a .jumps .now) (a .rates .now) (a .t-words .now) (a .t-numbers .now)) (wordsIn (a .basis .now)) (a .coeffs .now) (wordsIn (a .protected .now))) (leaksAt (a .m) (tables (a .h-words .now) (a .h-coeffs .now) (a .jumps .now) (a .rates .now) (a .t-words .now) (a .t-numbers .now)) (wordsIn (a .basis .now)) (a .coeffs .now) (wordsIn (a .protected .now))) (a .sum-room) (a .candidate-room) (a .room) (a .positions .now) _ (l .from) _ _ (l .inv .0) (p .before .before .before .before .before .before .before .before .before .before .before .before .before .smaller .ensures) (p .before .before .before .before .before .before .before .before .before .before .before .before .before .before .loop-test .taken) _ _ _ (p .take-pass .ensures) _ (e .before .before .before .before .before .before .before .taken .given .1) _ _ _ (e .end-pass .ensures) _ (c .before .ended .given .1) in (
+    let q = end-held (touchedAt (a .m) (modelTables (a .h-words .now) (a .h-coeffs .now) (a .jumps .now) (a .rates .now) (a .t-words .now) (a .t-numbers .now)) (wordsIn (a .basis .now)) (a .coeffs .now) (wordsIn (a .protected .now))) (leaksAt (a .m) (modelTables (a .h-words .now) (a .h-coeffs .now) (a .jumps .now) (a .rates .now) (a .t-words .now) (a .t-numbers .now)) (wordsIn (a .basis .now)) (a .coeffs .now) (wordsIn (a .protected .now))) (a .sum-room) (a .candidate-room) (a .room) (a .positions .now) _ (l .from) _ _ (l .inv .0) (p .before .before .before .before .before .before .before .before .before .before .before .before .before .smaller .ensures) (p .before .before .before .before .before .before .before .before .before .before .before .before .before .before .loop-test .taken) _ _ _ (p .take-pass .ensures) _ (e .before .before .before .before .before .before .before .taken .given .1) _ _ _ (e .end-pass .ensures) _ (c .before .ended .given .1) in (
       q .0,
       q .1,
       p .take-pass .kept .1 .1 .1 .1 .1 .1 .1 .1 .1 .0 ∙ l .inv .2,
@@ -148,7 +148,7 @@ returns-3 : tie.Need-returns-3 Inv-loop μ-loop
 returns-3 c =
     let l = c .before .loop in
     let a = start-of (c .before) .args in
-    passes-end (touchedAt (a .m) (tables (a .h-words .now) (a .h-coeffs .now) (a .jumps .now) (a .rates .now) (a .t-words .now) (a .t-numbers .now)) (wordsIn (a .basis .now)) (a .coeffs .now) (wordsIn (a .protected .now))) (leaksAt (a .m) (tables (a .h-words .now) (a .h-coeffs .now) (a .jumps .now) (a .rates .now) (a .t-words .now) (a .t-numbers .now)) (wordsIn (a .basis .now)) (a .coeffs .now) (wordsIn (a .protected .now))) (a .sum-room) (a .candidate-room) (a .room) (a .positions .now) _ (l .from) (l .held) (l .words) (l .sums) (l .inv .0) (c .loop-test .left) (l .inv .1)
+    passes-end (touchedAt (a .m) (modelTables (a .h-words .now) (a .h-coeffs .now) (a .jumps .now) (a .rates .now) (a .t-words .now) (a .t-numbers .now)) (wordsIn (a .basis .now)) (a .coeffs .now) (wordsIn (a .protected .now))) (leaksAt (a .m) (modelTables (a .h-words .now) (a .h-coeffs .now) (a .jumps .now) (a .rates .now) (a .t-words .now) (a .t-numbers .now)) (wordsIn (a .basis .now)) (a .coeffs .now) (wordsIn (a .protected .now))) (a .sum-room) (a .candidate-room) (a .room) (a .positions .now) _ (l .from) (l .held) (l .words) (l .sums) (l .inv .0) (c .loop-test .left) (l .inv .1)
 
 pub run-passes-spec : {M : Type 1} → statement M
 run-passes-spec =

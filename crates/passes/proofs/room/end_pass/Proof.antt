@@ -3,7 +3,7 @@
 
 -- `room::end_pass` meets its contract. Assumes nothing.
 use mathlib.Core.Path.{sym, ap, _∙_}
-use Rattle.model.specs.Given.{got}
+use Rattle.lent.specs.Read.{got}
 use Rattle.passes.proofs.TookLaws.{took-held, took-refused}
 use Rattle.passes.proofs.RoomLaws.{ended-bad, ended-fine, sums-finite}
 use borrow.Author.Needs.{needs}

@@ -6,6 +6,7 @@ use mathlib.Core.Path.{sym, _∙_}
 use Prim.Native.Nat.{_*_}
 use native.Mathlib.Omega.{arith}
 use lib.Seq.{length-take-le}
+use Rattle.word.specs.Flat.{wordLanes}
 use Rattle.passes.proofs.RoomLaws.{kept-all, kept-none, kept-some}
 use borrow.Author.Needs.{needs}
 use Rattle.passes.proofs.room.keep_largest.Statement.{statement}
@@ -48,7 +49,7 @@ retain-largest-requires : tie.Need-retain-largest-requires
 retain-largest-requires c κs =
     let s = c .before .before .before .before .before .before .before .before .before .before .before .before in
     let l = length-take-le _ (s .args .sums .now) (s .pre .0 .sums-long) in
-    let w = length-take-le (s .args .n * 4) (s .args .words .now) (omega (arith, s .pre .0 .lanes-long)) in (
+    let w = length-take-le (s .args .n * wordLanes) (s .args .words .now) (omega (arith, s .pre .0 .lanes-long)) in (
       omega (arith, l, w),
       length-take-le _ (s .args .order .now) (s .pre .1) ∙ sym l,
       length-take-le _ (s .args .work .now) (s .pre .2) ∙ sym l,

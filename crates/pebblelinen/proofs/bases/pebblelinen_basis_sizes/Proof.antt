@@ -10,7 +10,7 @@ use Rattle.pebblelinen.proofs.bases.pebblelinen_basis_sizes.Tie as tie
 
 returns : tie.Need-returns
 unfolding basisSizes
-returns c = rw (← (c .before .before .larger-count .ensures), ← (c .before .where-any .ensures), ← (c .larger-count2 .ensures)) refl
+returns c = rw (← (c .before .before .larger .ensures), ← (c .before .where-any .ensures), ← (c .larger2 .ensures)) refl
 
 pub pebblelinen-basis-sizes-spec : {M : Type 1} → statement M
 pebblelinen-basis-sizes-spec = tie.close (tie.spec (λ c κs. search needs) (λ c κs. search needs) (λ c κs. search needs) returns)

@@ -6,7 +6,7 @@ use mathlib.Core.Path.{refl}
 use Prim.Native.Nat.{_+_, _*_}
 use native.Mathlib.Omega.{arith}
 use borrow.Author.Needs.{needs}
-use Rattle.model.proofs.NeedLaws.{need-most}
+use Rattle.lent.proofs.NeedLaws.{need-most}
 use Rattle.pebblelinen.specs.Models.{matrixSizes}
 use Rattle.pebblelinen.proofs.Places.{MatrixPlaces, matrix-places}
 use Rattle.pebblelinen.proofs.models.pebblelinen_matrix_sizes.Statement.{statement}

@@ -5,8 +5,8 @@
 use mathlib.Core.Path.{refl}
 use native.Mathlib.Omega.{arith}
 use borrow.Author.Needs.{needs}
-use Rattle.model.specs.Built.{workPlaces}
-use Rattle.model.proofs.NeedLaws.{need-most}
+use Rattle.model_build.specs.Built.{workPlaces}
+use Rattle.lent.proofs.NeedLaws.{need-most}
 use Rattle.pebblelinen.specs.Models.{modelSizes}
 use Rattle.pebblelinen.proofs.Places.{ModelPlaces, model-places}
 use Rattle.pebblelinen.proofs.models.pebblelinen_model_sizes.Statement.{statement}

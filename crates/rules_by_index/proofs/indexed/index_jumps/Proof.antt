@@ -10,7 +10,7 @@ use lib.ListN.{length}
 use Rattle.index.specs.Index.{Indexed}
 use Rattle.model.specs.Stored.{jumpAt}
 use Rattle.model.specs.Tested.{badJump}
-use Rattle.rules_by_scan.specs.Adds.{upTo}
+use Rattle.word.specs.Count.{upTo}
 use Rattle.rules_by_index.specs.Near.{jumpWords}
 use Rattle.rules_by_index.proofs.IndexLaws.{items-start, items-marked, items-done}
 use borrow.Author.Needs.{needs}

@@ -5,7 +5,7 @@
 -- Assumes nothing.
 use mathlib.Core.List.{[]}
 use native.Mathlib.Omega.{arith}
-use Rattle.model.specs.Stored.{tables}
+use Rattle.model.specs.Between.{modelTables}
 use Rattle.rules_by_index.proofs.IndexLaws.{model-indexed}
 use borrow.Author.Needs.{needs}
 use Rattle.rules_by_index.proofs.indexed.index_model.Statement.{statement}
@@ -23,7 +23,7 @@ index-jumps-requires c κs = let s = c .before .before .before .before .before .
 returns-2 : tie.Need-returns-2
 returns-2 c = λ w t eh ej er ew.
     let a = c .before .before .before .before .before .before .before .before .before .before .before .before .before .before .before .args in
-    model-indexed (a .m) t (tables (a .h-words .now) [] (a .jumps .now) (a .rates .now) (a .t-words .now) []) _ _ eh ej er ew
+    model-indexed (a .m) t (modelTables (a .h-words .now) [] (a .jumps .now) (a .rates .now) (a .t-words .now) []) _ _ eh ej er ew
     (record { reals = c .before .before .before .before .before .before .index-reals .ensures; jumps = c .before .before .index-jumps .ensures })
 
 pub index-model-spec : {M : Type 1} → statement M

@@ -11,7 +11,7 @@ use Rattle.word.specs.Word.{identity}
 use Rattle.word.specs.Flat.{words}
 use Rattle.word.specs.declared.word.Word.{Word}
 use Rattle.index.specs.Index.{Indexed}
-use Rattle.rules_by_scan.specs.Adds.{upTo}
+use Rattle.word.specs.Count.{upTo}
 use Rattle.rules_by_index.proofs.IndexLaws.{items-start, items-marked, items-done}
 use borrow.Author.Needs.{needs}
 use Rattle.rules_by_index.proofs.indexed.index_reals.Statement.{statement}

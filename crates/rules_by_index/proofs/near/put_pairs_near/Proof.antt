@@ -9,8 +9,8 @@ use lib.ListN.{length}
 use Rattle.index.specs.Visit.{flagged, left}
 use Rattle.model.specs.Stored.{jumpAt}
 use Rattle.model.specs.Tested.{badJump}
-use Rattle.rules_by_scan.specs.Adds.{pairAdds}
-use Rattle.rules_by_scan.proofs.PutsLaws.{puts-same}
+use Rattle.rule_terms.specs.Adds.{pairAdds}
+use Rattle.rule_terms.proofs.PutsLaws.{puts-same}
 use Rattle.rules_by_scan.proofs.ItemLaws.{ofTerms, jumps-each}
 use Rattle.rules_by_scan.proofs.PairItems.{pair-same}
 use Rattle.rules_by_index.proofs.VisitLaws.{VisitState, visit-start, visit-room, visit-done, visit-below, visit-less, visit-next, visit-full}

@@ -7,7 +7,7 @@ use Prim.Native.Nat.{_<_}
 use native.Mathlib.Omega.{arith}
 use lib.ListN.{length}
 use Rattle.index.specs.Visit.{flagged, left}
-use Rattle.rules_by_scan.proofs.PutsLaws.{puts-same}
+use Rattle.rule_terms.proofs.PutsLaws.{puts-same}
 use Rattle.rules_by_scan.proofs.ItemLaws.{realAdds, real-word, reals-each}
 use Rattle.rules_by_index.proofs.VisitLaws.{VisitState, visit-start, visit-room, visit-done, visit-below, visit-less, visit-next, visit-full}
 use borrow.Author.Needs.{needs}

@@ -4,19 +4,20 @@
 -- `near::put_rules_near` meets its contract: the terms, the jumps, the pairs that share a qubit with p, or that one of them finds no room. Assumes nothing.
 use mathlib.Core.Path.{refl, _∙_}
 use native.Mathlib.Omega.{arith}
-use Rattle.model.specs.Stored.{ModelTables, tables}
-use Rattle.model_laws.proofs.StandsLaws.{tested-stands}
+use Rattle.model.specs.Stored.{ModelTables}
+use Rattle.model.proofs.StandsLaws.{tested-stands}
 use Rattle.rules_by_scan.proofs.RuleLaws.{reals-full, reals-room, jumps-full, jumps-room, pairs-puts}
 use Rattle.rules_by_index.proofs.NearLaws.{reals-below, near-reals, jumps-below, near-jumps, near-pairs}
 use borrow.Author.Needs.{needs}
 use Rattle.rules_by_index.proofs.near.put_rules_near.Statement.{statement}
 use Rattle.rules_by_index.proofs.near.put_rules_near.Tie as tie
+use Rattle.model.specs.Between.{modelTables}
 
 put-reals-near-requires : tie.Need-put-reals-near-requires
 put-reals-near-requires c κs =
     let s = c .before .before .before .before .before .before .before .before .before .before .before .before .before .before .before .before .before .before in
     let a = s .args in
-    let t : ModelTables = tables (a .h-words .now) (a .h-coeffs .now) (a .jumps .now) (a .rates .now) (a .t-words .now) (a .t-numbers .now) in
+    let t : ModelTables = modelTables (a .h-words .now) (a .h-coeffs .now) (a .jumps .now) (a .rates .now) (a .t-words .now) (a .t-numbers .now) in
     let k = tested-stands (a .m) t (s .pre .1) in (
       s .pre .0,
       k .h-words-room,
@@ -29,7 +30,7 @@ returns : tie.Need-returns
 returns c =
     let s = c .before .before .before .before .before .before .before .before .before .before .before .before .before .before .before .before .before .before .before .before .before .before .before .before .before in
     let a = s .args in
-    let t : ModelTables = tables (a .h-words .now) (a .h-coeffs .now) (a .jumps .now) (a .rates .now) (a .t-words .now) (a .t-numbers .now) in
+    let t : ModelTables = modelTables (a .h-words .now) (a .h-coeffs .now) (a .jumps .now) (a .rates .now) (a .t-words .now) (a .t-numbers .now) in
     let k = tested-stands (a .m) t (s .pre .1) in
     reals-full (a .m) t (a .p) (a .room) (a .lanes .now) (a .sums .now) (s .pre .0) _ _ _ (near-reals (a .m) t (a .p) (a .h-index .now) (a .j-index .now) k (s .pre .2) (s .pre .6) _ (c .before .before .before .before .before .before .before .before .before .before .before .before .union-rows .ensures) (c .before .before .before .before .before .before .put-reals-near .ensures t refl refl)) (c .enum-told .given .1)
 
@@ -40,7 +41,7 @@ put-jumps-near-requires : tie.Need-put-jumps-near-requires
 put-jumps-near-requires c κs =
     let s = c .before .before .before .before .before .before .before .before .before .before .before .before .before .before .before .before .before .before .before .before .before .before .before .before .before .before .before .before .before .before .before .before .before in
     let a = s .args in
-    let t : ModelTables = tables (a .h-words .now) (a .h-coeffs .now) (a .jumps .now) (a .rates .now) (a .t-words .now) (a .t-numbers .now) in
+    let t : ModelTables = modelTables (a .h-words .now) (a .h-coeffs .now) (a .jumps .now) (a .rates .now) (a .t-words .now) (a .t-numbers .now) in
     let k = tested-stands (a .m) t (s .pre .1) in (
       reals-room (a .m) t (a .p) (a .room) (a .lanes .now) (a .sums .now) (s .pre .0) _ _ _ (near-reals (a .m) t (a .p) (a .h-index .now) (a .j-index .now) k (s .pre .2) (s .pre .6) _ (c .before .before .before .before .before .before .before .before .before .before .before .before .before .before .before .before .before .before .before .before .union-rows .ensures) (c .before .before .before .before .before .before .before .before .before .before .before .before .before .before .put-reals-near .ensures t refl refl))
           _ (c .before .before .before .before .before .before .before .before .first .given .1) (c .before .before .before .before .before .before .before .before .before .before .before .before .before .before .put-reals-near .kept .0) (c .before .before .before .before .before .before .before .before .before .before .before .before .before .before .put-reals-near .kept .1 .0),
@@ -57,7 +58,7 @@ returns-2 : tie.Need-returns-2
 returns-2 c =
     let s = c .before .before .before .before .before .before .before .before .before .before .before .before .before .before .before .before .before .before .before .before .before .before .before .before .before .before .before .before .before .before .before .before .before .before .before .before .before .before .before .before in
     let a = s .args in
-    let t : ModelTables = tables (a .h-words .now) (a .h-coeffs .now) (a .jumps .now) (a .rates .now) (a .t-words .now) (a .t-numbers .now) in
+    let t : ModelTables = modelTables (a .h-words .now) (a .h-coeffs .now) (a .jumps .now) (a .rates .now) (a .t-words .now) (a .t-numbers .now) in
     let k = tested-stands (a .m) t (s .pre .1) in
     jumps-full (a .m) t (a .p) (a .room) (a .lanes .now) (a .sums .now) (s .pre .0) _ _ _ (near-reals (a .m) t (a .p) (a .h-index .now) (a .j-index .now) k (s .pre .2) (s .pre .6) _ (c .before .before .before .before .before .before .before .before .before .before .before .before .before .before .before .before .before .before .before .before .before .before .before .before .before .before .before .union-rows .ensures) (c .before .before .before .before .before .before .before .before .before .before .before .before .before .before .before .before .before .before .before .before .before .put-reals-near .ensures t refl refl))
     _ (c .before .before .before .before .before .before .before .before .before .before .before .before .before .before .before .first .given .1) (c .before .before .before .before .before .before .before .before .before .before .before .before .before .before .before .before .before .before .before .before .before .put-reals-near .kept .0) (c .before .before .before .before .before .before .before .before .before .before .before .before .before .before .before .before .before .before .before .before .before .put-reals-near .kept .1 .0)
@@ -67,7 +68,7 @@ put-pairs-near-requires : tie.Need-put-pairs-near-requires
 put-pairs-near-requires c κs =
     let s = c .before .before .before .before .before .before .before .before .before .before .before .before .before .before .before .before .before .before .before .before .before .before .before .before .before .before .before .before .before .before .before .before .before .before .before .before .before .before .before .before .before .before .before .before in
     let a = s .args in
-    let t : ModelTables = tables (a .h-words .now) (a .h-coeffs .now) (a .jumps .now) (a .rates .now) (a .t-words .now) (a .t-numbers .now) in
+    let t : ModelTables = modelTables (a .h-words .now) (a .h-coeffs .now) (a .jumps .now) (a .rates .now) (a .t-words .now) (a .t-numbers .now) in
     let k = tested-stands (a .m) t (s .pre .1) in (
       jumps-room (a .m) t (a .p) (a .room) (a .lanes .now) (a .sums .now) (s .pre .0) _ _ _ (near-reals (a .m) t (a .p) (a .h-index .now) (a .j-index .now) k (s .pre .2) (s .pre .6) _ (c .before .before .before .before .before .before .before .before .before .before .before .before .before .before .before .before .before .before .before .before .before .before .before .before .before .before .before .before .before .before .before .union-rows .ensures) (c .before .before .before .before .before .before .before .before .before .before .before .before .before .before .before .before .before .before .before .before .before .before .before .before .before .put-reals-near .ensures t refl refl))
           _ (c .before .before .before .before .before .before .before .before .before .before .before .before .before .before .before .before .before .before .before .first .given .1) (c .before .before .before .before .before .before .before .before .before .before .before .before .before .before .before .before .before .before .before .before .before .before .before .before .before .put-reals-near .kept .0) (c .before .before .before .before .before .before .before .before .before .before .before .before .before .before .before .before .before .before .before .before .before .before .before .before .before .put-reals-near .kept .1 .0)
@@ -95,7 +96,7 @@ returns-3 : tie.Need-returns-3
 returns-3 c =
     let s = c .before .before .before .before .before .before .before .before .before .before .before .before .before .before .before .before .before .before .before .before .before .before .before .before .before .before .before .before .before .before .before .before .before .before .before .before .before .before .before .before .before .before .before .before .before .before .before .before .before in
     let a = s .args in
-    let t : ModelTables = tables (a .h-words .now) (a .h-coeffs .now) (a .jumps .now) (a .rates .now) (a .t-words .now) (a .t-numbers .now) in
+    let t : ModelTables = modelTables (a .h-words .now) (a .h-coeffs .now) (a .jumps .now) (a .rates .now) (a .t-words .now) (a .t-numbers .now) in
     let k = tested-stands (a .m) t (s .pre .1) in
     pairs-puts (a .m) t (a .p) (a .room) (a .lanes .now) (a .sums .now) (s .pre .0) _ _ _ (near-reals (a .m) t (a .p) (a .h-index .now) (a .j-index .now) k (s .pre .2) (s .pre .6) _ (c .before .before .before .before .before .before .before .before .before .before .before .before .before .before .before .before .before .before .before .before .before .before .before .before .before .before .before .before .before .before .before .before .before .before .before .before .union-rows .ensures) (c .before .before .before .before .before .before .before .before .before .before .before .before .before .before .before .before .before .before .before .before .before .before .before .before .before .before .before .before .before .before .put-reals-near .ensures t refl refl))
     _ (c .before .before .before .before .before .before .before .before .before .before .before .before .before .before .before .before .before .before .before .before .before .before .before .before .first .given .1) (c .before .before .before .before .before .before .before .before .before .before .before .before .before .before .before .before .before .before .before .before .before .before .before .before .before .before .before .before .before .before .put-reals-near .kept .0) (c .before .before .before .before .before .before .before .before .before .before .before .before .before .before .before .before .before .before .before .before .before .before .before .before .before .before .before .before .before .before .put-reals-near .kept .1 .0)

@@ -49,7 +49,7 @@ overlaps-spec =
     μ-loop
     loop-holds
     word-at-requires
-    (λ c κs. search needs)
+    (λ c κs. tt)
     returns
     (λ c. search needs)
     (λ c. search needs)

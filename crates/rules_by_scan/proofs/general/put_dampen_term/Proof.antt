@@ -2,9 +2,9 @@
 -- SPDX-License-Identifier: Apache-2.0
 
 -- `general::put_dampen_term` meets its contract: nothing, or one term. Assumes nothing.
-use Rattle.model.specs.Product.{onto}
+use Rattle.model.specs.Between.{onto}
 use Rattle.rules_by_scan.proofs.GeneralLaws.{dampen-none, dampen-one, dampen-number}
-use Rattle.rules_by_scan.proofs.PutsLaws.{puts-nothing, puts-single}
+use Rattle.rule_terms.proofs.PutsLaws.{puts-nothing, puts-single}
 use borrow.Author.Needs.{needs}
 use Rattle.rules_by_scan.proofs.general.put_dampen_term.Statement.{statement}
 use Rattle.rules_by_scan.proofs.general.put_dampen_term.Tie as tie
@@ -31,15 +31,15 @@ pub put-dampen-term-spec : {M : Type 1} → statement M
 put-dampen-term-spec =
     tie.close
     (tie.spec
-    (λ c κs. search needs)
+    (λ c κs. tt)
     returns
-    (λ c κs. search needs)
-    (λ c κs. search needs)
-    (λ c κs. search needs)
-    (λ c κs. search needs)
-    (λ c κs. search needs)
-    (λ c κs. search needs)
+    (λ c κs. tt)
+    (λ c κs. tt)
+    (λ c κs. tt)
+    (λ c κs. tt)
+    (λ c κs. tt)
+    (λ c κs. tt)
     put-requires
-    (λ c. search needs)
-    (λ c. search needs)
+    (λ c. c .before .before .before .before .put .kept .0)
+    (λ c. c .before .before .before .before .put .kept .1 .0)
     returns-2)

@@ -7,10 +7,9 @@ use mathlib.Core.List.{List, _++_}
 use Rattle.number.specs.Floats.{floats}
 use Rattle.gksl.specs.Rules.{pairsOver, gatherOver}
 use Rattle.gksl.specs.Words.{pauli}
-use Rattle.model.specs.Given.{Term}
-use Rattle.model.specs.Product.{termsOf}
-use Rattle.rules_by_scan.specs.Adds.{sandwich, dampen}
-use Rattle.rules_by_scan.proofs.PutsLaws.{puts-nothing, puts-same, puts-room, puts-full, puts-more}
+use Rattle.model.specs.Terms.{Term, termsOf}
+use Rattle.rule_terms.specs.Adds.{sandwich, dampen}
+use Rattle.rule_terms.proofs.PutsLaws.{puts-nothing, puts-same, puts-room, puts-full, puts-more}
 use Rattle.rules_by_scan.proofs.GeneralLaws.{general-none, general-all}
 use borrow.Author.Needs.{needs}
 use borrow.Author.Tests.{not-true, not-false}
@@ -60,10 +59,10 @@ put-general-spec =
     put-sandwiches-requires
     (λ c. search needs)
     (λ c. search needs)
-    (λ c. search needs)
-    (λ c. search needs)
+    (λ c. c .before .before .before .before .before .before .put-sandwiches .kept .0)
+    (λ c. c .before .before .before .before .before .before .put-sandwiches .kept .1 .0)
     returns-2
     put-dampen-requires
-    (λ c. search needs)
-    (λ c. search needs)
+    (λ c. c .before .before .before .before .put-dampen .kept .0 ∙ c .before .before .before .before .before .before .before .before .before .before .before .before .before .before .put-sandwiches .kept .0)
+    (λ c. c .before .before .before .before .put-dampen .kept .1 .0 ∙ c .before .before .before .before .before .before .before .before .before .before .before .before .before .before .put-sandwiches .kept .1 .0)
     returns-3)

@@ -10,16 +10,17 @@ use mir.Val.{Fits}
 use mir.Syntax.{w64}
 use Rattle.word.specs.declared.algebra.Phased.{Phased}
 use Rattle.word.proofs.WordLaws.{phase-lt}
-use Rattle.model.specs.Product.{onto, termsOf}
+use Rattle.model.specs.Terms.{termsOf}
 use Rattle.model.specs.Stored.{range}
-use Rattle.rules_by_scan.specs.Steps.{sandwichFrom}
-use Rattle.rules_by_scan.proofs.PutsLaws.{puts-one, puts-same}
+use Rattle.rule_terms.specs.Steps.{sandwichFrom}
+use Rattle.rule_terms.proofs.PutsLaws.{puts-one, puts-same}
 use Rattle.rules_by_scan.proofs.GatherLaws.{GatherState, gather-start, gather-room, gather-term, gather-next, gather-full, gather-done, single-term}
 use Rattle.rules_by_scan.proofs.GeneralLaws.{sandwich-row}
 use borrow.Author.Needs.{needs}
 use native.Mathlib.Omega.{arith}
 use Rattle.rules_by_scan.proofs.general.put_sandwich_row.Statement.{statement}
 use Rattle.rules_by_scan.proofs.general.put_sandwich_row.Tie as tie
+use Rattle.model.specs.Between.{onto}
 
 abbrev Inv-loop : tie.InvT-loop
 Inv-loop lanes₀ sums₀ room len words numbers a rate left end count₀ j₀ lanes sums count j = GatherState (λ b. sandwichFrom left rate (onto a) b ∷ []) (range j₀ end) room len words numbers lanes₀ sums₀ lanes sums count j
@@ -96,7 +97,7 @@ put-sandwich-row-spec =
     (tie.spec
     Inv-loop
     μ-loop
-    (λ c κs. search needs)
+    (λ c κs. tt)
     loop-holds
     term-at-requires
     sandwich-term-requires

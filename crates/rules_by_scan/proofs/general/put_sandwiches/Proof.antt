@@ -8,11 +8,10 @@ use Prim.Native.Nat.{_-_}
 use lib.ListN.{length}
 use mir.Val.{Fits}
 use mir.Syntax.{w64}
-use Rattle.model.specs.Given.{Term}
-use Rattle.model.specs.Product.{termsOf}
+use Rattle.model.specs.Terms.{Term, termsOf}
 use Rattle.model.specs.Stored.{range}
-use Rattle.rules_by_scan.specs.Adds.{sandwich}
-use Rattle.rules_by_scan.proofs.PutsLaws.{puts-same}
+use Rattle.rule_terms.specs.Adds.{sandwich}
+use Rattle.rule_terms.proofs.PutsLaws.{puts-same}
 use Rattle.rules_by_scan.proofs.GatherLaws.{GatherState, gather-start, gather-room, gather-term, gather-next, gather-full, gather-done, pairs-gathered}
 use borrow.Author.Needs.{needs}
 use native.Mathlib.Omega.{arith}

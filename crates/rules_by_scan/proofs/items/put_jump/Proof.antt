@@ -4,8 +4,8 @@
 -- `items::put_jump` meets its contract. Assumes nothing.
 use mathlib.Core.Path.{sym, ap, _∙_}
 use Rattle.model.specs.Tested.{badJump}
-use Rattle.rules_by_scan.specs.Adds.{jumpAdds}
-use Rattle.rules_by_scan.proofs.PutsLaws.{puts-nothing, puts-same}
+use Rattle.rule_terms.specs.Adds.{jumpAdds}
+use Rattle.rule_terms.proofs.PutsLaws.{puts-nothing, puts-same}
 use Rattle.rules_by_scan.proofs.ItemLaws.{pauli-room, general-room, pauli-adds, pair-adds}
 use borrow.Author.Needs.{needs}
 use Rattle.rules_by_scan.proofs.items.put_jump.Statement.{statement}
@@ -53,10 +53,10 @@ put-jump-spec =
     (λ c. search needs)
     put-general-requires
     (λ c. search needs)
-    (λ c. search needs)
-    (λ c. search needs)
+    (λ c. c .before .before .before .before .put-pauli .kept .0)
+    (λ c. c .before .before .before .before .put-pauli .kept .1 .0)
     returns
-    (λ c. search needs)
-    (λ c. search needs)
+    (λ c. c .before .before .before .before .put-general .kept .0)
+    (λ c. c .before .before .before .before .put-general .kept .1 .0)
     returns-2
     returns-3)

@@ -7,12 +7,13 @@ use Prim.Native.Nat.{ℕ, _-_}
 use native.Mathlib.Omega.{arith}
 use Rattle.model.specs.Stored.{jumpAt}
 use Rattle.model.specs.Tested.{badJump}
-use Rattle.rules_by_scan.specs.Adds.{upTo, jumpAdds}
-use Rattle.rules_by_scan.proofs.PutsLaws.{puts-same}
+use Rattle.rule_terms.specs.Adds.{jumpAdds}
+use Rattle.rule_terms.proofs.PutsLaws.{puts-same}
 use Rattle.rules_by_scan.proofs.ItemLaws.{EachState, ofTerms, each-start, each-room, each-next, each-full, each-done, jump-same, jumps-each}
 use borrow.Author.Needs.{needs}
 use Rattle.rules_by_scan.proofs.items.put_jumps.Statement.{statement}
 use Rattle.rules_by_scan.proofs.items.put_jumps.Tie as tie
+use Rattle.word.specs.Count.{upTo}
 
 abbrev Inv-loop : tie.InvT-loop
 Inv-loop lanes₀ sums₀ room len count jumps rates t-words t-numbers places p held₀ j₀ lanes sums held j = EachState (λ (k : ℕ). jumpAdds p (ofTerms t-words t-numbers) (jumpAt jumps rates k)) count room len lanes₀ sums₀ lanes sums held j

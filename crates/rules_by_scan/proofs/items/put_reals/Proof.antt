@@ -5,8 +5,8 @@
 use mathlib.Core.Path.{_∙_}
 use Prim.Native.Nat.{_-_}
 use native.Mathlib.Omega.{arith}
-use Rattle.rules_by_scan.specs.Adds.{upTo}
-use Rattle.rules_by_scan.proofs.PutsLaws.{puts-same}
+use Rattle.word.specs.Count.{upTo}
+use Rattle.rule_terms.proofs.PutsLaws.{puts-same}
 use Rattle.rules_by_scan.proofs.ItemLaws.{EachState, realAdds, each-start, each-room, each-next, each-full, each-done, real-word, reals-each}
 use borrow.Author.Needs.{needs}
 use Rattle.rules_by_scan.proofs.items.put_reals.Statement.{statement}

@@ -8,7 +8,7 @@ use lib.ListN.{length}
 use mir.Val.{Fits}
 use mir.Syntax.{w64}
 use Rattle.model.specs.Stored.{range}
-use Rattle.rules_by_scan.specs.Adds.{diagonal}
+use Rattle.rule_terms.specs.Adds.{diagonal}
 use Rattle.rules_by_scan.proofs.GatherLaws.{GatherState, gather-start, gather-room, gather-term, gather-next, gather-full, gather-done}
 use borrow.Author.Needs.{needs}
 use native.Mathlib.Omega.{arith}

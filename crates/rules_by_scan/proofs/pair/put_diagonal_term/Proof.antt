@@ -3,9 +3,9 @@
 
 -- `pair::put_diagonal_term` meets its contract: nothing, or one term. Assumes nothing.
 use mathlib.Core.Path.{refl}
-use Rattle.model.specs.Product.{onto}
+use Rattle.model.specs.Between.{onto}
 use Rattle.rules_by_scan.proofs.PairAdds.{diagonal-none, diagonal-one}
-use Rattle.rules_by_scan.proofs.PutsLaws.{puts-nothing, puts-single}
+use Rattle.rule_terms.proofs.PutsLaws.{puts-nothing, puts-single}
 use borrow.Author.Needs.{needs}
 use Rattle.rules_by_scan.proofs.pair.put_diagonal_term.Statement.{statement}
 use Rattle.rules_by_scan.proofs.pair.put_diagonal_term.Tie as tie
@@ -38,13 +38,13 @@ pub put-diagonal-term-spec : {M : Type 1} → statement M
 put-diagonal-term-spec =
     tie.close
     (tie.spec
-    (λ c κs. search needs)
-    (λ c κs. search needs)
+    (λ c κs. tt)
+    (λ c κs. tt)
     returns
-    (λ c κs. search needs)
-    (λ c κs. search needs)
-    (λ c κs. search needs)
+    (λ c κs. tt)
+    (λ c κs. tt)
+    (λ c κs. tt)
     put-requires
-    (λ c. search needs)
-    (λ c. search needs)
+    (λ c. c .before .before .before .before .put .kept .0)
+    (λ c. c .before .before .before .before .put .kept .1 .0)
     returns-2)

@@ -11,14 +11,15 @@ use mir.Syntax.{w64}
 use Rattle.word.specs.declared.algebra.Phased.{Phased}
 use Rattle.word.proofs.WordLaws.{phase-lt}
 use Rattle.model.specs.Stored.{range}
-use Rattle.model.specs.Product.{onto, termsIn}
+use Rattle.model.specs.Terms.{termsIn}
 use Rattle.rules_by_scan.proofs.GatherLaws.{GatherState, gather-start, gather-room, gather-term, gather-next, gather-full, gather-done}
 use Rattle.rules_by_scan.proofs.PairFactors.{single, single-is, single-row}
-use Rattle.rules_by_scan.proofs.PutsLaws.{puts-one, puts-same}
+use Rattle.rule_terms.proofs.PutsLaws.{puts-one, puts-same}
 use borrow.Author.Needs.{needs}
 use native.Mathlib.Omega.{arith}
 use Rattle.rules_by_scan.proofs.pair.put_factor_row.Statement.{statement}
 use Rattle.rules_by_scan.proofs.pair.put_factor_row.Tie as tie
+use Rattle.model.specs.Between.{onto}
 
 abbrev Inv-loop : tie.InvT-loop
 Inv-loop lanes₀ sums₀ room len t-words t-numbers start end double left count₀ j₀ lanes sums count j = GatherState (single double left) (range start end) room len t-words t-numbers lanes₀ sums₀ lanes sums count j
@@ -117,7 +118,7 @@ put-factor-row-spec =
     (tie.spec
     Inv-loop
     μ-loop
-    (λ c κs. search needs)
+    (λ c κs. tt)
     loop-holds
     term-at-requires
     factor-term-requires

@@ -10,10 +10,9 @@ use lib.ListN.{length}
 use mir.Val.{Fits}
 use mir.Syntax.{w64}
 use Rattle.word.specs.declared.word.Word.{Word}
-use Rattle.model.specs.Given.{Term}
+use Rattle.model.specs.Terms.{Term, termsIn}
 use Rattle.model.specs.Stored.{range}
-use Rattle.model.specs.Product.{termsIn}
-use Rattle.rules_by_scan.specs.Adds.{folded, doubled}
+use Rattle.rule_terms.specs.Adds.{folded, doubled}
 use Rattle.rules_by_scan.proofs.PairFactors.{FactorsState, factors-start, factors-room, factors-term, factors-row, factors-next, factors-full, factors-done}
 use borrow.Author.Needs.{needs}
 use native.Mathlib.Omega.{arith}

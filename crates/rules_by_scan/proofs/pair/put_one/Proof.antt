@@ -11,9 +11,9 @@ use lib.ListN.{length}
 use mir.Val.{Fits}
 use mir.Syntax.{w64}
 use Rattle.word.specs.declared.word.Word.{Word}
-use Rattle.model.specs.Given.{Term}
+use Rattle.model.specs.Terms.{Term}
 use Rattle.model.specs.Stored.{range}
-use Rattle.rules_by_scan.specs.Adds.{oneSide}
+use Rattle.rule_terms.specs.Adds.{oneSide}
 use Rattle.rules_by_scan.proofs.GatherLaws.{GatherState, gather-start, gather-room, gather-term, gather-next, gather-full, gather-done}
 use borrow.Author.Needs.{needs}
 use native.Mathlib.Omega.{arith}

@@ -5,9 +5,9 @@
 use mathlib.Core.Path.{refl, sym, _∙_}
 use mathlib.Core.Bool.{Bool, cond}
 use lib.Ieee.{Float, neg}
-use Rattle.model.specs.Product.{onto}
+use Rattle.model.specs.Between.{onto}
 use Rattle.rules_by_scan.proofs.PairAdds.{one-slight, one-none, one-one}
-use Rattle.rules_by_scan.proofs.PutsLaws.{puts-nothing, puts-single}
+use Rattle.rule_terms.proofs.PutsLaws.{puts-nothing, puts-single}
 use borrow.Author.Needs.{needs}
 use Rattle.rules_by_scan.proofs.pair.put_one_term.Statement.{statement}
 use Rattle.rules_by_scan.proofs.pair.put_one_term.Tie as tie
@@ -47,13 +47,13 @@ pub put-one-term-spec : {M : Type 1} → statement M
 put-one-term-spec =
     tie.close
     (tie.spec
-    (λ c κs. search needs)
+    (λ c κs. tt)
     returns
-    (λ c κs. search needs)
+    (λ c κs. tt)
     returns-2
-    (λ c κs. search needs)
-    (λ c κs. search needs)
+    (λ c κs. tt)
+    (λ c κs. tt)
     put-requires
-    (λ c. search needs)
-    (λ c. search needs)
+    (λ c. c .before .before .before .before .put .kept .0)
+    (λ c. c .before .before .before .before .put .kept .1 .0)
     returns-3)

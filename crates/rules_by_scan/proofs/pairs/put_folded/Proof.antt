@@ -2,16 +2,16 @@
 -- SPDX-License-Identifier: Apache-2.0
 
 -- `pairs::put_folded` meets its contract: the factors, then the words of a diagonal product. Assumes nothing.
+use mathlib.Core.Path.{_∙_}
 use mathlib.Core.List.{List}
 use Prim.Native.Nat.{_+_, _*_}
 use Rattle.number.specs.Floats.{floats}
 use Rattle.gksl.specs.Rules.{gatherOver}
 use Rattle.gksl.specs.Words.{pauli}
-use Rattle.model.specs.Given.{Term}
-use Rattle.model.specs.Product.{termsIn, termsOf}
+use Rattle.model.specs.Terms.{Term, termsIn, termsOf}
 use Rattle.model.specs.Tested.{width}
-use Rattle.rules_by_scan.specs.Adds.{folded, eachFactor, diagonal}
-use Rattle.rules_by_scan.proofs.PutsLaws.{puts-room, puts-full, puts-more}
+use Rattle.rule_terms.specs.Adds.{folded, eachFactor, diagonal}
+use Rattle.rule_terms.proofs.PutsLaws.{puts-room, puts-full, puts-more}
 use borrow.Author.Needs.{needs}
 use Rattle.rules_by_scan.proofs.pairs.put_folded.Statement.{statement}
 use Rattle.rules_by_scan.proofs.pairs.put_folded.Tie as tie
@@ -50,10 +50,10 @@ put-folded-spec =
     put-factors-requires
     (λ c. search needs)
     (λ c. search needs)
-    (λ c. search needs)
-    (λ c. search needs)
+    (λ c. c .before .before .before .before .before .before .put-factors .kept .0)
+    (λ c. c .before .before .before .before .before .before .put-factors .kept .1 .0)
     returns
     put-diagonal-requires
-    (λ c. search needs)
-    (λ c. search needs)
+    (λ c. c .before .before .before .before .put-diagonal .kept .0 ∙ c .before .before .before .before .before .before .before .before .before .before .before .before .before .before .put-factors .kept .0)
+    (λ c. c .before .before .before .before .put-diagonal .kept .1 .0 ∙ c .before .before .before .before .before .before .before .before .before .before .before .before .before .before .put-factors .kept .1 .0)
     returns-2)

@@ -3,7 +3,7 @@
 
 -- `pairs::put_pair` meets its contract: one return for each place of p. Assumes nothing.
 use mathlib.Core.Path.{sym, _∙_}
-use Rattle.rules_by_scan.proofs.PutsLaws.{puts-nothing, puts-same}
+use Rattle.rule_terms.proofs.PutsLaws.{puts-nothing, puts-same}
 use Rattle.rules_by_scan.proofs.PairItems.{diagonal-on, diagonal-off, both-on, left-on, right-on, both-off}
 use borrow.Author.Needs.{needs}
 use Rattle.rules_by_scan.proofs.pairs.put_pair.Statement.{statement}
@@ -54,23 +54,23 @@ put-pair-spec =
     tie.close
     (tie.spec
     (λ c κs. search needs)
+    (λ c κs. tt)
     (λ c κs. search needs)
-    (λ c κs. search needs)
-    (λ c. search needs)
-    (λ c. search needs)
+    (λ c. c .before .before .before .before .put-folded .kept .0)
+    (λ c. c .before .before .before .before .put-folded .kept .1 .0)
     returns
     returns-2
     (λ c κs. search needs)
     (λ c κs. search needs)
-    (λ c. search needs)
-    (λ c. search needs)
+    (λ c. c .before .before .before .before .put-doubled .kept .0)
+    (λ c. c .before .before .before .before .put-doubled .kept .1 .0)
     returns-3
     (λ c κs. search needs)
-    (λ c. search needs)
-    (λ c. search needs)
+    (λ c. c .before .before .before .before .put-one .kept .0)
+    (λ c. c .before .before .before .before .put-one .kept .1 .0)
     returns-4
     (λ c κs. search needs)
-    (λ c. search needs)
-    (λ c. search needs)
+    (λ c. c .before .before .before .before .put-one2 .kept .0)
+    (λ c. c .before .before .before .before .put-one2 .kept .1 .0)
     returns-5
     returns-6)

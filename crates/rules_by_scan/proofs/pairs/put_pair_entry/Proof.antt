@@ -4,8 +4,8 @@
 -- `pairs::put_pair_entry` meets its contract. Assumes nothing.
 use mathlib.Core.Path.{sym, ap, _∙_}
 use Rattle.model.specs.Tested.{badJump}
-use Rattle.rules_by_scan.specs.Adds.{pairAdds}
-use Rattle.rules_by_scan.proofs.PutsLaws.{puts-nothing, puts-same}
+use Rattle.rule_terms.specs.Adds.{pairAdds}
+use Rattle.rule_terms.proofs.PutsLaws.{puts-nothing, puts-same}
 use Rattle.rules_by_scan.proofs.ItemLaws.{pair-room}
 use Rattle.rules_by_scan.proofs.PairItems.{pauli-none, general-none}
 use borrow.Author.Needs.{needs}
@@ -47,6 +47,6 @@ put-pair-entry-spec =
     put-pair-requires
     returns
     returns-2
-    (λ c. search needs)
-    (λ c. search needs)
+    (λ c. c .before .before .before .before .put-pair .kept .0)
+    (λ c. c .before .before .before .before .put-pair .kept .1 .0)
     returns-3)

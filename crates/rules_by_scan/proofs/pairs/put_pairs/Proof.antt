@@ -7,13 +7,14 @@ use Prim.Native.Nat.{ℕ, _-_}
 use native.Mathlib.Omega.{arith}
 use Rattle.model.specs.Stored.{jumpAt}
 use Rattle.model.specs.Tested.{badJump}
-use Rattle.rules_by_scan.specs.Adds.{upTo, pairAdds}
-use Rattle.rules_by_scan.proofs.PutsLaws.{puts-same}
+use Rattle.rule_terms.specs.Adds.{pairAdds}
+use Rattle.rule_terms.proofs.PutsLaws.{puts-same}
 use Rattle.rules_by_scan.proofs.ItemLaws.{EachState, ofTerms, each-start, each-room, each-next, each-full, each-done, jumps-each}
 use Rattle.rules_by_scan.proofs.PairItems.{pair-same}
 use borrow.Author.Needs.{needs}
 use Rattle.rules_by_scan.proofs.pairs.put_pairs.Statement.{statement}
 use Rattle.rules_by_scan.proofs.pairs.put_pairs.Tie as tie
+use Rattle.word.specs.Count.{upTo}
 
 abbrev Inv-loop : tie.InvT-loop
 Inv-loop lanes₀ sums₀ room len count jumps rates t-words t-numbers places p held₀ j₀ lanes sums held j = EachState (λ (k : ℕ). pairAdds p (ofTerms t-words t-numbers) (jumpAt jumps rates k)) count room len lanes₀ sums₀ lanes sums held j

@@ -8,7 +8,7 @@ use native.Mathlib.Omega.{arith}
 use lib.ListN.{length}
 use lib.Seq.{length-take-le}
 use borrow.Author.Needs.{needs}
-use Rattle.word.specs.Flat.{words as wordsOf}
+use Rattle.word.specs.Flat.{words as wordsOf, wordLanes}
 use Rattle.word.proofs.FlatLaws.{words-high}
 use Rattle.keep.proofs.UnflaggedLaws.{unflagged-below}
 use Rattle.truncate.proofs.ProtectLaws.{all-marked}
@@ -19,7 +19,7 @@ aggregate-order : tie.Need-slice-aggregate-mark-listed
 aggregate-order c = let n = c .before .before .before .before .before .before .slots-for in sym (length-take-le (n .result) (c .before .before .before .before .before .before .before .before .before .before .before .before .before .args .order .now) (n .ensures .1))
 
 aggregate-work : tie.Need-slice-aggregate-mark-listed-2
-aggregate-work c = let s = c .before .before .before .before .before .before .before .before .before .before .before .before .before .before in sym (length-take-le (length (s .args .protected .now) / 4) (s .args .work .now) (s .pre .2))
+aggregate-work c = let s = c .before .before .before .before .before .before .before .before .before .before .before .before .before .before in sym (length-take-le (length (s .args .protected .now) / wordLanes) (s .args .work .now) (s .pre .2))
 
 aggregate-list : tie.Need-slice-aggregate-mark-listed-3
 aggregate-list c =
@@ -34,7 +34,7 @@ mark-listed-requires c κs =
     let l = c .before .before .before .before .before .before .lay-unflagged in
     let n = c .before .before .before .before .before .before .before .before .before .slots-for in
     let o = length-take-le (n .result) (a .order .now) (n .ensures .1) in
-    let w = length-take-le (length (a .protected .now) / 4) (a .work .now) (s .pre .2) in
+    let w = length-take-le (length (a .protected .now) / wordLanes) (a .work .now) (s .pre .2) in
     (omega (arith, s .pre .0, w), omega (arith, n .ensures .0, o, w), s .pre .4, rw (l .ensures .1) (unflagged-below (a .flags .now)))
 
 returns : tie.Need-returns

@@ -2,13 +2,10 @@
 -- SPDX-License-Identifier: Apache-2.0
 
 -- `flat::set_word` meets its contract. Assumes nothing.
-use mathlib.Core.Path.{refl}
-use Prim.Native.Nat.{ℕ}
-use lib.ListN.{getD, length-set}
-use mir.Val.{Fits}
-use mir.Syntax.{w64}
+use lib.ListN.{length-set}
+use Rattle.word.specs.Count.{tabulate}
 use Rattle.word.proofs.Words.{sound}
-use Rattle.word.proofs.FlatLaws.{words-set}
+use Rattle.word.proofs.FlatLaws.{layFrom, word-laid}
 use borrow.Author.Needs.{needs}
 use native.Mathlib.Omega.{arith}
 use Rattle.word.proofs.flat.set_word.Statement.{statement}
@@ -24,12 +21,8 @@ slice-write-table-4 : tie.Need-slice-write-table-4
 slice-write-table-4 c = simp length-set (omega arith)
 
 returns : tie.Need-returns
-returns c =
-    let a = c .before .before .before .before .args in
-    let hx : (i : ℕ) → Fits w64 (getD (a .t3 .x) i 0) = λ i. search needs in
-    let hz : (i : ℕ) → Fits w64 (getD (a .t3 .z) i 0) = λ i. search needs in
-    let e = words-set (a .table .now) (a .i) (a .t3) (sound (a .t3) (search needs) (search needs) hx hz) (omega arith) in
-    record { lanes = refl; list = e }
+unfolding layFrom tabulate
+returns c = word-laid _ _ _ (sound _ (search needs) (search needs) (λ i. search needs) (λ i. search needs)) (omega arith)
 
 pub set-word-spec : {M : Type 1} → statement M
 set-word-spec =
@@ -51,5 +44,5 @@ set-word-spec =
     (λ c. search needs)
     (λ c. search needs)
     slice-write-table-4
-    (λ c. search needs)
+    (λ c. simp length-set)
     returns)

@@ -2,15 +2,16 @@
 -- SPDX-License-Identifier: Apache-2.0
 
 -- `flat::word_at` meets its contract. Assumes nothing.
-use mathlib.Core.Path.{sym}
-use Rattle.word.proofs.FlatLaws.{words-at}
+use Rattle.word.specs.Count.{tabulate}
+use Rattle.word.proofs.FlatLaws.{word-read}
 use borrow.Author.Needs.{needs}
 use native.Mathlib.Omega.{arith}
 use Rattle.word.proofs.flat.word_at.Statement.{statement}
 use Rattle.word.proofs.flat.word_at.Tie as tie
 
 returns : tie.Need-returns
-returns c = sym (words-at _ _ (omega arith))
+unfolding tabulate
+returns c = word-read _ _ (omega arith)
 
 pub word-at-spec : {M : Type 1} → statement M
 word-at-spec =

@@ -2,26 +2,15 @@
 -- SPDX-License-Identifier: Apache-2.0
 
 -- `word::same_word` meets its contract: no bit differs. Assumes nothing.
-use Prim.Native.Nat.{ℕ}
 use borrow.Author.Needs.{needs}
-use mir.Val.{Fits}
-use mir.Syntax.{w64}
-use lib.ListN.{getD}
 use Rattle.word.proofs.Words.{sound}
-use Rattle.word.proofs.Tests.{same-is}
+use Rattle.word.proofs.Tests.{orTo, same-is}
 use Rattle.word.proofs.word.same_word.Statement.{statement}
 use Rattle.word.proofs.word.same_word.Tie as tie
 
 returns : tie.Need-returns
-returns c =
-    let a = c .before .before .before .before .before .before .before .before .args in
-    let hx : (i : ℕ) → Fits w64 (getD (a .t1 .x) i 0) = λ i. search needs in
-    let hz : (i : ℕ) → Fits w64 (getD (a .t1 .z) i 0) = λ i. search needs in
-    let hu : (i : ℕ) → Fits w64 (getD (a .t2 .x) i 0) = λ i. search needs in
-    let hv : (i : ℕ) → Fits w64 (getD (a .t2 .z) i 0) = λ i. search needs in
-    let sp = sound (a .t1) (search needs) (search needs) hx hz in
-    let sq = sound (a .t2) (search needs) (search needs) hu hv in
-    same-is (a .t1) (a .t2) sp sq
+unfolding orTo
+returns c = same-is _ _ (sound _ (search needs) (search needs) (λ i. search needs) (λ i. search needs)) (sound _ (search needs) (search needs) (λ i. search needs) (λ i. search needs))
 
 pub same-word-spec : {M : Type 1} → statement M
 same-word-spec =

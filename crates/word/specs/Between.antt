@@ -1,0 +1,32 @@
+-- SPDX-FileCopyrightText: 2026 The PPVM Authors
+-- SPDX-License-Identifier: Apache-2.0
+
+-- Contracts between functions: what laying a word leaves, what writing codes leaves, and where a word acts next.
+use Prim.Native.Nat.{ℕ, _<_, _≤_}
+use mathlib.Core.Path.{_≡_}
+use mathlib.Core.List.{List}
+use lib.ListN.{set}
+use Rattle.word.specs.Word.{maxQubits}
+use Rattle.word.specs.declared.word.Word.{Word}
+use mathlib.Core.Bool.{true, false}
+use Rattle.refusal.specs.declared.Answer.{Answer}
+use Rattle.word.specs.Register.{actsOn}
+use Rattle.word.specs.Flat.{words, layWord}
+use Rattle.word.specs.Codes.{writeAnswer, written}
+
+-- what laying a word leaves: every lane, and so the list of words
+pub record LaysWord (l : List ℕ) (i : ℕ) (w : Word) (after : List ℕ) : Type 0 where
+  pub lanes : after ≡ layWord l i w
+  pub list : words after ≡ set (words l) i w
+
+-- what writing codes answers, and the lent places afterwards
+pub record Wrote (w : Word) (n : ℕ) (out : List ℕ) (answer : Answer) (after : List ℕ) : Type 0 where
+  pub answers : answer ≡ writeAnswer w n out
+  pub places : after ≡ written w n out
+
+-- r is the first qubit at or after `from` at which it has one, and maxQubits where there is none
+pub record NextQubit (w : Word) (from r : ℕ) : Type 0 where
+  pub inside : r ≤ maxQubits
+  pub found : r < maxQubits → (from ≤ r) × (actsOn w r ≡ true)
+  pub before : (q : ℕ) → from ≤ q → q < r → actsOn w q ≡ false
+  pub none : r ≡ maxQubits → (q : ℕ) → from ≤ q → actsOn w q ≡ false

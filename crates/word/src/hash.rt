@@ -1,0 +1,32 @@
+// SPDX-FileCopyrightText: 2026 The PPVM Authors
+// SPDX-License-Identifier: Apache-2.0
+
+// A number for each word, by which words are spread over slots. Which number is free: words that are
+// the same have the same, and few of the others should.
+ghost use mathlib.Core.Path.{_≡_};
+ghost use Prim.Native.Nat.{_<_};
+ghost use Rattle.word.specs.Hash.{half, laneHash, wordHash};
+use crate::word::Word;
+
+const HALF: u64 = 4_294_967_296;
+
+fn lane_hash(a: u64, b: u64, lane: u64) -> u64
+    requires { ⌜ (a < half) × (b < half) ⌝ }
+    ensures { λ r. ⌜ r ≡ laneHash a b lane ⌝ }
+{
+    ((lane % HALF) * a) ^ ((lane / HALF) * b)
+}
+
+pub fn word_hash(w: Word) -> u64
+    ensures { λ r. ⌜ r ≡ wordHash w ⌝ }
+{
+    let x = w.x;
+    let z = w.z;
+    let x0 = lane_hash(0x9e37_79b1, 0x85eb_ca77, x[0]);
+    let x1 = lane_hash(0xc2b2_ae3d, 0x27d4_eb2f, x[1]);
+    let z0 = lane_hash(0x1656_67b1, 0xd3a2_646d, z[0]);
+    let z1 = lane_hash(0xfd70_46c5, 0xb55a_4f09, z[1]);
+    let h = (x0 ^ x1) ^ (z0 ^ z1);
+    let folded = (h ^ (h / HALF)) % HALF;
+    folded * 0x9e37_79b1 / 1_048_576
+}
