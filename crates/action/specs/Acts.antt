@@ -47,8 +47,6 @@ sumPlaces words sums = min (length words / wordLanes) (length sums / 2)
 abbrev pub listPlaces : List ℕ → List Float → ℕ
 listPlaces words values = min (length words / wordLanes) (length values)
 
--- ---- a list, laid: words and real parts one after another
-
 -- ---- what the call answers, and the lent tables afterwards
 pub record Acting : Type 0 where
   pub answer : Acted
@@ -64,8 +62,8 @@ module _ (outWords : List ℕ) (outValues : List Float) (workWords : List ℕ) (
 
   -- work tables are zero after acceptance and 13
   abbrev pub full : ℕ → ℕ → Acting
-  full sumRows places =
-      record { answer = Refused (TableFull sumRows places); outWords = outWords; outValues = outValues; workWords = replicate (length workWords) 0; workSums = replicate (length workSums) float0 }
+  full table places =
+      record { answer = Refused (TableFull table places); outWords = outWords; outValues = outValues; workWords = replicate (length workWords) 0; workSums = replicate (length workSums) float0 }
 
   abbrev pub listing : List Term → Acting
   listing L = record {

@@ -13,7 +13,7 @@ use Rattle.refusal.specs.declared.Refusal.the-variants.{SumNotFinite}
 use Rattle.refusal.specs.declared.Answer.{Answer}
 use Rattle.refusal.specs.declared.Answer.the-variants.{Accepted, Refused}
 use Rattle.number.specs.Floats.{float0}
-use Rattle.lent.specs.Tests.{lent, firstTo, entries, equal}
+use Rattle.lent.specs.Tests.{inTurn, lent, firstTo, entries, equal}
 use Rattle.lent.specs.Numbers.{notFinite}
 use Rattle.word.specs.Count.{upTo}
 use Rattle.csr.specs.Lent.{rowsTests, placesTests}
@@ -57,21 +57,23 @@ pub record Multiplying : Type 0 where
 -- 8, 9
 abbrev pub lengthTests : ℕ → List ℕ → List ℕ → List Float → List Float → List Float → List Float → Answer → Answer
 lengthTests rows offsets columns values input output work after =
+    inTurn (
     rowsTests rows offsets
-    (equal (length columns) (length values)
-    (equal rows (length input)
-    (equal rows (length output)
-    (lent rows (length work)
-    after))))
+    ∷ equal (length columns) (length values)
+    ∷ equal rows (length input)
+    ∷ equal rows (length output)
+    ∷ lent rows (length work)
+    ∷ []) after
 
 module _ (rows : ℕ) (offsets columns : List ℕ) (values input : List Float) (overwrite : Bool) (output : List Float) where
   -- 7
   abbrev pub tableTests : Answer → Answer
   tableTests after =
+      inTurn (
       placesTests rows offsets columns
-      (entries (length values) (notFinite values)
-      (entries rows (notFinite input)
-      (cond overwrite after (entries rows (notFinite output) after))))
+      ∷ entries (length values) (notFinite values)
+      ∷ entries rows (notFinite input)
+      ∷ []) (cond overwrite after (entries rows (notFinite output) after))
 
   -- what is to be stored at row r: its sum, or the sum added to what stands there
   unfoldable pub storedAt : ℕ → Float

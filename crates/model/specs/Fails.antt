@@ -1,7 +1,7 @@
 -- SPDX-FileCopyrightText: 2026 The PPVM Authors
 -- SPDX-License-Identifier: Apache-2.0
 
--- The tests of a lent model, each over the slices that it reads.
+-- A given number of a term that is out of range.
 use Prim.Native.Nat.{ℕ, _+_, _*_}
 use mathlib.Core.Bool.{Bool, not, _||_}
 use mathlib.Core.List.{List}
@@ -9,7 +9,6 @@ use lib.Ieee.{Float, nan}
 use lib.ListN.{getD}
 use Rattle.number.specs.Floats.{inRange}
 
--- a given term
 abbrev pub failsGiven : Float → Float → Bool
 failsGiven re im = not (inRange re) || not (inRange im)
 
