@@ -6,7 +6,7 @@ use mathlib.Core.Path.{_≡_, sym, ap, _∙_}
 use native.Mathlib.Omega.{arith}
 use Rattle.refusal.specs.Cause.{causeOf}
 use Rattle.refusal.specs.declared.Refusal.{Refusal}
-use Rattle.refusal.specs.declared.Refusal.the-variants.{TooManyQubits, WrongLength, InvalidPauliByte, InvalidPauliCode, NegativeRate, EmptyLincomb, NumberOutOfRange, CountAboveLimit, LengthMismatch, KMatrixNotHermitian, WordOutsideRegister, RepeatedBasisWord, TableFull, SumNotFinite}
+use Rattle.refusal.specs.declared.Refusal.the-variants.{TooManyQubits, WrongLength, InvalidPauliByte, InvalidPauliCode, NegativeRate, EmptyLincomb, NumberOutOfRange, CountAboveLimit, LengthMismatch, KMatrixNotHermitian, WordOutsideRegister, RepeatedBasisWord, TableFull, SumNotFinite, WrittenCountTooLarge, TooManyProducts}
 use Rattle.action.specs.declared.act.Acted.{Acted}
 use Rattle.action.specs.declared.act.Acted.the-variants as Acted
 use Rattle.truncate.specs.declared.kept.Kept.{Kept}
@@ -33,6 +33,8 @@ numbered (WordOutsideRegister position) e = omega (arith, e)
 numbered (RepeatedBasisWord position) e = omega (arith, e)
 numbered (TableFull table places) e = omega (arith, e)
 numbered (SumNotFinite position) e = omega (arith, e)
+numbered (WrittenCountTooLarge entry) e = omega (arith, e)
+numbered (TooManyProducts m s) e = omega (arith, e)
 
 pub kept-accepts : (a : Kept) (r : KeptEntries) → r ≡ keptOf a → Accepted (r .status) → a ≡ Kept.Entries (r .entries)
 kept-accepts (Kept.Entries n) r e h = ap Kept.Entries (sym (ap (λ (x : KeptEntries). x .entries) e))

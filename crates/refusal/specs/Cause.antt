@@ -1,12 +1,12 @@
 -- SPDX-FileCopyrightText: 2026 The PPVM Authors
 -- SPDX-License-Identifier: Apache-2.0
 
--- The table of causes of document 01: number and returned values of each refusal.
+-- The table of causes of document 01, with those that document 02 adds: number and returned values of each refusal.
 use Prim.Native.Nat.{ℕ}
 use mathlib.Core.List.{List, [], _∷_}
 use lib.ListN.{getD}
 use Rattle.refusal.specs.declared.Refusal.{Refusal}
-use Rattle.refusal.specs.declared.Refusal.the-variants.{TooManyQubits, WrongLength, InvalidPauliByte, InvalidPauliCode, NegativeRate, EmptyLincomb, NumberOutOfRange, CountAboveLimit, LengthMismatch, KMatrixNotHermitian, WordOutsideRegister, RepeatedBasisWord, TableFull, SumNotFinite}
+use Rattle.refusal.specs.declared.Refusal.the-variants.{TooManyQubits, WrongLength, InvalidPauliByte, InvalidPauliCode, NegativeRate, EmptyLincomb, NumberOutOfRange, CountAboveLimit, LengthMismatch, KMatrixNotHermitian, WordOutsideRegister, RepeatedBasisWord, TableFull, SumNotFinite, WrittenCountTooLarge, TooManyProducts}
 use Rattle.refusal.specs.declared.Answer.{Answer}
 use Rattle.refusal.specs.declared.Answer.the-variants.{Accepted, Refused}
 use Rattle.refusal.specs.declared.Status.{Status}
@@ -33,6 +33,8 @@ causeOf (WordOutsideRegister position) = cause 11 (position ∷ [])
 causeOf (RepeatedBasisWord position) = cause 12 (position ∷ [])
 causeOf (TableFull table places) = cause 13 (table ∷ places ∷ [])
 causeOf (SumNotFinite position) = cause 14 (position ∷ [])
+causeOf (WrittenCountTooLarge entry) = cause 15 (entry ∷ [])
+causeOf (TooManyProducts m s) = cause 16 (m ∷ s ∷ [])
 
 -- a refusal as numbers, 0 for a value that it does not have
 abbrev pub statusOf : Refusal → Status

@@ -21,6 +21,8 @@ pub enum Refusal {
     RepeatedBasisWord { position: usize },
     TableFull { table: usize, places: usize },
     SumNotFinite { position: usize },
+    WrittenCountTooLarge { entry: usize },
+    TooManyProducts { m: usize, s: usize },
 }
 
 // The answer of a call whose result, if any, stands in what it was lent.
@@ -111,6 +113,16 @@ pub fn status_of(r: Refusal) -> Status
             refusal: 14,
             first: position as u64,
             second: 0,
+        },
+        Refusal::WrittenCountTooLarge { entry } => Status {
+            refusal: 15,
+            first: entry as u64,
+            second: 0,
+        },
+        Refusal::TooManyProducts { m, s } => Status {
+            refusal: 16,
+            first: m as u64,
+            second: s as u64,
         },
     }
 }
