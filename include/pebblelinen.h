@@ -26,13 +26,13 @@ extern "C" {
 #endif
 
 /* The largest number of qubits in a register. */
-#define PEBBLELINEN_MAX_QUBITS 128
+#define PEBBLELINEN_MAX_QUBITS 256
 
 /* How a call ended. `refusal` is 0 where the call was accepted, and else the number of the cause,
  * with its values in `first` and `second`; a value that the cause does not have is 0.
  *
  *   no.  cause                                   first        second
- *    1   qubits above 128                        count        128
+ *    1   qubits above 256                        count        256
  *    2   text length wrong                       expected     got
  *    3   byte not I, X, Y, Z                     byte         place after dropping `_`
  *    4   code above 3                            code
@@ -56,8 +56,8 @@ typedef struct {
 /* A Pauli word. Qubit q is bit q % 64 of lane q / 64: I has neither bit, X its x bit, Z its z bit,
  * and Y both. */
 typedef struct {
-    uint64_t x[2];
-    uint64_t z[2];
+    uint64_t x[4];
+    uint64_t z[4];
 } pebblelinen_word;
 
 /* A word that was read. Where the status is a refusal, the word is the identity. */
@@ -130,12 +130,12 @@ pebblelinen_fitting pebblelinen_fits_register(pebblelinen_word word, size_t n_qu
  * A model is Hamiltonian terms, jumps and pairs on a register of qubits. It stands in six slices
  * that the caller lends, three tables of two slices each:
  *
- *   Hamiltonian terms   h_words    4 lanes a term: x[0], x[1], z[0], z[1]
+ *   Hamiltonian terms   h_words    8 lanes a term: x[0] to x[3], z[0] to z[3]
  *                       h_coeffs   1 number a term
  *   jumps and pairs     jumps      8 numbers an entry, see below
  *                       rates      1 number an entry: a general jump's rate g, a Pauli's g c c; that
  *                                  of a pair is not used
- *   terms               t_words    4 lanes a term
+ *   terms               t_words    8 lanes a term
  *                       t_numbers  2 numbers a term: real part, imaginary part
  *
  * A place of a table is that of a term or an entry. Two slices of one table may have different
@@ -189,7 +189,7 @@ typedef struct {
 
 /* The lengths that are enough to build every model of so many Hamiltonian items and so many jumps
  * of at most so many terms each: a jump of c terms takes at most c + c c places of the terms table,
- * and the work tables have 272 places, 4 lanes and 2 numbers each, or none without jumps. A count
+ * and the work tables have 272 places, 8 lanes and 2 numbers each, or none without jumps. A count
  * above its limit (4,096, 4,096, 16) is taken for the limit, since more is refused whatever is lent. */
 pebblelinen_sizes pebblelinen_model_sizes(size_t hamiltonian, size_t jumps, size_t terms);
 
@@ -221,7 +221,7 @@ pebblelinen_sizes pebblelinen_matrix_sizes(size_t operators, size_t terms);
  * The six tables need not be empty. Where the model was built, they hold it, and the work tables are
  * all zero. Refusals, in this order:
  *
- *    1  (n_qubits, 128)
+ *    1  (n_qubits, 256)
  *    8  (count): more than 4,096 Hamiltonian items, then more than 4,096 jumps
  *    9  (needed, given) for what is given, in this order: a length for each Hamiltonian item and
  *       each term; a count for each jump; two numbers for each term; counts that make up the terms;
@@ -298,7 +298,7 @@ pebblelinen_built pebblelinen_add_kossakowski(
 /* Tests a model in lent tables, as every call that takes one does first. A model that was built
  * passes. Refusals, in this order:
  *
- *    1  (qubits, 128)
+ *    1  (qubits, 256)
  *    8  (count): more than 4,096 Hamiltonian terms, then more than 4,096 jumps and pairs
  *    9  (places that the model counts, places lent) for h_words, h_coeffs, jumps, rates, t_words,
  *       t_numbers
@@ -330,7 +330,7 @@ typedef struct {
  *
  * Only items that share a qubit with p count: the Hamiltonian terms, then the jumps, then the pairs,
  * each in the order in which they are stored. What they add is summed word by word, from 0, in
- * work_words and work_sums, a table in word order of a word (4 lanes) and a complex number each. The
+ * work_words and work_sums, a table in word order of a word (8 lanes) and a complex number each. The
  * answer lists the words whose real part is not 0, in word order: their lanes in out_words, their
  * real parts in out_values. Places past the list stay as they were. Where the call was accepted, the
  * work tables are all zero; what they held before makes no difference. Refusals, in this order:
@@ -358,7 +358,7 @@ typedef struct {
     size_t listed;
 } pebblelinen_counted;
 
-/* The most words of one list (4 lanes each). */
+/* The most words of one list (8 lanes each). */
 #define PEBBLELINEN_MAX_WORDS 65536
 
 /* Acts on each word of a list, and counts: `touched` is the most words that the action of one of them
@@ -394,14 +394,14 @@ pebblelinen_counted pebblelinen_count_action_terms(
  * A basis is an ordered list of Pauli words with a coefficient each. It stands in two slices that the
  * caller lends, of which the first `len` places are in use:
  *
- *   words    4 lanes a word: x[0], x[1], z[0], z[1]
+ *   words    8 lanes a word: x[0] to x[3], z[0] to z[3]
  *   coeffs   1 number a word
  *
  * The word in the place with number i, counted from 0, has position i. A position is not a qubit. A
  * word may stand at several positions; each is an entry of its own. Sizes are compared by magnitude:
  * 0.5 and -0.5 are as large as each other.
  *
- * Protected words are a list of whole words, 4 lanes each, in any order; an entry is protected where
+ * Protected words are a list of whole words, 8 lanes each, in any order; an entry is protected where
  * its word is in the list. Words of the list may come again or stand outside the basis; they take no
  * place in it.
  *
@@ -448,7 +448,7 @@ pebblelinen_basis_work pebblelinen_basis_sizes(size_t entries, size_t protected_
  * length is zero, to their ends; where drop_tol is not, they are as they were. Refusals, in this
  * order:
  *
- *    1  (n, 128)
+ *    1  (n, 256)
  *    8  (count): more than 65,536 entries, then more than 65,536 protected words
  *    9  (len, places lent) for words, then for coeffs; (lanes of whole words, lanes) where the last
  *       protected word is cut off; then (places needed, places lent) for order, work, fixed, kept
@@ -472,7 +472,7 @@ pebblelinen_kept pebblelinen_prune_basis(
  * limit, everything in words and coeffs past the new length is zero, to their ends; where len is not,
  * they are as they were. Refusals, in this order:
  *
- *    1  (n, 128)
+ *    1  (n, 256)
  *    8  (count): more than 65,536 entries, then more than 65,536 protected words, then (limit) for a
  *       limit above 65,536
  *    9  as for pebblelinen_prune_basis
@@ -493,13 +493,13 @@ pebblelinen_kept pebblelinen_cap_basis(
  *
  *   n                    the qubits of the register
  *   words, coeffs, len   the basis, in tables with places for len and the words to be appended
- *   list, values         the listed words, 4 lanes each, and the value of each
+ *   list, values         the listed words, 8 lanes each, and the value of each
  *   limit                what room counts against
  *   order, work, kept    work tables of a place for each listed word
  *
  * Places of words and coeffs past the new length stay as they were. Refusals, in this order:
  *
- *    1  (n, 128)
+ *    1  (n, 256)
  *    8  (count): more than 65,536 entries, then more than 65,536 listed words, then (limit) for a
  *       limit above 65,536
  *    9  (len, places lent) for words, then for coeffs; (lanes of whole words, lanes) where the last
@@ -573,17 +573,17 @@ pebblelinen_leakage_lengths pebblelinen_leakage_sizes(
  * pass those larger than tau_add in magnitude are listed in word order, with their sums.
  *
  *   words, coeffs, len   the basis: its first len places
- *   protected_words      whole words, 4 lanes each
+ *   protected_words      whole words, 8 lanes each
  *   limits               see above
  *   h_index, j_index     64 lanes for each qubit; mask: 64 lanes; none of either for an empty basis
  *   order, nexts         a place for each entry; heads: at least as many, twice as many is good
  *   fixed_nexts          a place for each protected word; fixed_heads: at least as many; none of either
  *                        for an empty basis
- *   table 1              words touched by one action: work_words (4 lanes a place), work_sums (2
- *                        numbers), log_words (4 lanes), log_values, place_order, place_work
- *   table 2              candidates held at a time, before the room rule: cand_words and next_words (4
+ *   table 1              words touched by one action: work_words (8 lanes a place), work_sums (2
+ *                        numbers), log_words (8 lanes), log_values, place_order, place_work
+ *   table 2              candidates held at a time, before the room rule: cand_words and next_words (8
  *                        lanes a place), cand_sums, next_sums, place_order, place_work, place_kept
- *   out_words            the listed words, 4 lanes each; out_values: their sums
+ *   out_words            the listed words, 8 lanes each; out_values: their sums
  *
  * The places of table 1 and of table 2 are those of the shortest of their slices. The count is that of
  * the listed words; places of out_words and out_values past it stay as they were. Refusals, in this
@@ -656,10 +656,10 @@ pebblelinen_generator_lengths pebblelinen_generator_sizes(size_t qubits, size_t 
 /* The entries of the generator, by column, then by the row's word in word order: rows, columns and
  * values, side by side.
  *
- *   words, len           the basis: its first len places, 4 lanes a word
+ *   words, len           the basis: its first len places, 8 lanes a word
  *   h_index, j_index     64 lanes for each qubit; mask: 64 lanes; none of either for an empty basis
  *   nexts                a place for each basis word; heads: at least as many, twice as many is good
- *   table 1              words touched by one action: work_words (4 lanes a place), work_sums (2
+ *   table 1              words touched by one action: work_words (8 lanes a place), work_sums (2
  *                        numbers)
  *   table 3              entries: stage_rows, stage_columns, stage_values; rows, columns, values
  *
