@@ -15,14 +15,17 @@ pub mod models;
 pub mod norms;
 pub mod products;
 
-use crate::port::Word;
+use crate::port::{LANES, Word};
 use crate::rules::{MAX_QUBITS, letters_of, word_of};
 
 /// Registers around the limits.
-const EDGES: [usize; 9] = [0, 1, 2, 63, 64, 65, 127, 128, 129];
+#[rustfmt::skip]
+const EDGES: [usize; 15] = [
+    0, 1, 2, 63, 64, 65, 127, 128, 129, 191, 192, 193, 255, 256, MAX_QUBITS + 1,
+];
 
 /// The first and last qubit of each lane.
-const LANE_ENDS: [usize; 4] = [0, 63, 64, 127];
+const LANE_ENDS: [usize; 2 * LANES] = [0, 63, 64, 127, 128, 191, 192, MAX_QUBITS - 1];
 
 /// Characters of two, three and four bytes. The second's code point equals its first byte.
 const NOT_ASCII: [char; 5] = ['\u{80}', 'Ã', 'é', '√', '𝄞'];
@@ -62,7 +65,7 @@ impl Rng {
     }
 }
 
-/// The register of the given case: each limit four times, then all to a little above 128 in turn,
+/// The register of the given case: each limit four times, then all to a little above the limit in turn,
 /// then any of these, and now and then one far above.
 pub fn register(rng: &mut Rng, case: usize) -> usize {
     let limits = 4 * EDGES.len();
@@ -90,7 +93,7 @@ fn about(rng: &mut Rng, n: usize) -> usize {
 }
 
 /// A length for a register: near it, or now and then anything that is not too long, as always where
-/// the register is far above 128.
+/// the register is far above the limit.
 fn length(rng: &mut Rng, n_qubits: usize) -> usize {
     if n_qubits > 2 * MAX_QUBITS || rng.one_in(100) {
         rng.below(4 * MAX_QUBITS)
@@ -117,13 +120,13 @@ fn letters(rng: &mut Rng, count: usize) -> Vec<u8> {
     letters
 }
 
-/// A word on `n_qubits` qubits, at most 128.
+/// A word on `n_qubits` qubits, at most as many as it can have.
 pub fn word(rng: &mut Rng, n_qubits: usize) -> Word {
     word_of(&letters(rng, n_qubits))
 }
 
-/// Two words on one register of at most 128 qubits: unrelated, with some lanes alike, or apart in at
-/// most two letters.
+/// Two words on one register of as many at most: unrelated, with some lanes alike, or apart in at most
+/// two letters.
 pub fn pair(rng: &mut Rng, n_qubits: usize) -> (Word, Word) {
     let p = word(rng, n_qubits);
     let mut q = word(rng, n_qubits);

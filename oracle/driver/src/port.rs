@@ -25,26 +25,46 @@ pub struct Status {
     pub second: u64,
 }
 
+/// The x lanes of a word, and its z lanes. The Rust has as many chunks.
+pub const LANES: usize = 4;
+
+/// The lanes that a word has in a table: those of x, then those of z.
+pub const WORD_LANES: usize = 2 * LANES;
+
 #[repr(C)]
 #[derive(Clone, Copy, Default, PartialEq, Eq)]
 pub struct Word {
-    pub x: [u64; 2],
-    pub z: [u64; 2],
+    pub x: [u64; LANES],
+    pub z: [u64; LANES],
 }
 
 impl Word {
-    /// The word of four lanes in the order of tables.
+    /// The word of these lanes, in the order of tables.
     pub fn of(lanes: &[u64]) -> Self {
+        let lane = |first: usize| std::array::from_fn(|i| lanes[first + i]);
         Self {
-            x: [lanes[0], lanes[1]],
-            z: [lanes[2], lanes[3]],
+            x: lane(0),
+            z: lane(LANES),
         }
     }
 
     /// The lanes in the order of tables.
-    pub fn lanes(self) -> [u64; 4] {
-        [self.x[0], self.x[1], self.z[0], self.z[1]]
+    pub fn lanes(self) -> [u64; WORD_LANES] {
+        std::array::from_fn(|i| match i < LANES {
+            true => self.x[i],
+            false => self.z[i - LANES],
+        })
     }
+}
+
+/// The word in a place of a table.
+pub fn word_at(words: &[u64], place: usize) -> Word {
+    Word::of(&words[WORD_LANES * place..])
+}
+
+/// Puts a word in a place of a table.
+pub fn set_word(words: &mut [u64], place: usize, word: Word) {
+    words[WORD_LANES * place..][..WORD_LANES].copy_from_slice(&word.lanes());
 }
 
 /// Lanes are read as bits.

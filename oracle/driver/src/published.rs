@@ -11,11 +11,11 @@ pub mod matrices;
 pub mod models;
 pub mod norms;
 
-use crate::port::{Commutator, Parsed, Phased, Status, Word};
-use ppvm_lindblad::{Error, W_CHUNKS, open};
+use crate::port::{Commutator, LANES, Parsed, Phased, Status, Word};
+use ppvm_lindblad::{Error, open};
 
-/// The published word, two chunks wide.
-pub type RustWord = ppvm_lindblad::Word<W_CHUNKS>;
+/// The published word, with as many chunks as the port's has lanes.
+pub type RustWord = ppvm_lindblad::Word<LANES>;
 
 /// The published word on `n_qubits` qubits. The qubits above them must have no letter.
 pub fn rust_word(n_qubits: usize, word: Word) -> RustWord {

@@ -16,10 +16,10 @@ pub mod models;
 pub mod norms;
 pub mod products;
 
-use crate::port::{Commutator, Fitting, Parsed, Phased, Status, Word};
+use crate::port::{Commutator, Fitting, LANES, Parsed, Phased, Status, Word};
 use std::cmp::Ordering;
 
-pub const MAX_QUBITS: usize = 128;
+pub const MAX_QUBITS: usize = 64 * LANES;
 
 /// The letter of each code.
 const LETTERS: [u8; 4] = *b"IXZY";
@@ -54,10 +54,10 @@ pub fn word_of(letters: &[u8]) -> Word {
     word
 }
 
-/// The letters of all 128 qubits.
+/// The letters of all qubits that a word has.
 pub fn letters_of(word: Word) -> [u8; MAX_QUBITS] {
     std::array::from_fn(|qubit| {
-        let bit = |lanes: [u64; 2]| lanes[qubit / 64] >> (qubit % 64) & 1 == 1;
+        let bit = |lanes: [u64; LANES]| lanes[qubit / 64] >> (qubit % 64) & 1 == 1;
         match (bit(word.x), bit(word.z)) {
             (false, false) => b'I',
             (true, false) => b'X',
@@ -167,8 +167,7 @@ pub fn comm_product(h: Word, p: Word) -> Commutator {
 }
 
 pub fn order(p: Word, q: Word) -> Ordering {
-    let lanes = |word: Word| [word.x[0], word.x[1], word.z[0], word.z[1]];
-    lanes(p).cmp(&lanes(q))
+    p.lanes().cmp(&q.lanes())
 }
 
 pub fn shares_qubit(p: Word, q: Word) -> bool {

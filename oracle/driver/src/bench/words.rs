@@ -19,7 +19,8 @@ const PAIRS: usize = 4096;
 const ROUNDS: usize = 2000;
 
 fn digest(word: Word, phase: u32) -> u64 {
-    word.x[0] ^ word.x[1] ^ word.z[0] ^ word.z[1] ^ u64::from(phase)
+    let lanes = word.lanes().into_iter();
+    lanes.fold(u64::from(phase), |all, lane| all ^ lane)
 }
 
 /// The Rust's product behind the port's C call.

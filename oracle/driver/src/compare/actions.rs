@@ -17,7 +17,7 @@ use crate::inputs::matrices::{Matrix, full};
 use crate::inputs::models::{Items, largest, spoil_model};
 use crate::port::actions::{self as port, CountRoom, Counted, Listed, Room};
 use crate::port::models::{Lent, Model};
-use crate::port::{Status, Word};
+use crate::port::{Status, WORD_LANES, Word, set_word};
 use crate::published::actions as published;
 use crate::published::models::RustModel;
 use crate::rules::actions::MAX_WORDS;
@@ -91,9 +91,9 @@ impl Asked {
             lent,
         } = &self.standing;
         let places = [
-            room.work_words.len() / 4,
+            room.work_words.len() / WORD_LANES,
             room.work_sums.len() / 2,
-            room.out_words.len() / 4,
+            room.out_words.len() / WORD_LANES,
             room.out_values.len(),
         ];
         let letters = letters_of(p);
@@ -190,7 +190,7 @@ fn count(tallies: &mut Tallies, standing: &Standing, words: &[u64], room: &Count
     };
     let refusal = answers.rules.0.status.refusal;
     let input = || {
-        let places = room.work_words.len() / 4;
+        let places = room.work_words.len() / WORD_LANES;
         format!("{:?} on {words:x?}, places {places}", standing.made_of)
     };
     tallies.counted[refusal as usize].count(standing.size() + words.len(), input, answers);
@@ -215,7 +215,7 @@ fn count_all(rng: &mut Rng, tallies: &mut Tallies, standing: &Standing, words: &
     if n_qubits < MAX_QUBITS {
         let position = rng.below(words.len());
         let p = inputs::outside(rng, n_qubits);
-        lanes[4 * position..4 * position + 4].copy_from_slice(&p.lanes());
+        set_word(&mut lanes, position, p);
         count(tallies, standing, &lanes, &room);
     }
 }
@@ -319,7 +319,7 @@ fn large(rng: &mut Rng, tallies: &mut Tallies) {
     let standing = Standing::built(rng, items);
     let n_qubits = standing.model.qubits;
     for words in [MAX_WORDS, MAX_WORDS + 1] {
-        let lanes = vec![0; 4 * words];
+        let lanes = vec![0; WORD_LANES * words];
         let room = inputs::count_room(rng, n_qubits, 0, false);
         count(tallies, &standing, &lanes, &room);
     }

@@ -12,8 +12,8 @@ use super::models::by_answer;
 use super::{Answers, Tally};
 use crate::inputs::Rng;
 use crate::inputs::bases::{self as inputs, Admission, Keeping};
-use crate::port::Word;
 use crate::port::bases::{self as port, Basis, Kept};
+use crate::port::{WORD_LANES, Word};
 use crate::published::bases::{RustBasis, rust_words};
 use crate::rules::actions::MAX_WORDS;
 use crate::rules::{bases as rules, refusal, word_of};
@@ -89,7 +89,7 @@ impl Outcome {
 }
 
 fn words_of(lanes: &[u64]) -> Vec<Word> {
-    lanes.chunks_exact(4).map(Word::of).collect()
+    lanes.chunks_exact(WORD_LANES).map(Word::of).collect()
 }
 
 /// A call on a basis, shown where the sides disagree on it.
@@ -163,7 +163,7 @@ fn cap(tallies: &mut Tallies, keeping: &Keeping, limit: usize) {
 }
 
 /// How often each word is there.
-fn counted(words: impl Iterator<Item = Word>) -> BTreeMap<[u64; 4], usize> {
+fn counted(words: impl Iterator<Item = Word>) -> BTreeMap<[u64; WORD_LANES], usize> {
     let mut counts = BTreeMap::new();
     words.for_each(|w| *counts.entry(w.lanes()).or_default() += 1);
     counts
@@ -189,7 +189,8 @@ fn as_large(admission: &Admission, rust: &[(Word, f64)]) -> bool {
         counted(places.map(|i| listed[i]))
     };
     let (larger, allowed) = (at_least(|x, cut| x > cut), at_least(|x, cut| x >= cut));
-    let within = |few: &BTreeMap<[u64; 4], usize>, many: &BTreeMap<[u64; 4], usize>| {
+    let within = |few: &BTreeMap<[u64; WORD_LANES], usize>,
+                  many: &BTreeMap<[u64; WORD_LANES], usize>| {
         few.iter()
             .all(|(w, count)| many.get(w).is_some_and(|more| more >= count))
     };
@@ -310,7 +311,7 @@ fn large(rng: &mut Rng, tallies: &mut Tallies) {
     let more = inputs::keeping(rng, MAX_WORDS + 1);
     let few = inputs::keeping(rng, 3);
     let crowded = Keeping {
-        protected: more.basis.words[..4 * (MAX_WORDS + 1)].to_vec(),
+        protected: more.basis.words[..WORD_LANES * (MAX_WORDS + 1)].to_vec(),
         ..few
     };
     for keeping in [&more, &crowded] {
@@ -329,7 +330,7 @@ fn known(tallies: &mut Tallies) {
         |texts: &[&str]| -> Vec<u64> { texts.iter().flat_map(|text| word(text).lanes()).collect() };
     let basis = |texts: &[&str], coeffs: &[f64], places: usize| {
         let mut words = lanes(texts);
-        words.resize(4 * places, 7);
+        words.resize(WORD_LANES * places, 7);
         let mut coeffs = coeffs.to_vec();
         coeffs.resize(places, f64::NAN);
         let work = || vec![9; 8];

@@ -23,7 +23,7 @@ use crate::port::models::{Lent, Model};
 use crate::published::generators::RustGenerator;
 use crate::rules::actions::MAX_WORDS;
 use crate::rules::generators::{self as rules, Acts, Entries, Entry, by_rows, offsets};
-use crate::rules::{refusal, word_of};
+use crate::rules::{MAX_QUBITS, refusal, word_of};
 
 /// One in so many cases has something wrong.
 const SPOILT: usize = 3;
@@ -250,8 +250,8 @@ fn sizes(rng: &mut Rng, tally: &mut Tally) {
     let ends = [
         0,
         1,
-        128,
-        129,
+        MAX_QUBITS,
+        MAX_QUBITS + 1,
         MAX_WORDS,
         1 << 32,
         (1 << 32) + 1,

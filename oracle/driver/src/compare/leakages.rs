@@ -31,7 +31,7 @@ use crate::rules::leakages::{
     self as rules, Acting, Course, Places, outside, threshold, word_limit,
 };
 use crate::rules::models::Complex;
-use crate::rules::{refusal, word_of};
+use crate::rules::{MAX_QUBITS, refusal, word_of};
 
 /// One in so many small cases has something wrong.
 const SPOILT: usize = 3;
@@ -396,8 +396,8 @@ fn sizes(rng: &mut Rng, tally: &mut Tally) {
         0 => rng.pick(&[
             0,
             1,
-            128,
-            129,
+            MAX_QUBITS,
+            MAX_QUBITS + 1,
             MAX_WORDS,
             1 << 32,
             (1 << 32) - 1,

@@ -14,9 +14,9 @@ use super::{Answers, Tally};
 use crate::inputs::Rng;
 use crate::inputs::matrices::{self as inputs, Matrix};
 use crate::inputs::models::{self as model_inputs, Items};
-use crate::port::Status;
 use crate::port::matrices::{self as port, Given};
 use crate::port::models::{Built, Lent, Model, Sizes, matrix_sizes};
+use crate::port::{Status, WORD_LANES};
 use crate::published::matrices::RustMatrix;
 use crate::rules::models::{Complex, MAX_JUMPS, MAX_OPERATORS, MAX_TERMS};
 use crate::rules::{matrices as rules, refusal};
@@ -213,7 +213,7 @@ fn add(
     };
     let input = || {
         let Standing { model, lent, .. } = standing;
-        let lent = [lent.jumps.len() / 8, lent.t_words.len() / 4];
+        let lent = [lent.jumps.len() / 8, lent.t_words.len() / WORD_LANES];
         format!("{matrix:?} to {model:?}, places {lent:?}, given {given:?}")
     };
     let size = matrix.size() + model.jumps;
@@ -283,7 +283,7 @@ fn small(rng: &mut Rng, tallies: &mut Tallies) {
         let terms = outcome.built.model.terms;
         for terms in [Some(terms), terms.checked_sub(1)].into_iter().flatten() {
             let sizes = Sizes {
-                t_words: 4 * terms,
+                t_words: WORD_LANES * terms,
                 t_numbers: 2 * terms,
                 ..enough.lent.sizes()
             };

@@ -11,8 +11,8 @@
 use super::{Answers, Tally};
 use crate::inputs::Rng;
 use crate::inputs::models::{self as inputs, Items};
-use crate::port::Status;
 use crate::port::models::{self as port, Built, Given, Lent, Model, Sizes};
+use crate::port::{Status, WORD_LANES};
 use crate::published::models::RustItems;
 use crate::rules::MAX_QUBITS;
 use crate::rules::matrices::work_places;
@@ -175,9 +175,9 @@ fn build(tallies: &mut Tallies, items: &Items, given: &Given, sound: bool, lent:
     };
     let input = || {
         let lent = [
-            lent.h_words.len() / 4,
+            lent.h_words.len() / WORD_LANES,
             lent.jumps.len() / 8,
-            lent.t_words.len() / 4,
+            lent.t_words.len() / WORD_LANES,
         ];
         format!("{items:?}, places {lent:?}, given {given:?}")
     };
@@ -224,7 +224,7 @@ fn build_small(rng: &mut Rng, tallies: &mut Tallies) {
 
     let terms = built.model.terms;
     let places = |terms: usize| Sizes {
-        t_words: 4 * terms,
+        t_words: WORD_LANES * terms,
         t_numbers: 2 * terms,
         ..enough
     };
@@ -267,13 +267,13 @@ fn build_large(rng: &mut Rng, tallies: &mut Tallies) {
 fn sizes(rng: &mut Rng, cases: usize) -> Tally {
     let mut tally = Tally::new("model sizes");
     let lengths = |hamiltonian, entries, terms, work| Sizes {
-        h_words: 4 * hamiltonian,
+        h_words: WORD_LANES * hamiltonian,
         h_coeffs: hamiltonian,
         jumps: 8 * entries,
         rates: entries,
-        t_words: 4 * terms,
+        t_words: WORD_LANES * terms,
         t_numbers: 2 * terms,
-        work_words: 4 * work,
+        work_words: WORD_LANES * work,
         work_numbers: 2 * work,
     };
     let count = |rng: &mut Rng, limit: usize| match rng.below(3) {

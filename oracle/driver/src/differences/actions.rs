@@ -8,6 +8,7 @@ use super::{
 };
 use crate::compare::standing::Standing;
 use crate::inputs::matrices::Matrix;
+use crate::port::WORD_LANES;
 use crate::port::actions::{Room, compute_action_terms};
 use crate::published::actions as published;
 use crate::rules::word_of;
@@ -66,9 +67,9 @@ pub fn cases() -> Vec<Case> {
 /// The port's action in tables of so many places.
 fn by_port(standing: &Standing, text: &str, touched: usize, listed: usize) -> String {
     let mut room = Room {
-        work_words: vec![0; 4 * touched],
+        work_words: vec![0; WORD_LANES * touched],
         work_sums: vec![0.0; 2 * touched],
-        out_words: vec![0; 4 * listed],
+        out_words: vec![0; WORD_LANES * listed],
         out_values: vec![0.0; listed],
     };
     let p = word_of(text.as_bytes());

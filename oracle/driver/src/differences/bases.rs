@@ -5,8 +5,8 @@
 
 use super::{CANNOT, Case, answer, list};
 use crate::inputs::bases::lanes_of;
-use crate::port::Word;
 use crate::port::bases::{Basis, Kept, add_leakage_capped, cap_basis, prune_basis};
+use crate::port::{WORD_LANES, Word};
 use crate::published::bases::RustBasis;
 use crate::rules::word_of;
 
@@ -72,7 +72,7 @@ pub fn cases() -> Vec<Case> {
 fn lent(entries: &[(Word, f64)], places: usize, work: usize) -> Basis {
     let (words, mut coeffs): (Vec<Word>, Vec<f64>) = entries.iter().copied().unzip();
     let mut words = lanes_of(&words);
-    words.resize(4 * places, 0);
+    words.resize(WORD_LANES * places, 0);
     coeffs.resize(places, 0.0);
     let work = || vec![0; work];
     Basis {

@@ -6,8 +6,8 @@
 use super::matrices::{Matrix, set};
 use super::models::{Items, number};
 use super::{EDGES, LANE_ENDS, Rng, letters, neighbour, word};
-use crate::port::Word;
 use crate::port::actions::{CountRoom, Room};
+use crate::port::{WORD_LANES, Word};
 use crate::rules::actions::ROW_LANES;
 use crate::rules::models::{Complex, MAX_TERMS};
 use crate::rules::{MAX_QUBITS, letters_of, word_of};
@@ -360,7 +360,7 @@ pub fn words(rng: &mut Rng, items: &Items, matrices: &[Matrix], count: usize) ->
     (0..count).map(&mut word).collect()
 }
 
-/// A word with a letter at or above the register, which must have less than 128 qubits.
+/// A word with a letter at or above the register, which must have fewer qubits than it can.
 pub fn outside(rng: &mut Rng, n_qubits: usize) -> Word {
     let mut letters = letters_of(word(rng, MAX_QUBITS));
     let qubit = match rng.below(2) {
@@ -374,7 +374,7 @@ pub fn outside(rng: &mut Rng, n_qubits: usize) -> Word {
 /// Tables with so many places for sums and for the list, one slice of each perhaps longer, with
 /// something in them already.
 pub fn room(rng: &mut Rng, sums: usize, list: usize) -> Room {
-    let mut lengths = [4 * sums, 2 * sums, 4 * list, list];
+    let mut lengths = [WORD_LANES * sums, 2 * sums, WORD_LANES * list, list];
     lengths[rng.below(2)] += rng.below(9);
     lengths[2 + rng.below(2)] += rng.below(9);
     let [work_words, work_sums, out_words, out_values] = lengths;
@@ -401,7 +401,7 @@ pub(super) fn numbers(length: usize) -> Vec<f64> {
 /// longer and, where `short`, one too short, with something in them already.
 pub fn count_room(rng: &mut Rng, n_qubits: usize, sums: usize, short: bool) -> CountRoom {
     let index = ROW_LANES * n_qubits;
-    let mut lengths = [index, index, ROW_LANES, 4 * sums, 2 * sums];
+    let mut lengths = [index, index, ROW_LANES, WORD_LANES * sums, 2 * sums];
     lengths[3 + rng.below(2)] += rng.below(9);
     let table = rng.below(3);
     lengths[table] = match (short, rng.below(3)) {

@@ -9,8 +9,8 @@
 
 use super::actions::{lanes, local_letters, numbers, outside, plain, wide};
 use super::{EDGES, Rng, neighbour, word};
-use crate::port::Word;
 use crate::port::bases::{Basis, BasisSizes};
+use crate::port::{WORD_LANES, Word, set_word};
 use crate::rules::actions::MAX_WORDS;
 use crate::rules::bases::basis_sizes;
 use crate::rules::{MAX_QUBITS, word_of};
@@ -85,9 +85,10 @@ fn drawn(rng: &mut Rng, n_qubits: usize) -> Word {
             _ => rng.next() & ((1 << letters) - 1),
         }
     };
+    let mut lanes = || std::array::from_fn(|i| lane(64 * i));
     Word {
-        x: [lane(0), lane(64)],
-        z: [lane(0), lane(64)],
+        x: lanes(),
+        z: lanes(),
     }
 }
 
@@ -144,8 +145,12 @@ pub fn lanes_of(words: &[Word]) -> Vec<u64> {
 
 /// How many entries of a basis are protected, the basis sound.
 fn protected_positions(keeping: &Keeping) -> usize {
-    let protected: Vec<&[u64]> = keeping.protected.chunks_exact(4).collect();
-    let entries = keeping.basis.words.chunks_exact(4).take(keeping.len);
+    let protected: Vec<&[u64]> = keeping.protected.chunks_exact(WORD_LANES).collect();
+    let entries = keeping
+        .basis
+        .words
+        .chunks_exact(WORD_LANES)
+        .take(keeping.len);
     match protected.len() * keeping.len > MANY * MANY {
         true => 0,
         false => entries.filter(|lanes| protected.contains(lanes)).count(),
@@ -203,7 +208,7 @@ fn lent(rng: &mut Rng, entries: &[Word], coeffs: &[f64], spare: usize, work: Bas
         1 => (rng.below(3), 0),
         _ => (0, 0),
     };
-    words.extend(lanes(rng, 4 * spare + lanes_more));
+    words.extend(lanes(rng, WORD_LANES * spare + lanes_more));
     coeffs.extend(numbers(spare + more));
     let mut lengths = [work.order, work.work, work.fixed, work.kept];
     if rng.one_in(2) {
@@ -290,11 +295,11 @@ pub fn small_admission(rng: &mut Rng) -> Admission {
 
 /// Puts a word outside of the register somewhere in a table of words.
 pub(super) fn put_outside(rng: &mut Rng, n_qubits: usize, lanes: &mut [u64]) {
-    let places = lanes.len() / 4;
+    let places = lanes.len() / WORD_LANES;
     if places > 0 && n_qubits < MAX_QUBITS {
         let place = rng.below(places);
         let w = outside(rng, n_qubits);
-        lanes[4 * place..4 * place + 4].copy_from_slice(&w.lanes());
+        set_word(lanes, place, w);
     }
 }
 
@@ -326,7 +331,7 @@ fn spoil_basis(
     match rng.below(9) {
         0 => *n_qubits = rng.pick(&[MAX_QUBITS + 1, 1 << 40, usize::MAX]),
         1 => *len = rng.pick(&[MAX_WORDS + 1, usize::MAX, places + 1, MAX_WORDS]),
-        2 => shorten(rng, &mut basis.words, 4 * places),
+        2 => shorten(rng, &mut basis.words, WORD_LANES * places),
         3 => shorten(rng, &mut basis.coeffs, places),
         4 => match rng.below(4) {
             0 => shorten(rng, &mut basis.order, needed.order),
@@ -358,7 +363,7 @@ pub fn spoil_keeping(rng: &mut Rng, keeping: &mut Keeping) {
         0 => cut(rng, protected),
         1 => put_outside(rng, *n_qubits, protected),
         _ => {
-            let needed = basis_sizes(*len, protected.len() / 4, 0);
+            let needed = basis_sizes(*len, protected.len() / WORD_LANES, 0);
             spoil_basis(rng, n_qubits, len, needed, basis);
         }
     }
@@ -385,7 +390,7 @@ pub fn spoil_admission(rng: &mut Rng, admission: &mut Admission) {
             let more = limit.saturating_sub(*len).min(values.len());
             let places = (*len + more).saturating_sub(rng.below(more + 1));
             match rng.below(2) {
-                0 => basis.words.truncate(4 * places),
+                0 => basis.words.truncate(WORD_LANES * places),
                 _ => basis.coeffs.truncate(places),
             }
         }

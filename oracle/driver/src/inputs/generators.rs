@@ -8,8 +8,8 @@ use super::actions::{self, lanes, numbers};
 use super::bases::{lanes_of, put_outside, shorten, small};
 use super::matrices::Matrix;
 use super::models::Items;
-use crate::port::Word;
 use crate::port::generators::{GeneratorRoom, GeneratorSizes};
+use crate::port::{WORD_LANES, Word};
 use crate::rules::actions::MAX_WORDS;
 use crate::rules::generators::generator_sizes;
 use std::collections::BTreeSet;
@@ -143,8 +143,8 @@ pub fn spoil(
     match rng.below(12) {
         0 => *len = other_len(rng, places),
         1 => put_outside(rng, n_qubits, words),
-        2 => shorten(rng, words, 4 * places),
-        3..=6 if places > 1 && words.len() >= 4 * places => repeat(rng, words, places),
+        2 => shorten(rng, words, WORD_LANES * places),
+        3..=6 if places > 1 && words.len() >= WORD_LANES * places => repeat(rng, words, places),
         _ => match rng.below(6) {
             0 => shorten(rng, &mut room.h_index, rows),
             1 => shorten(rng, &mut room.j_index, rows),
@@ -160,6 +160,6 @@ pub fn spoil(
 fn repeat(rng: &mut Rng, words: &mut [u64], places: usize) {
     for _ in 0..=rng.below(2) {
         let (from, to) = (rng.below(places), rng.below(places));
-        words.copy_within(4 * from..4 * from + 4, 4 * to);
+        words.copy_within(WORD_LANES * from..WORD_LANES * (from + 1), WORD_LANES * to);
     }
 }

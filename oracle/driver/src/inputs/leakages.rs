@@ -12,8 +12,8 @@ use super::bases::{
 };
 use super::matrices::Matrix;
 use super::models::Items;
-use crate::port::Word;
 use crate::port::leakages::{Given, LeakRoom, LeakageSizes, Limits};
+use crate::port::{WORD_LANES, Word};
 use crate::rules::actions::MAX_WORDS;
 use crate::rules::leakages::{Places, leakage_sizes};
 use crate::rules::{MAX_QUBITS, pauli_mul, word_of};
@@ -160,7 +160,7 @@ pub fn room(rng: &mut Rng, n_qubits: usize, given: &Given, places: Places) -> Le
         held,
         listed,
     } = places;
-    let protected = given.protected.len() / 4;
+    let protected = given.protected.len() / WORD_LANES;
     let needed = leakage_sizes(n_qubits, given.len, protected, touched, held);
     let mut more = |least: usize| least + rng.pick(&[0, 0, 0, 1, 3, 100]);
     let (log, order) = (more(touched), more(touched.max(held)));
@@ -171,7 +171,7 @@ pub fn room(rng: &mut Rng, n_qubits: usize, given: &Given, places: Places) -> Le
         order: more(needed.order),
         heads: more(given.len),
         fixed_heads: more(protected),
-        log_words: more(4 * log),
+        log_words: more(WORD_LANES * log),
         log_values: more(log),
         cand_sums: more(needed.cand_sums),
         next_words: more(needed.next_words),
@@ -180,7 +180,7 @@ pub fn room(rng: &mut Rng, n_qubits: usize, given: &Given, places: Places) -> Le
         place_kept: more(needed.place_kept),
         ..needed
     };
-    let (out_words, out_values) = (more(4 * listed), more(listed));
+    let (out_words, out_values) = (more(WORD_LANES * listed), more(listed));
     filled(rng, lengths, out_words, out_values)
 }
 
@@ -236,10 +236,10 @@ pub fn spoil(rng: &mut Rng, n_qubits: usize, given: &mut Given, room: &mut LeakR
         5 => put_outside(rng, n_qubits, protected),
         6 => put_outside(rng, n_qubits, words),
         7 => put_not_finite(rng, coeffs),
-        8 => shorten(rng, words, 4 * places),
+        8 => shorten(rng, words, WORD_LANES * places),
         9 => shorten(rng, coeffs, places),
         _ => {
-            let count = protected.len() / 4;
+            let count = protected.len() / WORD_LANES;
             let rows = leakage_sizes(n_qubits, 0, 0, 0, 0).h_index;
             match rng.below(8) {
                 0 => shorten(rng, &mut room.h_index, rows),

@@ -5,6 +5,7 @@
 
 use super::Rng;
 use super::models::{alter, change, number, operator, plain_text, spoil_text, wrong_number};
+use crate::port::WORD_LANES;
 use crate::port::matrices::Given;
 use crate::port::models::{Lent, Model, Sizes};
 use crate::rules::models::{Complex, MAX_OPERATORS, MAX_TERMS};
@@ -267,11 +268,11 @@ pub fn spoil_lengths(rng: &mut Rng, given: &mut Given) {
 /// The lengths that are enough for a model and what a matrix adds to it.
 pub fn enough(model: Model, added: Sizes) -> Sizes {
     Sizes {
-        h_words: 4 * model.hamiltonian,
+        h_words: WORD_LANES * model.hamiltonian,
         h_coeffs: model.hamiltonian,
         jumps: 8 * model.jumps + added.jumps,
         rates: model.jumps + added.rates,
-        t_words: 4 * model.terms + added.t_words,
+        t_words: WORD_LANES * model.terms + added.t_words,
         t_numbers: 2 * model.terms + added.t_numbers,
         ..added
     }

@@ -5,6 +5,7 @@
 //! models that were damaged after they were built.
 
 use super::{EDGES, Rng, damage, letters};
+use crate::port::WORD_LANES;
 use crate::port::models::{Given, Lent, Model, Sizes};
 use crate::rules::MAX_QUBITS;
 use crate::rules::models::{Complex, MAX_HAMILTONIAN, MAX_JUMPS, MAX_TERMS};
@@ -100,8 +101,8 @@ pub(super) fn operator(rng: &mut Rng, n_qubits: usize, count: usize) -> Vec<(Vec
 /// Items without anything wrong.
 pub fn sound(rng: &mut Rng) -> Items {
     let n_qubits = match rng.below(4) {
-        0 => rng.pick(&EDGES).min(128),
-        1 => rng.below(129),
+        0 => rng.pick(&EDGES).min(MAX_QUBITS),
+        1 => rng.below(MAX_QUBITS + 1),
         _ => rng.below(6),
     };
     let hamiltonian = (0..rng.below(5))
@@ -264,13 +265,13 @@ pub fn lent(rng: &mut Rng, sizes: Sizes) -> Lent {
 /// One slice a place or one number shorter, or longer.
 pub fn other_length(rng: &mut Rng, sizes: &mut Sizes) {
     let (length, place) = match rng.below(8) {
-        0 => (&mut sizes.h_words, 4),
+        0 => (&mut sizes.h_words, WORD_LANES),
         1 => (&mut sizes.h_coeffs, 1),
         2 => (&mut sizes.jumps, 8),
         3 => (&mut sizes.rates, 1),
-        4 => (&mut sizes.t_words, 4),
+        4 => (&mut sizes.t_words, WORD_LANES),
         5 => (&mut sizes.t_numbers, 2),
-        6 => (&mut sizes.work_words, 4),
+        6 => (&mut sizes.work_words, WORD_LANES),
         _ => (&mut sizes.work_numbers, 2),
     };
     *length = match rng.below(4) {
@@ -304,7 +305,7 @@ fn spoil_counts(rng: &mut Rng, model: &mut Model) {
         _ => rng.next() as usize,
     };
     match rng.below(4) {
-        0 => model.qubits = near(rng, model.qubits, 128),
+        0 => model.qubits = near(rng, model.qubits, MAX_QUBITS),
         1 => model.hamiltonian = near(rng, model.hamiltonian, 4096),
         2 => model.jumps = near(rng, model.jumps, 4096),
         _ => model.terms = near(rng, model.terms, 0),

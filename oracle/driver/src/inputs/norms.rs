@@ -7,6 +7,7 @@ use super::Rng;
 use super::actions::{lanes, numbers, plain, wide};
 use super::bases::{NOT_FINITE, put_outside, shorten};
 use super::generators::other_len;
+use crate::port::WORD_LANES;
 use crate::port::norms::NormRoom;
 use crate::rules::generators::generator_sizes;
 use crate::rules::norms::{LOOSE_FROM, THETA, THETA_LOOSE};
@@ -105,7 +106,7 @@ pub fn spoil(
     match rng.below(10) {
         0 => *len = other_len(rng, places),
         1 | 2 => put_outside(rng, n_qubits, words),
-        3 => shorten(rng, words, 4 * places),
+        3 => shorten(rng, words, WORD_LANES * places),
         4 => step.0 = rng.pick(&NOT_FINITE),
         5 => step.1 = rng.pick(&NOT_FINITE),
         _ => match rng.below(5) {

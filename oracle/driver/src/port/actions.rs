@@ -4,7 +4,7 @@
 //! The action of a model on a word.
 
 use super::models::{Lent, Model};
-use super::{Status, Word};
+use super::{Status, WORD_LANES, Word};
 use std::fmt::{Debug, Formatter};
 
 #[repr(C)]
@@ -37,7 +37,7 @@ impl Room {
 
     /// The first words of the list with their values.
     pub fn list(&self, count: usize) -> Vec<(Word, f64)> {
-        let words = self.out_words.chunks_exact(4).map(Word::of);
+        let words = self.out_words.chunks_exact(WORD_LANES).map(Word::of);
         words.zip(self.out_values.clone()).take(count).collect()
     }
 }

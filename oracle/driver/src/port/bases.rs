@@ -3,7 +3,7 @@
 
 //! Calls on a lent basis.
 
-use super::{Status, Word};
+use super::{Status, WORD_LANES, Word};
 use std::fmt::{Debug, Formatter};
 
 #[repr(C)]
@@ -52,7 +52,7 @@ impl Basis {
 
     /// The first entries, as many as both slices have at most.
     pub fn entries(&self, count: usize) -> Vec<(Word, f64)> {
-        let words = self.words.chunks_exact(4).map(Word::of);
+        let words = self.words.chunks_exact(WORD_LANES).map(Word::of);
         words.zip(self.coeffs.iter().copied()).take(count).collect()
     }
 }

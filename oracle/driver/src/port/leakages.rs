@@ -3,9 +3,9 @@
 
 //! Leakage out of a lent basis.
 
-use super::Word;
 use super::actions::Listed;
 use super::models::{Lent, Model};
+use super::{WORD_LANES, Word};
 use std::fmt::{Debug, Formatter};
 
 #[repr(C)]
@@ -102,7 +102,7 @@ impl LeakRoom {
             place_order: vec![0; lengths.place_order],
             place_work: vec![0; lengths.place_work],
             place_kept: vec![0; lengths.place_kept],
-            out_words: vec![0; 4 * listed],
+            out_words: vec![0; WORD_LANES * listed],
             out_values: vec![0.0; listed],
         }
     }
@@ -195,7 +195,7 @@ impl LeakRoom {
 
     /// The first words of the list with their sums.
     pub fn list(&self, count: usize) -> Vec<(Word, f64)> {
-        let words = self.out_words.chunks_exact(4).map(Word::of);
+        let words = self.out_words.chunks_exact(WORD_LANES).map(Word::of);
         words.zip(self.out_values.clone()).take(count).collect()
     }
 }

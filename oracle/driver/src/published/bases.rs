@@ -14,7 +14,7 @@ pub struct RustBasis {
     pub(super) coeffs: Vec<f64>,
 }
 
-/// Words for the Rust, in a register of at most 128 qubits.
+/// Words for the Rust, in a register that is accepted.
 pub fn rust_words(n_qubits: usize, words: &[Word]) -> Vec<RustWord> {
     words.iter().map(|&w| rust_word(n_qubits, w)).collect()
 }

@@ -5,12 +5,12 @@
 
 use super::{parse_pauli_string, status};
 use crate::inputs::models::Items;
-use crate::port::Status;
+use crate::port::{LANES, Status};
 use num::Complex;
-use ppvm_lindblad::{Error, JumpInput, LindbladSpec, W_CHUNKS};
+use ppvm_lindblad::{Error, JumpInput, LindbladSpec};
 
-/// The published model, two chunks wide.
-pub type RustModel = LindbladSpec<W_CHUNKS>;
+/// The published model, with as many chunks.
+pub type RustModel = LindbladSpec<LANES>;
 
 /// Items as the Rust takes them.
 pub struct RustItems {

@@ -6,12 +6,12 @@
 use super::Line;
 use crate::inputs::Rng;
 use crate::inputs::bases::{self as inputs, Admission, Keeping};
-use crate::port::Word;
 use crate::port::bases::{Basis, Kept};
+use crate::port::{WORD_LANES, Word};
 use crate::published::bases::{RustBasis, rust_words};
 use crate::rules::actions::MAX_WORDS;
 use crate::rules::bases as rules;
-use crate::rules::word_of;
+use crate::rules::{MAX_QUBITS, word_of};
 
 /// The kinds of the calls, and that of answers which the Rust does not give.
 const PRUNE: u64 = 12;
@@ -153,7 +153,7 @@ impl Case {
         if kept.status.refusal != 0 {
             return false;
         }
-        let given: Vec<Word> = self.given.chunks_exact(4).map(Word::of).collect();
+        let given: Vec<Word> = self.given.chunks_exact(WORD_LANES).map(Word::of).collect();
         let mut rust = RustBasis::new(self.n_qubits, &self.basis.entries(self.len));
         let limit = self.parameter as usize;
         match self.call {
@@ -377,7 +377,7 @@ fn not_of_the_rust(rng: &mut Rng, cases: usize) {
             list.push(case);
         }
     };
-    spoilt(&|case| case.n_qubits = 129);
+    spoilt(&|case| case.n_qubits = MAX_QUBITS + 1);
     spoilt(&|case| case.len = MAX_WORDS + 1);
     spoilt(&|case| case.basis.coeffs[0] = f64::INFINITY);
     spoilt(&|case| case.given[1] = 1);

@@ -12,9 +12,9 @@ use crate::inputs::bases::lanes_of;
 use crate::inputs::generators as inputs;
 use crate::inputs::models::Items;
 use crate::inputs::norms as norm_inputs;
-use crate::port::Word;
 use crate::port::generators::GeneratorRoom;
 use crate::port::norms::{Degree, NormRoom};
+use crate::port::{WORD_LANES, Word};
 use crate::published::generators::RustGenerator;
 use crate::published::norms::{has_norm, partition};
 use crate::rules::generators::{
@@ -209,7 +209,7 @@ impl Case {
                     h_index: vec![0; 64 * MAX_QUBITS],
                     j_index: vec![0; 64 * MAX_QUBITS],
                     mask: vec![0; 64],
-                    work_words: vec![0; 4 * self.touched],
+                    work_words: vec![0; WORD_LANES * self.touched],
                     work_sums: vec![0.0; 2 * self.touched],
                     raws: vec![0.0; self.words.len()],
                     diags: vec![0.0; self.words.len()],

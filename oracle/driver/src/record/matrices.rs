@@ -11,6 +11,7 @@ use super::models::{TERM_PLACES, line};
 use crate::inputs::Rng;
 use crate::inputs::matrices::{self as inputs, Matrix};
 use crate::inputs::models::{self as model_inputs, Items};
+use crate::port::WORD_LANES;
 use crate::port::matrices::Given;
 use crate::port::models::{self as port, Built, Lent, Model, Sizes};
 use crate::published::matrices::RustMatrix;
@@ -93,9 +94,9 @@ impl Case {
         let sizes = inputs::enough(model, added);
         let work = 256 + TERMS;
         Sizes {
-            t_words: sizes.t_words.min(4 * term_places),
+            t_words: sizes.t_words.min(WORD_LANES * term_places),
             t_numbers: sizes.t_numbers.min(2 * term_places),
-            work_words: 4 * work,
+            work_words: WORD_LANES * work,
             work_numbers: 2 * work,
             ..sizes
         }

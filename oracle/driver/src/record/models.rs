@@ -6,6 +6,7 @@
 use super::Line;
 use crate::inputs::Rng;
 use crate::inputs::models::{self as inputs, Items};
+use crate::port::WORD_LANES;
 use crate::port::models::{self as port, Built, Given, Lent, Sizes};
 use crate::published::models::RustItems;
 use crate::rules::models as rules;
@@ -56,7 +57,7 @@ fn items(rng: &mut Rng) -> Items {
 fn enough(given: &Given, items: &Items) -> Sizes {
     let sizes = port::model_sizes(given.h_numbers.len(), given.rates.len(), items.longest());
     Sizes {
-        t_words: sizes.t_words.min(4 * TERM_PLACES),
+        t_words: sizes.t_words.min(WORD_LANES * TERM_PLACES),
         t_numbers: sizes.t_numbers.min(2 * TERM_PLACES),
         ..sizes
     }

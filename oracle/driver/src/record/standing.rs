@@ -10,6 +10,7 @@ use crate::inputs::Rng;
 use crate::inputs::actions as inputs;
 use crate::inputs::matrices::Matrix;
 use crate::inputs::models::{self as model_inputs, Items};
+use crate::port::WORD_LANES;
 use crate::port::models::{Lent, Model, Sizes, model_sizes};
 use crate::published::matrices::model as rust_model;
 use crate::published::models::RustModel;
@@ -34,7 +35,7 @@ impl Standing {
         let given = items.flat();
         let sizes = model_sizes(items.hamiltonian.len(), items.jumps.len(), items.longest());
         let sizes = Sizes {
-            t_words: sizes.t_words.min(4 * TERM_PLACES),
+            t_words: sizes.t_words.min(WORD_LANES * TERM_PLACES),
             t_numbers: sizes.t_numbers.min(2 * TERM_PLACES),
             ..sizes
         };

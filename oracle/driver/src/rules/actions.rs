@@ -4,13 +4,13 @@
 //! The action of a lent model on a word: the rules over what is stored.
 
 use super::models::{
-    Answer, Complex, Sums, Term, at_most, conjugate, equal, lay_word, lent_places, phase_factor,
-    refuse, tested, times, word_at,
+    Answer, Complex, Sums, Term, at_most, conjugate, equal, lent_places, phase_factor, refuse,
+    tested, times,
 };
 use super::{comm_product, fits_register, pauli_mul, refusal, shares_qubit};
 use crate::port::actions::{CountRoom, Counted, Listed, Room};
 use crate::port::models::{Lent, Model};
-use crate::port::{Status, Word};
+use crate::port::{Status, WORD_LANES, Word, set_word, word_at};
 use std::ops::Range;
 
 /// The tables of words touched and of entries listed, as 13 names them.
@@ -248,7 +248,7 @@ pub fn places(model: Model, lent: &Lent, p: Word) -> Option<(usize, usize)> {
 }
 
 pub(super) fn sum_places(words: &[u64], sums: &[f64]) -> usize {
-    (words.len() / 4).min(sums.len() / 2)
+    (words.len() / WORD_LANES).min(sums.len() / 2)
 }
 
 pub fn compute_action_terms(model: Model, lent: &Lent, p: Word, room: &mut Room) -> Listed {
@@ -258,7 +258,7 @@ pub fn compute_action_terms(model: Model, lent: &Lent, p: Word, room: &mut Room)
         Err(status) => return refused(status),
     };
     let sum_places = sum_places(&room.work_words, &room.work_sums);
-    let list_places = (room.out_words.len() / 4).min(room.out_values.len());
+    let list_places = (room.out_words.len() / WORD_LANES).min(room.out_values.len());
     room.work_words.fill(0);
     room.work_sums.fill(0.0);
     if sums.len() > sum_places {
@@ -269,7 +269,7 @@ pub fn compute_action_terms(model: Model, lent: &Lent, p: Word, room: &mut Room)
         return refused(refusal(13, LIST_TABLE, list_places));
     }
     for (place, term) in listed.iter().enumerate() {
-        lay_word(&mut room.out_words, place, term.word);
+        set_word(&mut room.out_words, place, term.word);
         room.out_values[place] = term.number.0;
     }
     Listed {
@@ -286,9 +286,9 @@ pub(super) fn where_any(words: usize, places: usize) -> usize {
 /// All tests of counting but 13.
 fn counted(model: Model, lent: &Lent, words: &[u64], room: &CountRoom) -> Answer<Vec<Word>> {
     tested(model, lent)?;
-    let count = words.len() / 4;
+    let count = words.len() / WORD_LANES;
     at_most(MAX_WORDS, count)?;
-    equal(4 * count, words.len())?;
+    equal(WORD_LANES * count, words.len())?;
     let rows = where_any(count, ROW_LANES * model.qubits);
     lent_places(rows, room.h_index.len())?;
     lent_places(rows, room.j_index.len())?;

@@ -4,10 +4,10 @@
 //! Prune, cap and admission on a lent basis, entry by entry.
 
 use super::actions::{LIST_TABLE, MAX_WORDS, where_any};
-use super::models::{Answer, at_most, equal, lay_word, lent_places, refuse, word_at};
+use super::models::{Answer, at_most, equal, lent_places, refuse};
 use super::{MAX_QUBITS, fits_register, refusal};
 use crate::port::bases::{Basis, BasisSizes, Kept};
-use crate::port::{Status, Word};
+use crate::port::{Status, WORD_LANES, Word, set_word, word_at};
 use std::collections::BTreeSet;
 
 /// The lengths of work tables that are enough.
@@ -32,13 +32,13 @@ fn register(n: usize) -> Answer<()> {
 
 /// The basis has as many places as it is said to have in use.
 fn in_use(len: usize, basis: &Basis) -> Answer<()> {
-    lent_places(len, basis.words.len() / 4)?;
+    lent_places(len, basis.words.len() / WORD_LANES)?;
     lent_places(len, basis.coeffs.len())
 }
 
 /// A list of whole words.
 pub(super) fn whole_words(lanes: &[u64]) -> Answer<()> {
-    equal(lanes.len() / 4 * 4, lanes.len())
+    equal(lanes.len() / WORD_LANES * WORD_LANES, lanes.len())
 }
 
 /// The first so many words.
@@ -72,7 +72,7 @@ fn keeping_tested(
     basis: &Basis,
 ) -> Answer<(Vec<Word>, Vec<Word>)> {
     register(n)?;
-    let count = protected.len() / 4;
+    let count = protected.len() / WORD_LANES;
     at_most(MAX_WORDS, len)?;
     at_most(MAX_WORDS, count)?;
     at_most(MAX_WORDS, limit.unwrap_or(0))?;
@@ -101,7 +101,7 @@ fn admission_tested(
     basis: &Basis,
 ) -> Answer<Vec<Word>> {
     register(n)?;
-    let count = list.len() / 4;
+    let count = list.len() / WORD_LANES;
     at_most(MAX_WORDS, len)?;
     at_most(MAX_WORDS, count)?;
     at_most(MAX_WORDS, limit)?;
@@ -155,7 +155,7 @@ fn keep(basis: &mut Basis, entries: &[Word], positions: impl Iterator<Item = usi
     basis.words.fill(0);
     basis.coeffs.fill(0.0);
     for (place, (word, coefficient)) in stay.iter().enumerate() {
-        lay_word(&mut basis.words, place, *word);
+        set_word(&mut basis.words, place, *word);
         basis.coeffs[place] = *coefficient;
     }
     stay.len()
@@ -163,7 +163,7 @@ fn keep(basis: &mut Basis, entries: &[Word], positions: impl Iterator<Item = usi
 
 /// Whether each entry is protected.
 fn protection(entries: &[Word], protected: &[Word]) -> Vec<bool> {
-    let protected: BTreeSet<[u64; 4]> = protected.iter().map(|w| w.lanes()).collect();
+    let protected: BTreeSet<[u64; WORD_LANES]> = protected.iter().map(|w| w.lanes()).collect();
     let is_protected = |w: &Word| protected.contains(&w.lanes());
     entries.iter().map(is_protected).collect()
 }
@@ -229,12 +229,12 @@ pub fn add_leakage_capped(
         table.fill(0);
     }
     let appended = admitted(values, len, limit);
-    let places = (basis.words.len() / 4).min(basis.coeffs.len());
+    let places = (basis.words.len() / WORD_LANES).min(basis.coeffs.len());
     if len + appended.len() > places {
         return refused(refusal(13, LIST_TABLE, places));
     }
     for (more, &place) in appended.iter().enumerate() {
-        lay_word(&mut basis.words, len + more, listed[place]);
+        set_word(&mut basis.words, len + more, listed[place]);
         basis.coeffs[len + more] = 0.0;
     }
     accepted(len + appended.len())

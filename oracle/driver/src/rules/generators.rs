@@ -10,7 +10,7 @@ use super::{MAX_QUBITS, leakages::MAX_PLACES};
 use crate::port::actions::Listed;
 use crate::port::generators::{GeneratorRoom, GeneratorSizes};
 use crate::port::models::{Lent, Model};
-use crate::port::{Status, Word};
+use crate::port::{Status, WORD_LANES, Word};
 use std::cell::RefCell;
 use std::collections::BTreeMap;
 
@@ -33,7 +33,7 @@ pub fn generator_sizes(
         mask: where_any(words, ROW_LANES),
         heads: 2 * words,
         nexts: words,
-        work_words: 4 * touched,
+        work_words: WORD_LANES * touched,
         work_sums: 2 * touched,
         stage_rows: entries,
         stage_columns: entries,
@@ -48,7 +48,7 @@ type Act = (usize, Vec<(Word, f64)>);
 
 /// The actions of one model, each computed once.
 #[derive(Default)]
-pub struct Acts(RefCell<BTreeMap<[u64; 4], Act>>);
+pub struct Acts(RefCell<BTreeMap<[u64; WORD_LANES], Act>>);
 
 impl Acts {
     /// The actions on these words, the model tested and the words inside its register.
@@ -81,7 +81,8 @@ pub struct Entries {
 /// All entries over distinct words, in tables 1 and 3 of so many places.
 fn entries(acts: &[Act], basis: &[Word], places: [usize; 2]) -> Answer<Entries> {
     let position = |(position, w): (usize, &Word)| (w.lanes(), position);
-    let positions: BTreeMap<[u64; 4], usize> = basis.iter().enumerate().map(position).collect();
+    let positions: BTreeMap<[u64; WORD_LANES], usize> =
+        basis.iter().enumerate().map(position).collect();
     let mut entries = Entries::default();
     for (column, (touched, terms)) in acts.iter().enumerate() {
         if *touched > places[0] {
@@ -132,7 +133,7 @@ fn generator_tested(
 ) -> Answer<Vec<Word>> {
     tested(model, lent)?;
     at_most(MAX_WORDS, len)?;
-    lent_places(len, lanes.len() / 4)?;
+    lent_places(len, lanes.len() / WORD_LANES)?;
     let rows = where_any(len, ROW_LANES * model.qubits);
     lent_places(rows, room.h_index.len())?;
     lent_places(rows, room.j_index.len())?;

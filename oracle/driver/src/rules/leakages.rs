@@ -5,12 +5,12 @@
 
 use super::actions::{LIST_TABLE, MAX_WORDS, ROW_LANES, SUMS_TABLE, acts, where_any};
 use super::bases::{finite, inside, largest, whole_words, words};
-use super::models::{Answer, at_most, lay_word, lent_places, refuse, tested};
+use super::models::{Answer, at_most, lent_places, refuse, tested};
 use super::{MAX_QUBITS, refusal};
 use crate::port::actions::Listed;
 use crate::port::leakages::{Given, LeakRoom, LeakageSizes, Limits};
 use crate::port::models::{Lent, Model};
-use crate::port::{Status, Word};
+use crate::port::{Status, WORD_LANES, Word, set_word};
 use std::collections::{BTreeMap, BTreeSet};
 
 /// The positions of a pass.
@@ -39,18 +39,18 @@ pub fn leakage_sizes(
         h_index: rows,
         j_index: rows,
         mask: where_any(entries, ROW_LANES),
-        work_words: 4 * touched,
+        work_words: WORD_LANES * touched,
         work_sums: 2 * touched,
         order: entries,
         heads: 2 * entries,
         nexts: entries,
         fixed_heads: 2 * protected,
         fixed_nexts: protected,
-        log_words: 4 * both,
+        log_words: WORD_LANES * both,
         log_values: both,
-        cand_words: 4 * candidates,
+        cand_words: WORD_LANES * candidates,
         cand_sums: candidates,
-        next_words: 4 * candidates,
+        next_words: WORD_LANES * candidates,
         next_sums: candidates,
         place_order: both,
         place_work: both,
@@ -89,14 +89,14 @@ fn leakage_tested(
         protected,
         ..
     } = given;
-    let (len, count) = (*len, protected.len() / 4);
+    let (len, count) = (*len, protected.len() / WORD_LANES);
     at_most(MAX_WORDS, len)?;
     at_most(MAX_WORDS, count)?;
     at_most(MAX_WORDS, limits.max_basis)?;
     if limits.admit_given != 0 {
         at_most(MAX_WORDS, limits.admit_basis)?;
     }
-    lent_places(len, given.words.len() / 4)?;
+    lent_places(len, given.words.len() / WORD_LANES)?;
     lent_places(len, given.coeffs.len())?;
     whole_words(protected)?;
     let rows = where_any(len, ROW_LANES * model.qubits);
@@ -163,7 +163,7 @@ pub type Outside<'a> = &'a dyn Fn(Word) -> bool;
 /// Words that are in none of these lists.
 pub fn outside(basis: &[Word], protected: &[Word]) -> impl Fn(Word) -> bool + use<> {
     let known = basis.iter().chain(protected);
-    let known: BTreeSet<[u64; 4]> = known.map(|w| w.lanes()).collect();
+    let known: BTreeSet<[u64; WORD_LANES]> = known.map(|w| w.lanes()).collect();
     move |w| !known.contains(&w.lanes())
 }
 
@@ -171,7 +171,7 @@ pub fn outside(basis: &[Word], protected: &[Word]) -> impl Fn(Word) -> bool + us
 /// the most candidates there were, and whether the room rule ever had to choose between equals.
 #[derive(Default)]
 pub struct Course {
-    sums: BTreeMap<[u64; 4], f64>,
+    sums: BTreeMap<[u64; WORD_LANES], f64>,
     pub touched: usize,
     pub held: usize,
     pub tied: bool,
@@ -240,9 +240,9 @@ pub fn course(acting: &Acting, is_outside: Outside, room: usize) -> Option<Cours
 
 fn sum_places(room: &LeakRoom) -> usize {
     let slices = [
-        room.work_words.len() / 4,
+        room.work_words.len() / WORD_LANES,
         room.work_sums.len() / 2,
-        room.log_words.len() / 4,
+        room.log_words.len() / WORD_LANES,
         room.log_values.len(),
         room.place_order.len(),
         room.place_work.len(),
@@ -252,9 +252,9 @@ fn sum_places(room: &LeakRoom) -> usize {
 
 fn candidate_places(room: &LeakRoom) -> usize {
     let slices = [
-        room.cand_words.len() / 4,
+        room.cand_words.len() / WORD_LANES,
         room.cand_sums.len(),
-        room.next_words.len() / 4,
+        room.next_words.len() / WORD_LANES,
         room.next_sums.len(),
         room.place_order.len(),
         room.place_work.len(),
@@ -283,12 +283,12 @@ pub fn leakage_with_prune(model: Model, lent: &Lent, given: &Given, room: &mut L
         Err(status) => return refused(status),
     };
     let list = course.list(threshold(given.limits));
-    let places = (room.out_words.len() / 4).min(room.out_values.len());
+    let places = (room.out_words.len() / WORD_LANES).min(room.out_values.len());
     if list.len() > places {
         return refused(refusal(13, LIST_TABLE, places));
     }
     for (place, (w, sum)) in list.iter().enumerate() {
-        lay_word(&mut room.out_words, place, *w);
+        set_word(&mut room.out_words, place, *w);
         room.out_values[place] = *sum;
     }
     Listed {

@@ -9,9 +9,9 @@ use super::models::{
     term_places, tested, texts, times, where_any,
 };
 use super::refusal;
-use crate::port::Status;
 use crate::port::matrices::Given;
 use crate::port::models::{Built, Lent, Model};
+use crate::port::{Status, WORD_LANES};
 
 /// The work places for the sums of the largest product.
 const SUM_PLACES: usize = 256;
@@ -96,7 +96,7 @@ fn stored(by: Magnitudes, model: Model, given: &Given, lent: &Lent) -> Answer<St
     lent_places(entries, lent.jumps.len() / 8)?;
     lent_places(entries, lent.rates.len())?;
     let work = work_places(count, terms);
-    lent_places(work, lent.work_words.len() / 4)?;
+    lent_places(work, lent.work_words.len() / WORD_LANES)?;
     lent_places(work, lent.work_numbers.len() / 2)?;
 
     let flat: Vec<Complex> = given.k.chunks_exact(2).map(|k| (k[0], k[1])).collect();

@@ -5,7 +5,7 @@
 
 use super::{MAX_QUBITS, fits_register, parse_pauli_string, pauli_mul, refusal};
 use crate::port::models::{Built, Given, Lent, Model};
-use crate::port::{Status, Word};
+use crate::port::{Status, WORD_LANES, Word, set_word, word_at};
 use std::collections::BTreeMap;
 
 pub const MAX_HAMILTONIAN: usize = 4096;
@@ -119,20 +119,17 @@ pub(super) struct Term {
 
 /// Sums that start at 0, in word order.
 #[derive(Default)]
-pub(super) struct Sums(BTreeMap<[u64; 4], Complex>);
+pub(super) struct Sums(BTreeMap<[u64; WORD_LANES], Complex>);
 
 impl Sums {
-    pub fn add(&mut self, Word { x, z }: Word, number: Complex) {
-        let sum = self.0.entry([x[0], x[1], z[0], z[1]]).or_default();
+    pub fn add(&mut self, word: Word, number: Complex) {
+        let sum = self.0.entry(word.lanes()).or_default();
         *sum = (sum.0 + number.0, sum.1 + number.1);
     }
 
     pub fn terms(self) -> Vec<Term> {
-        let term = |([x0, x1, z0, z1], number): ([u64; 4], Complex)| Term {
-            word: Word {
-                x: [x0, x1],
-                z: [z0, z1],
-            },
+        let term = |(lanes, number): ([u64; WORD_LANES], Complex)| Term {
+            word: Word::of(&lanes),
             number,
         };
         self.0.into_iter().map(term).collect()
@@ -264,12 +261,12 @@ fn items(by: Magnitudes, given: &Given, n_qubits: usize, lent: &Lent) -> Answer<
     equal(terms * 2, given.numbers.len())?;
     let first_terms = parts(&given.counts, terms)?;
     let texts = texts(&given.lengths, &given.texts)?;
-    lent_places(h, lent.h_words.len() / 4)?;
+    lent_places(h, lent.h_words.len() / WORD_LANES)?;
     lent_places(h, lent.h_coeffs.len())?;
     lent_places(jumps, lent.jumps.len() / 8)?;
     lent_places(jumps, lent.rates.len())?;
     let work = where_any(jumps, WORK_PLACES);
-    lent_places(work, lent.work_words.len() / 4)?;
+    lent_places(work, lent.work_words.len() / WORD_LANES)?;
     lent_places(work, lent.work_numbers.len() / 2)?;
 
     let mut items = Items {
@@ -302,30 +299,18 @@ fn items(by: Magnitudes, given: &Given, n_qubits: usize, lent: &Lent) -> Answer<
     Ok(items)
 }
 
-pub(super) fn lay_word(words: &mut [u64], place: usize, word: Word) {
-    words[4 * place..4 * place + 2].copy_from_slice(&word.x);
-    words[4 * place + 2..4 * place + 4].copy_from_slice(&word.z);
-}
-
 /// Puts terms in the terms table, from a place on.
 pub(super) fn lay_terms(lent: &mut Lent, at: usize, terms: &[Term]) {
     for (i, term) in terms.iter().enumerate() {
-        lay_word(&mut lent.t_words, at + i, term.word);
+        set_word(&mut lent.t_words, at + i, term.word);
         lent.t_numbers[2 * (at + i)] = term.number.0;
         lent.t_numbers[2 * (at + i) + 1] = term.number.1;
     }
 }
 
-pub(super) fn word_at(words: &[u64], place: usize) -> Word {
-    Word {
-        x: [words[4 * place], words[4 * place + 1]],
-        z: [words[4 * place + 2], words[4 * place + 3]],
-    }
-}
-
 /// The places of the terms table.
 pub(super) fn term_places(lent: &Lent) -> usize {
-    (lent.t_words.len() / 4).min(lent.t_numbers.len() / 2)
+    (lent.t_words.len() / WORD_LANES).min(lent.t_numbers.len() / 2)
 }
 
 /// Builds a model in what is lent.
@@ -351,7 +336,7 @@ pub fn build_model_by(by: Magnitudes, given: &Given, n_qubits: usize, lent: &mut
     }
 
     for (i, &(word, number)) in items.hamiltonian.iter().enumerate() {
-        lay_word(&mut lent.h_words, i, word);
+        set_word(&mut lent.h_words, i, word);
         lent.h_coeffs[i] = number;
     }
     let mut at = 0;
@@ -421,11 +406,11 @@ pub(super) fn tested(model: Model, lent: &Lent) -> Answer<()> {
     }
     at_most(MAX_HAMILTONIAN, model.hamiltonian)?;
     at_most(MAX_JUMPS, model.jumps)?;
-    lent_places(model.hamiltonian, lent.h_words.len() / 4)?;
+    lent_places(model.hamiltonian, lent.h_words.len() / WORD_LANES)?;
     lent_places(model.hamiltonian, lent.h_coeffs.len())?;
     lent_places(model.jumps, lent.jumps.len() / 8)?;
     lent_places(model.jumps, lent.rates.len())?;
-    lent_places(model.terms, lent.t_words.len() / 4)?;
+    lent_places(model.terms, lent.t_words.len() / WORD_LANES)?;
     lent_places(model.terms, lent.t_numbers.len() / 2)?;
     let fits = |words: &[u64], place| fits_register(word_at(words, place), model.qubits);
     for i in 0..model.hamiltonian {

@@ -9,7 +9,7 @@ use super::generators::Acts;
 use super::models::{Answer, at_most, lent_places, refuse, tested};
 use crate::port::models::{Lent, Model};
 use crate::port::norms::{Degree, NormRoom, Normed, Partition};
-use crate::port::{Status, Word};
+use crate::port::{Status, WORD_LANES, Word};
 
 /// `THETA` of the published file, from Al-Mohy and Higham (2011), and `THETA_LOOSE`: the threshold of each
 /// degree from 1 on.
@@ -107,7 +107,7 @@ fn norm_tested(
 ) -> Answer<Vec<Word>> {
     tested(model, lent)?;
     at_most(MAX_WORDS, len)?;
-    lent_places(len, lanes.len() / 4)?;
+    lent_places(len, lanes.len() / WORD_LANES)?;
     let rows = where_any(len, ROW_LANES * model.qubits);
     lent_places(rows, room.h_index.len())?;
     lent_places(rows, room.j_index.len())?;
