@@ -79,7 +79,7 @@ impl Side {
 }
 
 /// The parts of the port, each with what is timed of it.
-const PARTS: [(&str, fn(u64) -> bool); 7] = [
+const PARTS: [(&str, fn(u64, usize) -> bool); 7] = [
     ("words", words::bench),
     ("models", models::bench),
     ("matrices", matrices::bench),
@@ -89,15 +89,25 @@ const PARTS: [(&str, fn(u64) -> bool); 7] = [
     ("generators", generators::bench),
 ];
 
-/// Times everything, or one part. Fails where the sides do not answer alike.
-pub fn run(seed: u64, only: Option<&str>) -> ExitCode {
+/// The fewest qubits that the words of all parts fit on.
+const FEWEST: usize = 12;
+
+/// Times everything, or one part, on registers of so many qubits. Fails where the sides do not answer alike.
+pub fn run(seed: u64, only: Option<&str>, n_qubits: usize) -> ExitCode {
     let asked = |part: &&(&str, _)| only.is_none_or(|only| only == part.0);
     let parts: Vec<_> = PARTS.iter().filter(asked).collect();
     if parts.is_empty() {
         eprintln!("the parts are {}", PARTS.map(|(part, _)| part).join(", "));
         return ExitCode::from(2);
     }
-    let alike: Vec<bool> = parts.iter().map(|(_, bench)| bench(seed)).collect();
+    if n_qubits < FEWEST {
+        eprintln!("at least {FEWEST} qubits are needed");
+        return ExitCode::from(2);
+    }
+    let alike: Vec<bool> = parts
+        .iter()
+        .map(|(_, bench)| bench(seed, n_qubits))
+        .collect();
     if alike.iter().all(|&alike| alike) {
         ExitCode::SUCCESS
     } else {

@@ -83,6 +83,19 @@ pub fn register(rng: &mut Rng, case: usize) -> usize {
     }
 }
 
+/// The same, of at least so many qubits.
+pub fn register_from(rng: &mut Rng, case: usize, from: usize) -> usize {
+    if from == 0 {
+        return register(rng, case);
+    }
+    loop {
+        let n_qubits = register(rng, usize::MAX);
+        if n_qubits >= from {
+            return n_qubits;
+        }
+    }
+}
+
 /// `n`, or one less, or one more.
 fn about(rng: &mut Rng, n: usize) -> usize {
     match rng.below(6) {

@@ -5,7 +5,8 @@
 //!
 //! A case is a line of hexadecimal numbers, the first of which is its kind; `#` starts a comment.
 //! Only cases are recorded to which document 01 and the Rust have one answer, but for kinds that say
-//! otherwise.
+//! otherwise. Where only registers of many qubits are asked for, the cases that were thought of, which have
+//! few, are left out.
 
 mod actions;
 mod bases;
@@ -17,7 +18,7 @@ mod products;
 mod standing;
 mod words;
 
-use crate::port::{Status, Word};
+use crate::port::{LANES, Status, Word};
 use std::process::ExitCode;
 
 /// The numbers of one case.
@@ -64,24 +65,40 @@ impl Line {
     }
 }
 
-pub fn run(seed: u64, cases: usize) -> ExitCode {
+/// A line of the head of a recording: how many x lanes its words have, and how many z lanes.
+fn print_lanes() {
+    println!("# lanes {LANES}");
+}
+
+/// How many numbers or bytes there may be where there are so many at most for registers of few qubits.
+fn most(usual: usize, from: usize) -> usize {
+    usual + 12 * from
+}
+
+/// So many cases, and fewer of some kinds, for registers of `from` qubits or more.
+pub fn run(seed: u64, cases: usize, from: usize) -> ExitCode {
     println!("# SPDX-FileCopyrightText: 2026 The PPVM Authors");
     println!("# SPDX-License-Identifier: Apache-2.0");
     println!("#");
-    println!("# Answers of the published Rust, seed {seed}.");
-    words::record(seed, cases);
-    models::record(seed, cases / 4);
-    matrices::record(seed, cases * 3 / 40);
-    actions::record(seed, cases / 8);
-    bases::record(seed, cases / 16);
-    leakages::record(seed, cases / 16);
-    generators::record(seed, cases / 25);
-    products::record(seed, cases / 16);
+    println!("# Answers of the published Rust, seed {seed}, registers of {from} qubits or more.");
+    print_lanes();
+    words::record(seed, cases, from);
+    models::record(seed, cases / 4, from);
+    matrices::record(seed, cases * 3 / 40, from);
+    actions::record(seed, cases / 8, from);
+    bases::record(seed, cases / 16, from);
+    leakages::record(seed, cases / 16, from);
+    generators::record(seed, cases / 25, from);
+    if from == 0 {
+        products::record(seed, cases / 16);
+    }
     println!(
         "# 18 and 13, 14, 15 or 16, then as these: answers of document 01 that the Rust does not"
     );
     println!("#   give");
-    generators::record_not_of_the_rust(seed, cases / 40);
-    products::record_not_of_the_rust(seed, cases / 10);
+    generators::record_not_of_the_rust(seed, cases / 40, from);
+    if from == 0 {
+        products::record_not_of_the_rust(seed, cases / 10);
+    }
     ExitCode::SUCCESS
 }

@@ -16,7 +16,6 @@ use crate::port::actions::{self as port, CountRoom, Room};
 use crate::port::models::{build_model, model_sizes};
 use crate::published::models::RustItems;
 use crate::published::{RustWord, rust_word};
-use crate::rules::MAX_QUBITS;
 use crate::rules::models::MAX_JUMPS;
 use ppvm_lindblad::open::{self, ActionScratch};
 
@@ -30,22 +29,22 @@ const PLACES: usize = 4096;
 
 /// Whether both sides listed as many words. The chains with the most items have more near each word; in the
 /// last model these lie on the half of the qubits that no word has letters on.
-pub fn bench(seed: u64) -> bool {
+pub fn bench(seed: u64, n_qubits: usize) -> bool {
     let rng = &mut Rng::new(seed);
-    let half = MAX_QUBITS / 2;
+    let half = n_qubits / 2;
     let mut alike = true;
     for (n_qubits, most, count) in [
         (half, None, 4096),
-        (MAX_QUBITS, None, 4096),
-        (MAX_QUBITS, None, 65_536),
-        (MAX_QUBITS, Some(MAX_JUMPS), 4096),
-        (MAX_QUBITS, Some(MAX_JUMPS), 65_536),
+        (n_qubits, None, 4096),
+        (n_qubits, None, 65_536),
+        (n_qubits, Some(MAX_JUMPS), 4096),
+        (n_qubits, Some(MAX_JUMPS), 65_536),
     ] {
         let items = inputs::chain(rng, n_qubits, most);
         let words = inputs::local_words(rng, n_qubits, count);
         alike &= act(rng, items, &words);
     }
-    let items = inputs::chain_beside(rng, MAX_QUBITS, MAX_JUMPS);
+    let items = inputs::chain_beside(rng, n_qubits, MAX_JUMPS);
     let words = inputs::local_words(rng, half, 32_768);
     alike & act(rng, items, &words)
 }

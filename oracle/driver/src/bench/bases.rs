@@ -13,7 +13,6 @@ use crate::inputs::bases as inputs;
 use crate::port::Word;
 use crate::port::bases::{self as port, Basis, Kept};
 use crate::published::bases::{RustBasis, rust_words};
-use crate::rules::MAX_QUBITS;
 use crate::rules::actions::MAX_WORDS;
 
 const ROUNDS: usize = 100;
@@ -36,26 +35,26 @@ fn digest(entries: &[(Word, f64)]) -> u64 {
 }
 
 /// Whether both sides kept the same entries.
-pub fn bench(seed: u64) -> bool {
+pub fn bench(seed: u64, n_qubits: usize) -> bool {
     let rng = &mut Rng::new(seed);
-    let words = action_inputs::local_words(rng, MAX_QUBITS, MAX_WORDS);
+    let words = action_inputs::local_words(rng, n_qubits, MAX_WORDS);
     let protected: Vec<Word> = (0..PROTECTED).map(|_| rng.pick(&words)).collect();
     let lent = inputs::plain_basis(rng, &words, PROTECTED);
-    let rust = RustBasis::new(MAX_QUBITS, &lent.entries(MAX_WORDS));
-    let rust_protected = rust_words(MAX_QUBITS, &protected);
+    let rust = RustBasis::new(n_qubits, &lent.entries(MAX_WORDS));
+    let rust_protected = rust_words(n_qubits, &protected);
     let lanes: Vec<u64> = protected.iter().flat_map(|w| w.lanes()).collect();
     let limit = MAX_WORDS / 2;
     let prunes = time(
-        "prune",
+        &format!("prune, n = {n_qubits}"),
         (&rust, &lent),
         |basis| basis.prune(HALF, &rust_protected),
-        |basis| port::prune_basis(MAX_QUBITS, MAX_WORDS, &lanes, HALF, basis),
+        |basis| port::prune_basis(n_qubits, MAX_WORDS, &lanes, HALF, basis),
     );
     let caps = time(
-        "cap",
+        &format!("cap, n = {n_qubits}"),
         (&rust, &lent),
         |basis| basis.cap(limit, &rust_protected),
-        |basis| port::cap_basis(MAX_QUBITS, MAX_WORDS, &lanes, limit, basis),
+        |basis| port::cap_basis(n_qubits, MAX_WORDS, &lanes, limit, basis),
     );
     prunes & caps
 }
@@ -80,7 +79,7 @@ fn time(
         port.once(answer, |(kept, basis)| digest(&basis.entries(kept.entries)));
     }
     println!(
-        "{name}, n = {MAX_QUBITS}, {MAX_WORDS} words, {PROTECTED} protected, half kept, best of {ROUNDS} rounds:"
+        "{name}, {MAX_WORDS} words, {PROTECTED} protected, half kept, best of {ROUNDS} rounds:"
     );
     rust.print();
     port.print();

@@ -23,7 +23,6 @@ use crate::port::norms::{NormRoom, norm};
 use crate::port::products::{Csr, ProductRoom, dot};
 use crate::published::generators::RustGenerator;
 use crate::published::models::{RustItems, RustModel};
-use crate::rules::MAX_QUBITS;
 use crate::rules::actions::MAX_WORDS;
 use crate::rules::generators::Entry;
 use ppvm_lindblad::open::{Product, Questions};
@@ -39,12 +38,12 @@ const PRODUCTS: usize = 20;
 const TOUCHED: usize = 1024;
 
 /// Whether both sides had the same entries and products.
-pub fn bench(seed: u64) -> bool {
+pub fn bench(seed: u64, n_qubits: usize) -> bool {
     let rng = &mut Rng::new(seed);
     let mut alike = true;
     for count in [4096, MAX_WORDS] {
-        let words = action_inputs::local_words(rng, MAX_QUBITS, count);
-        alike &= generate(rng, &words);
+        let words = action_inputs::local_words(rng, n_qubits, count);
+        alike &= generate(rng, n_qubits, &words);
     }
     alike
 }
@@ -72,7 +71,7 @@ impl<'a> Sides<'a> {
     fn new(rust: &'a RustModel, model: Model, lent: Lent, words: &[Word]) -> Self {
         let count = words.len();
         let lanes = lanes_of(words);
-        let lengths = port::generator_sizes(MAX_QUBITS, count, TOUCHED, 0);
+        let lengths = port::generator_sizes(model.qubits, count, TOUCHED, 0);
         let mut room = CountRoom {
             h_index: vec![0; lengths.h_index],
             j_index: vec![0; lengths.j_index],
@@ -82,7 +81,7 @@ impl<'a> Sides<'a> {
         };
         let counted = count_action_terms(model, &lent, &lanes, &mut room);
         let entries = count * counted.listed;
-        let lengths = port::generator_sizes(MAX_QUBITS, count, counted.touched, entries);
+        let lengths = port::generator_sizes(model.qubits, count, counted.touched, entries);
         let GeneratorSizes {
             h_index,
             j_index,
@@ -144,13 +143,13 @@ impl<'a> Sides<'a> {
     }
 }
 
-fn generate(rng: &mut Rng, words: &[Word]) -> bool {
-    let items = action_inputs::chain(rng, MAX_QUBITS, None);
+fn generate(rng: &mut Rng, n_qubits: usize, words: &[Word]) -> bool {
+    let items = action_inputs::chain(rng, n_qubits, None);
     let rust_items = RustItems::new(&items).expect("texts are ASCII");
     let rust_model = rust_items.build().expect("it is accepted");
     let sizes = model_sizes(items.hamiltonian.len(), items.jumps.len(), items.longest());
     let mut lent = model_inputs::lent(rng, sizes);
-    let model = build_model(&items.flat(), MAX_QUBITS, &mut lent).model;
+    let model = build_model(&items.flat(), n_qubits, &mut lent).model;
     let mut sides = Sides::new(&rust_model, model, lent, words);
     let generators = time_generators(&mut sides);
     let matrices = time_matrices(&mut sides);
@@ -170,8 +169,8 @@ fn time_generators(sides: &mut Sides) -> bool {
         port.all(count, || sides.port_generator());
     }
     println!(
-        "generator, n = {MAX_QUBITS}, {count} words, {} entries, for each word, best of {ROUNDS} rounds:",
-        port.checksum
+        "generator, n = {}, {count} words, {} entries, for each word, best of {ROUNDS} rounds:",
+        sides.model.qubits, port.checksum
     );
     for side in [&rust, &two, &port] {
         side.print();
@@ -203,7 +202,8 @@ fn time_matrices(sides: &mut Sides) -> bool {
         });
     }
     println!(
-        "matrix by rows and norm, n = {MAX_QUBITS}, {count} words, for each word, best of {ROUNDS} rounds:"
+        "matrix by rows and norm, n = {}, {count} words, for each word, best of {ROUNDS} rounds:",
+        sides.model.qubits
     );
     for side in [&rust, &two, &both, &csr, &norm] {
         side.print();
@@ -277,7 +277,8 @@ fn time_products(rng: &mut Rng, sides: &mut Sides) -> bool {
         port.checksum = digest(&room.output);
     }
     println!(
-        "product, n = {MAX_QUBITS}, {count} words, {entries} entries, best of {ROUNDS} rounds of {PRODUCTS}:"
+        "product, n = {}, {count} words, {entries} entries, best of {ROUNDS} rounds of {PRODUCTS}:",
+        sides.model.qubits
     );
     for side in [&rust, &two, &port] {
         side.print();

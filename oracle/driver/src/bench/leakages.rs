@@ -16,7 +16,6 @@ use crate::port::leakages::{self as port, Given, Limits};
 use crate::port::models::{build_model, model_sizes};
 use crate::published::models::RustItems;
 use crate::published::{RustWord, rust_word};
-use crate::rules::MAX_QUBITS;
 use crate::rules::actions::MAX_WORDS;
 
 const ROUNDS: usize = 9;
@@ -26,25 +25,25 @@ const TOUCHED: usize = 1024;
 const CANDIDATES: usize = 1 << 17;
 
 /// Whether both sides listed as many words, but for those of one hash.
-pub fn bench(seed: u64) -> bool {
+pub fn bench(seed: u64, n_qubits: usize) -> bool {
     let rng = &mut Rng::new(seed);
     let mut alike = true;
     for count in [4096, 16_384, 32_768, 61_440, MAX_WORDS] {
-        let words = action_inputs::local_words(rng, MAX_QUBITS, count);
-        alike &= leak(rng, &words);
+        let words = action_inputs::local_words(rng, n_qubits, count);
+        alike &= leak(rng, n_qubits, &words);
     }
     alike
 }
 
-fn leak(rng: &mut Rng, words: &[Word]) -> bool {
+fn leak(rng: &mut Rng, n_qubits: usize, words: &[Word]) -> bool {
     let count = words.len();
-    let items = action_inputs::chain(rng, MAX_QUBITS, None);
+    let items = action_inputs::chain(rng, n_qubits, None);
     let rust_items = RustItems::new(&items).expect("texts are ASCII");
     let rust_model = rust_items.build().expect("it is accepted");
-    let rust_words: Vec<RustWord> = words.iter().map(|&p| rust_word(MAX_QUBITS, p)).collect();
+    let rust_words: Vec<RustWord> = words.iter().map(|&p| rust_word(n_qubits, p)).collect();
     let sizes = model_sizes(items.hamiltonian.len(), items.jumps.len(), items.longest());
     let mut lent = model_inputs::lent(rng, sizes);
-    let model = build_model(&items.flat(), MAX_QUBITS, &mut lent).model;
+    let model = build_model(&items.flat(), n_qubits, &mut lent).model;
     let given = Given {
         words: words.iter().flat_map(|p| p.lanes()).collect(),
         coeffs: (0..count)
@@ -57,7 +56,7 @@ fn leak(rng: &mut Rng, words: &[Word]) -> bool {
             ..Limits::default()
         },
     };
-    let lengths = port::leakage_sizes(MAX_QUBITS, count, 0, TOUCHED, CANDIDATES);
+    let lengths = port::leakage_sizes(n_qubits, count, 0, TOUCHED, CANDIDATES);
     let mut room = port::LeakRoom::of(&lengths, MAX_WORDS);
 
     let mut rust = Side::new("Rust");
@@ -73,7 +72,7 @@ fn leak(rng: &mut Rng, words: &[Word]) -> bool {
         });
     }
     println!(
-        "leakage, n = {MAX_QUBITS}, {count} words, limit {MAX_WORDS}, for each word, best of {ROUNDS} \
+        "leakage, n = {n_qubits}, {count} words, limit {MAX_WORDS}, for each word, best of {ROUNDS} \
          rounds:"
     );
     for side in [&rust, &port] {

@@ -15,24 +15,23 @@ use crate::port::matrices as port;
 use crate::port::models::{Built, Model, matrix_sizes};
 use crate::published::matrices::RustMatrix;
 use crate::published::models::{RustItems, RustModel};
-use crate::rules::MAX_QUBITS;
 use crate::rules::models::MAX_OPERATORS;
 
 const TERMS: usize = 2;
 const ROUNDS: usize = 100;
 
 /// Whether both sides made equally many pairs.
-pub fn bench(seed: u64) -> bool {
+pub fn bench(seed: u64, n_qubits: usize) -> bool {
     let rng = &mut Rng::new(seed);
-    let neighbours = add("words on two neighbours", rng, true);
-    let any = add("words of any weight", rng, false);
+    let neighbours = add("words on two neighbours", rng, n_qubits, true);
+    let any = add("words of any weight", rng, n_qubits, false);
     neighbours && any
 }
 
-fn add(what: &str, rng: &mut Rng, neighbours: bool) -> bool {
-    let matrix = inputs::full(rng, MAX_QUBITS, neighbours, MAX_OPERATORS, TERMS);
+fn add(what: &str, rng: &mut Rng, n_qubits: usize, neighbours: bool) -> bool {
+    let matrix = inputs::full(rng, n_qubits, neighbours, MAX_OPERATORS, TERMS);
     let empty = Items {
-        n_qubits: MAX_QUBITS,
+        n_qubits,
         hamiltonian: Vec::new(),
         jumps: Vec::new(),
     };
@@ -42,7 +41,7 @@ fn add(what: &str, rng: &mut Rng, neighbours: bool) -> bool {
     };
     let rust_matrix = RustMatrix::new(&matrix).expect("texts are ASCII");
     let model = Model {
-        qubits: MAX_QUBITS,
+        qubits: n_qubits,
         ..Model::default()
     };
     let given = matrix.flat();
@@ -80,7 +79,7 @@ fn add(what: &str, rng: &mut Rng, neighbours: bool) -> bool {
     }
 
     println!(
-        "adding a matrix, n = {MAX_QUBITS}, {MAX_OPERATORS} operators of {TERMS} terms, no entry \
+        "adding a matrix, n = {n_qubits}, {MAX_OPERATORS} operators of {TERMS} terms, no entry \
          of K 0, {what}, best of {ROUNDS} rounds:",
     );
     for side in [&rust, &port, &tests, &counting] {

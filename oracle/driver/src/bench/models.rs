@@ -21,15 +21,15 @@ fn digest(hamiltonian: usize, jumps: usize) -> u64 {
 }
 
 /// Whether both sides built a model of the same counts.
-pub fn bench(seed: u64) -> bool {
+pub fn bench(seed: u64, n_qubits: usize) -> bool {
     let rng = &mut Rng::new(seed);
-    let neighbours = build("words on two neighbours", rng, true);
-    let any = build("words of any weight", rng, false);
+    let neighbours = build("words on two neighbours", rng, n_qubits, true);
+    let any = build("words of any weight", rng, n_qubits, false);
     neighbours && any
 }
 
-fn build(what: &str, rng: &mut Rng, neighbours: bool) -> bool {
-    let items = inputs::largest(rng, neighbours);
+fn build(what: &str, rng: &mut Rng, n_qubits: usize, neighbours: bool) -> bool {
+    let items = inputs::largest(rng, n_qubits, neighbours);
     let Items {
         n_qubits,
         hamiltonian,

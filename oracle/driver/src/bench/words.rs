@@ -30,14 +30,14 @@ extern "C" fn called_pauli_mul(p: Word, q: Word) -> Phased {
 }
 
 /// Whether both sides gave the same answers.
-pub fn bench(seed: u64) -> bool {
+pub fn bench(seed: u64, n_qubits: usize) -> bool {
     let rng = &mut Rng::new(seed);
     let pairs: Vec<(Word, Word)> = (0..PAIRS)
-        .map(|_| (inputs::word(rng, MAX_QUBITS), inputs::word(rng, MAX_QUBITS)))
+        .map(|_| (inputs::word(rng, n_qubits), inputs::word(rng, n_qubits)))
         .collect();
     let rust_pairs: Vec<(RustWord, RustWord)> = pairs
         .iter()
-        .map(|&(p, q)| (rust_word(MAX_QUBITS, p), rust_word(MAX_QUBITS, q)))
+        .map(|&(p, q)| (rust_word(n_qubits, p), rust_word(n_qubits, q)))
         .collect();
 
     let mut rust = Side::new("Rust");
@@ -64,7 +64,7 @@ pub fn bench(seed: u64) -> bool {
         });
     }
 
-    println!("pauli_mul, n = {MAX_QUBITS}, {PAIRS} pairs, best of {ROUNDS} rounds:");
+    println!("pauli_mul, n = {n_qubits}, {PAIRS} pairs, best of {ROUNDS} rounds:");
     for side in [&rust, &called, &port] {
         side.print();
     }

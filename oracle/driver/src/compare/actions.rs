@@ -300,8 +300,8 @@ fn large(rng: &mut Rng, tallies: &mut Tallies) {
         jumps: Vec::new(),
     };
     let full = full(rng, MAX_QUBITS, true, MAX_OPERATORS, 2);
-    let near = (largest(rng, true), Vec::new());
-    let any = (largest(rng, false), Vec::new());
+    let near = (largest(rng, MAX_QUBITS, true), Vec::new());
+    let any = (largest(rng, MAX_QUBITS, false), Vec::new());
     for (items, matrices) in [near, any, (empty, vec![full])] {
         let words = inputs::words(rng, &items, &matrices, WORDS);
         let asked = Asked::new(rng, items, matrices);

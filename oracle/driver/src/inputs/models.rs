@@ -139,8 +139,7 @@ pub(super) fn plain_text(rng: &mut Rng, n_qubits: usize, neighbours: bool) -> Ve
 }
 
 /// The largest model of Hamiltonian items and general jumps of two terms.
-pub fn largest(rng: &mut Rng, neighbours: bool) -> Items {
-    let n_qubits = MAX_QUBITS;
+pub fn largest(rng: &mut Rng, n_qubits: usize, neighbours: bool) -> Items {
     let text = |rng: &mut Rng| plain_text(rng, n_qubits, neighbours);
     let number = |rng: &mut Rng| 1.0 + rng.below(1000) as f64 / 1024.0;
     Items {

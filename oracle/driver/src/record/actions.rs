@@ -4,7 +4,7 @@
 //! Actions of models, and of matrices, on a few words each.
 
 use super::standing::Standing;
-use super::{Line, matrices};
+use super::{Line, matrices, most};
 use crate::inputs::Rng;
 use crate::inputs::actions as inputs;
 use crate::inputs::matrices::Matrix;
@@ -23,23 +23,28 @@ const LONGEST: usize = 900;
 const SUM_PLACES: usize = 256;
 const LIST_PLACES: usize = 24;
 
-pub fn record(seed: u64, cases: usize) {
+pub fn record(seed: u64, cases: usize, from: usize) {
     let rng = &mut Rng::new(seed);
     println!("# 9, as 5 to the lengths of the lent slices, then those of work_words work_sums");
     println!(
-        "#   out_words out_values, then words_len and for each word x0 x1 z0 z1 refusal first"
+        "#   out_words out_values, then words_len and for each word its lanes, refusal first second"
     );
-    println!("#   second count, the lanes of the words listed and their values");
-    (0..cases).for_each(|case| answered(rng, |rng| Standing::of_model(rng, 9, case)).print());
+    println!("#   count, the lanes of the words listed and their values");
+    for case in 0..cases {
+        let of_model = |rng: &mut Rng| Standing::of_model(rng, 9, from, case);
+        answered(rng, from, of_model).print();
+    }
     println!("# a, as 9: actions of a matrix, given as in 7");
-    tempting(&mut Rng::new(seed)).print();
+    if from == 0 {
+        tempting(&mut Rng::new(seed)).print();
+    }
     let of_matrix = |rng: &mut Rng| {
         let matrix = inputs::matrix(rng);
-        Standing::of_matrix(rng, 10, matrix)
+        Standing::of_matrix(rng, 10, from, matrix)
     };
-    (0..cases).for_each(|_| answered(rng, of_matrix).print());
+    (0..cases).for_each(|_| answered(rng, from, of_matrix).print());
     println!("# b, as 9: refusals of document 01 that the Rust does not have");
-    (0..cases).for_each(|case| refused(rng, case).print());
+    (0..cases).for_each(|case| refused(rng, from, case).print());
 }
 
 impl Standing {
@@ -93,7 +98,7 @@ impl Standing {
 
 /// The line of actions on these words, where there is room for it, something is listed, and the Rust gives the
 /// answers too.
-fn alike(rng: &mut Rng, standing: &Standing, words: &[Word]) -> Option<Line> {
+fn alike(rng: &mut Rng, from: usize, standing: &Standing, words: &[Word]) -> Option<Line> {
     let places = standing.places(words)?;
     let (line, answers) = standing.acted(rng, words, places);
     let model = standing.rust()?;
@@ -105,17 +110,21 @@ fn alike(rng: &mut Rng, standing: &Standing, words: &[Word]) -> Option<Line> {
         .zip(&answers)
         .all(|(&p, (_, list))| bits(&published::compute_action_terms(&model, p)) == bits(list));
     let some = answers.iter().any(|(_, list)| !list.is_empty());
-    (alike && some && line.0.len() <= LONGEST).then_some(line)
+    (alike && some && line.0.len() <= most(LONGEST, from)).then_some(line)
 }
 
 /// A case whose answers the Rust gives too.
-fn answered(rng: &mut Rng, mut standing: impl FnMut(&mut Rng) -> Option<Standing>) -> Line {
+fn answered(
+    rng: &mut Rng,
+    from: usize,
+    mut standing: impl FnMut(&mut Rng) -> Option<Standing>,
+) -> Line {
     loop {
         let Some(standing) = standing(rng) else {
             continue;
         };
         let words = standing.words(rng);
-        if let Some(line) = alike(rng, &standing, &words) {
+        if let Some(line) = alike(rng, from, &standing, &words) {
             return line;
         }
     }
@@ -129,15 +138,15 @@ fn tempting(rng: &mut Rng) -> Line {
         operators: matrices::two((6e-15, 6e-15)),
         k: vec![vec![zero, large], vec![large, (1.0, 0.0)]],
     };
-    let standing = Standing::of_matrix(rng, 10, (2, matrix)).expect("there is room for it");
+    let standing = Standing::of_matrix(rng, 10, 0, (2, matrix)).expect("there is room for it");
     let words = ["IZ", "ZZ", "ZI", "YZ"].map(|text| word_of(text.as_bytes()));
-    alike(rng, &standing, &words).expect("a sound case")
+    alike(rng, 0, &standing, &words).expect("a sound case")
 }
 
 /// A case with a word outside of the register, or with too few places for some word.
-fn refused(rng: &mut Rng, case: usize) -> Line {
+fn refused(rng: &mut Rng, from: usize, case: usize) -> Line {
     loop {
-        let Some(standing) = Standing::of_model(rng, 11, 1 + case % 7) else {
+        let Some(standing) = Standing::of_model(rng, 11, from, 1 + case % 7) else {
             continue;
         };
         let mut words = standing.words(rng);
@@ -157,7 +166,7 @@ fn refused(rng: &mut Rng, case: usize) -> Line {
         };
         let (line, answers) = standing.acted(rng, &words, places);
         let given = |listed: &Listed| (listed.status.refusal, listed.status.first) == refusal;
-        if answers.iter().any(|(listed, _)| given(listed)) && line.0.len() <= LONGEST {
+        if answers.iter().any(|(listed, _)| given(listed)) && line.0.len() <= most(LONGEST, from) {
             return line;
         }
     }

@@ -21,23 +21,23 @@ const NOT_RUST: u64 = 15;
 
 /// The most lanes and places of a table, since the recording is to stay small, and what is in the work
 /// tables before.
-const LANES: usize = 96;
 const PLACES: usize = 24;
+const LANES: usize = WORD_LANES * PLACES;
 const FILLER: u64 = 9;
 
-pub fn record(seed: u64, cases: usize) {
+pub fn record(seed: u64, cases: usize, from: usize) {
     let rng = &mut Rng::new(seed);
     println!("# c n_qubits len drop_tol words_len coeffs_len protected_len 0 order_len work_len");
     println!("#   fixed_len kept_len, the words, the coefficients, the protected words, refusal");
     println!("#   first second entries, the words and the coefficients afterwards, what the work");
     println!("#   tables hold afterwards");
-    kind(rng, PRUNE, cases, tempting_prunes(), |rng| {
+    kind(rng, PRUNE, cases, from, tempting_prunes(), |rng| {
         let keeping = inputs::small_keeping(rng);
         let drop_tol = inputs::threshold(rng, &keeping);
         Case::prune(keeping, drop_tol)
     });
     println!("# d, as c: cap, with a limit for drop_tol");
-    kind(rng, CAP, cases, tempting_caps(), |rng| {
+    kind(rng, CAP, cases, from, tempting_caps(), |rng| {
         let keeping = inputs::small_keeping(rng);
         let limit = inputs::limit(rng, &keeping);
         Case::cap(keeping, limit)
@@ -46,13 +46,13 @@ pub fn record(seed: u64, cases: usize) {
         "# e, as d: admission, with the listed words for the protected ones, then their values;"
     );
     println!("#   values_len stands where 0 does, and fixed is not lent");
-    kind(rng, ADMIT, cases, tempting_admissions(), |rng| {
+    kind(rng, ADMIT, cases, from, tempting_admissions(), |rng| {
         Case::admit(inputs::small_admission(rng))
     });
     println!(
         "# f and c, d or e, then as these: answers of document 01 that the Rust does not give"
     );
-    not_of_the_rust(rng, cases);
+    not_of_the_rust(rng, cases, from);
 }
 
 /// A call with what it is given and lent.
@@ -225,18 +225,19 @@ fn kind(
     rng: &mut Rng,
     call: u64,
     cases: usize,
+    from: usize,
     tempting: Vec<Case>,
     mut random: impl FnMut(&mut Rng) -> Case,
 ) {
     let mut recorded = 0;
-    for case in tempting {
+    for case in tempting.into_iter().filter(|_| from == 0) {
         assert!(case.fits() && case.is_of_the_rust(), "a sound case");
         case.line(Line::new(call)).print();
         recorded += 1;
     }
     while recorded < cases {
         let case = random(rng);
-        if case.fits() && case.is_of_the_rust() {
+        if case.n_qubits >= from && case.fits() && case.is_of_the_rust() {
             case.line(Line::new(call)).print();
             recorded += 1;
         }
@@ -253,7 +254,7 @@ fn lanes(texts: &[&str]) -> Vec<u64> {
 /// A basis of two qubits with two places more.
 fn basis(texts: &[&str], coeffs: &[f64]) -> Basis {
     let mut words = lanes(texts);
-    words.extend([u64::MAX; 8]);
+    words.extend([u64::MAX; 2 * WORD_LANES]);
     let mut coeffs = coeffs.to_vec();
     coeffs.extend([f64::NAN, -1.0]);
     let work = || vec![FILLER; 8];
@@ -353,7 +354,7 @@ fn tempting_admissions() -> Vec<Case> {
 }
 
 /// Refusals, and admission of more words than there is room for.
-fn not_of_the_rust(rng: &mut Rng, cases: usize) {
+fn not_of_the_rust(rng: &mut Rng, cases: usize, from: usize) {
     let plain = || keeping(&FOUR, &COEFFS, &["IX"]);
     let three = |limit| admission(&["XX", "YY", "ZZ"], &[1.0, -2.0, 2.0], limit);
     let mut list = vec![
@@ -382,6 +383,9 @@ fn not_of_the_rust(rng: &mut Rng, cases: usize) {
     spoilt(&|case| case.basis.coeffs[0] = f64::INFINITY);
     spoilt(&|case| case.given[1] = 1);
     spoilt(&|case| case.basis.kept.truncate(2));
+    if from > 0 {
+        list.clear();
+    }
     for case in &list {
         assert!(case.fits());
         case.line(Line::new(NOT_RUST).number(case.call)).print();
@@ -392,7 +396,7 @@ fn not_of_the_rust(rng: &mut Rng, cases: usize) {
         inputs::spoil_keeping(rng, &mut keeping);
         let limit = inputs::limit(rng, &keeping);
         let case = Case::cap(keeping, limit);
-        if case.fits() && case.answer().0.status.refusal != 0 {
+        if case.n_qubits >= from && case.fits() && case.answer().0.status.refusal != 0 {
             case.line(Line::new(NOT_RUST).number(case.call)).print();
             recorded += 1;
         }

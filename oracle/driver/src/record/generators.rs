@@ -4,8 +4,8 @@
 //! Generators over small bases, the same matrices by rows, and norms with degrees: tempting cases first, then
 //! random ones.
 
-use super::Line;
 use super::standing::Standing;
+use super::{Line, most};
 use crate::inputs::Rng;
 use crate::inputs::actions as action_inputs;
 use crate::inputs::bases::lanes_of;
@@ -38,7 +38,7 @@ const TOUCHED: usize = 256;
 const ENTRIES: usize = 512;
 const LONGEST: usize = 500;
 
-pub fn record(seed: u64, cases: usize) {
+pub fn record(seed: u64, cases: usize, from: usize) {
     let rng = &mut Rng::new(seed);
     println!(
         "# 13, as 5 to the lengths of the lent slices, then how many words, the places of tables"
@@ -47,24 +47,27 @@ pub fn record(seed: u64, cases: usize) {
         "#   1 and 3, the words, refusal first second count, how many rows, the rows, columns"
     );
     println!("#   and values");
-    kind(rng, GENERATOR, cases);
+    kind(rng, GENERATOR, cases, from);
     println!("# 14, as 13: a matrix by rows, with offsets for the rows");
-    kind(rng, BY_ROWS, cases);
+    kind(rng, BY_ROWS, cases, from);
     println!(
         "# 15, as 13 to the words, with dt and drop_tol for the places of table 3, then refusal"
     );
     println!("#   first second mu norm m s");
-    kind(rng, NORM, cases);
+    kind(rng, NORM, cases, from);
 }
 
 /// Answers which the Rust does not give; the kind that they are of stands second.
-pub fn record_not_of_the_rust(seed: u64, cases: usize) {
+pub fn record_not_of_the_rust(seed: u64, cases: usize, from: usize) {
     let rng = &mut Rng::new(seed);
     for kind in [GENERATOR, BY_ROWS, NORM] {
         let mut list = refused_tempting(rng, kind);
+        if from > 0 {
+            list.clear();
+        }
         while list.len() < cases {
-            let case = random(rng, kind);
-            list.extend(case.and_then(|case| spoilt(rng, case)));
+            let case = random(rng, kind, from);
+            list.extend(case.and_then(|case| spoilt(rng, from, case)));
         }
         for case in list {
             let mut line = case.line();
@@ -75,18 +78,18 @@ pub fn record_not_of_the_rust(seed: u64, cases: usize) {
 }
 
 /// Tempting cases, then so many random ones, all as the Rust has them.
-fn kind(rng: &mut Rng, kind: u64, cases: usize) {
-    for case in tempting(rng, kind) {
-        assert!(case.fits() && case.is_of_the_rust(), "a sound case");
+fn kind(rng: &mut Rng, kind: u64, cases: usize, from: usize) {
+    for case in tempting(rng, kind).into_iter().filter(|_| from == 0) {
+        assert!(case.fits(from) && case.is_of_the_rust(), "a sound case");
         case.line().print();
     }
     let mut recorded = 0;
     while recorded < cases {
-        let Some(case) = random(rng, kind) else {
+        let Some(case) = random(rng, kind, from) else {
             continue;
         };
         let some = case.needs().1 > 0 || rng.one_in(8);
-        if some && case.fits() && case.is_of_the_rust() {
+        if some && case.fits(from) && case.is_of_the_rust() {
             case.line().print();
             recorded += 1;
         }
@@ -129,9 +132,9 @@ impl Case {
     }
 
     /// Whether replaying has room for it.
-    fn fits(&self) -> bool {
+    fn fits(&self, from: usize) -> bool {
         let room = self.words.len() <= WORDS && self.touched <= TOUCHED;
-        room && self.entries <= ENTRIES && self.line().0.len() <= LONGEST
+        room && self.entries <= ENTRIES && self.line().0.len() <= most(LONGEST, from)
     }
 
     fn room(&self) -> GeneratorRoom {
@@ -228,8 +231,8 @@ impl Case {
 }
 
 /// A basis near a small model, most with words that they reach.
-fn random(rng: &mut Rng, kind: u64) -> Option<Case> {
-    let standing = Standing::of_model(rng, kind, 1)?;
+fn random(rng: &mut Rng, kind: u64, from: usize) -> Option<Case> {
+    let standing = Standing::of_model(rng, kind, from, 1)?;
     let acts = Acts::default();
     let Standing {
         items,
@@ -251,7 +254,7 @@ fn random(rng: &mut Rng, kind: u64) -> Option<Case> {
 }
 
 /// The same with something that document 01 refuses, where it then does.
-fn spoilt(rng: &mut Rng, mut case: Case) -> Option<Case> {
+fn spoilt(rng: &mut Rng, from: usize, mut case: Case) -> Option<Case> {
     let (n_qubits, len) = (case.standing.model.qubits, case.words.len());
     match rng.below(5) {
         0 if case.touched > 0 => case.touched -= 1,
@@ -273,7 +276,7 @@ fn spoilt(rng: &mut Rng, mut case: Case) -> Option<Case> {
         },
         _ => return None,
     }
-    case.fits().then_some(case)
+    case.fits(from).then_some(case)
 }
 
 // ---- tempting cases
@@ -295,7 +298,7 @@ fn one(hamiltonian: &[(&str, f64)], jumps: &[(f64, &[(&str, Complex)])]) -> Item
 fn tempting(rng: &mut Rng, kind: u64) -> Vec<Case> {
     let mut list = Vec::new();
     let mut over = |items: Items, texts: &[&str], dt: f64, drop_tol: f64| {
-        let standing = Standing::of_items(rng, kind, items).expect("there is room for it");
+        let standing = Standing::of_items(rng, kind, 0, items).expect("there is room for it");
         let words = texts.iter().map(|text| word_of(text.as_bytes())).collect();
         list.push(Case::new(kind, standing, words, (dt, drop_tol)));
     };
@@ -323,7 +326,7 @@ fn tempting(rng: &mut Rng, kind: u64) -> Vec<Case> {
 fn refused_tempting(rng: &mut Rng, kind: u64) -> Vec<Case> {
     let mut over = |texts: &[&str]| {
         let items = one(&[("Z", 0.5)], &[(0.25, &[("Z", (1.0, 0.0))])]);
-        let standing = Standing::of_items(rng, kind, items).expect("there is room for it");
+        let standing = Standing::of_items(rng, kind, 0, items).expect("there is room for it");
         let words = texts.iter().map(|text| word_of(text.as_bytes())).collect();
         Case::new(kind, standing, words, (1.0, 0.0))
     };

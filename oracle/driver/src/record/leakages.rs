@@ -4,8 +4,8 @@
 //! Leakage out of bases that are given by runs of entries alike, so that a short line has a basis of several
 //! passes: tempting cases first, then random ones.
 
-use super::Line;
 use super::standing::Standing;
+use super::{Line, most};
 use crate::inputs::Rng;
 use crate::inputs::actions as action_inputs;
 use crate::inputs::leakages::{self as inputs, Entries};
@@ -35,7 +35,7 @@ const PLACES: usize = 256;
 const LIST: usize = 64;
 const LONGEST: usize = 600;
 
-pub fn record(seed: u64, cases: usize) {
+pub fn record(seed: u64, cases: usize, from: usize) {
     let rng = &mut Rng::new(seed);
     println!(
         "# 10, as 5 to the lengths of the lent slices, then how many runs and protected words,"
@@ -43,29 +43,30 @@ pub fn record(seed: u64, cases: usize) {
     println!(
         "#   max_basis admit_given admit_basis tau_given tau_add, the places of tables 1, 2 and"
     );
-    println!(
-        "#   3, for each run how many entries are alike x0 x1 z0 z1 coefficient, the protected"
-    );
+    println!("#   3, for each run how many entries are alike, lanes, coefficient, the protected");
     println!("#   words, refusal first second count, the words listed and their values");
     let tempting = tempting(rng);
-    tempting.iter().for_each(|case| {
+    tempting.iter().filter(|_| from == 0).for_each(|case| {
         assert!(case.fits() && case.is_of_the_rust(), "a sound case");
         case.line().print();
     });
-    let of_model = |rng: &mut Rng, case| Standing::of_model(rng, MODEL, case);
-    (0..cases).for_each(|case| answered(rng, case, of_model).line().print());
+    let of_model = |rng: &mut Rng, from, case| Standing::of_model(rng, MODEL, from, case);
+    (0..cases).for_each(|case| answered(rng, from, case, of_model).line().print());
     println!("# 11, as 10: leakage of a matrix, given as in 7");
-    let of_matrix = |rng: &mut Rng, _| {
+    let of_matrix = |rng: &mut Rng, from, _| {
         let matrix = action_inputs::matrix(rng);
-        Standing::of_matrix(rng, MATRIX, matrix)
+        Standing::of_matrix(rng, MATRIX, from, matrix)
     };
-    (0..cases).for_each(|case| answered(rng, case, of_matrix).line().print());
+    (0..cases).for_each(|case| answered(rng, from, case, of_matrix).line().print());
     println!("# 12, as 10: answers of document 01 that the Rust does not give");
-    not_of_the_rust(rng).iter().for_each(|case| {
-        assert!(case.fits(), "there is room for it");
-        case.line().print();
-    });
-    (0..cases).for_each(|case| refused(rng, case).line().print());
+    not_of_the_rust(rng)
+        .iter()
+        .filter(|_| from == 0)
+        .for_each(|case| {
+            assert!(case.fits(), "there is room for it");
+            case.line().print();
+        });
+    (0..cases).for_each(|case| refused(rng, from, case).line().print());
 }
 
 /// Entries alike, at positions one after another.
@@ -220,10 +221,11 @@ impl Case {
 /// A basis near a model, some words at several positions, with limits that decide something.
 fn random(
     rng: &mut Rng,
+    from: usize,
     case: usize,
-    standing: fn(&mut Rng, usize) -> Option<Standing>,
+    standing: fn(&mut Rng, usize, usize) -> Option<Standing>,
 ) -> Option<Case> {
-    let standing = standing(rng, case)?;
+    let standing = standing(rng, from, case)?;
     let Standing {
         items,
         matrices,
@@ -251,23 +253,32 @@ fn random(
 }
 
 /// A random case that the Rust answers alike. Most of them list something.
-fn answered(rng: &mut Rng, case: usize, standing: fn(&mut Rng, usize) -> Option<Standing>) -> Case {
+fn answered(
+    rng: &mut Rng,
+    from: usize,
+    case: usize,
+    standing: fn(&mut Rng, usize, usize) -> Option<Standing>,
+) -> Case {
     loop {
-        let Some(random) = random(rng, case, standing) else {
+        let Some(random) = random(rng, from, case, standing) else {
             continue;
         };
         let some = random.places.listed > 0 || rng.one_in(8);
-        if some && random.fits() && random.is_of_the_rust() && random.line().0.len() <= LONGEST {
+        if some
+            && random.fits()
+            && random.is_of_the_rust()
+            && random.line().0.len() <= most(LONGEST, from)
+        {
             return random;
         }
     }
 }
 
 /// A random case with something wrong, or a table with a place too few.
-fn refused(rng: &mut Rng, case: usize) -> Case {
+fn refused(rng: &mut Rng, from: usize, case: usize) -> Case {
+    let of_model = |rng: &mut Rng, from, case| Standing::of_model(rng, NOT_RUST, from, case);
     loop {
-        let Some(mut random) = random(rng, 1, |rng, case| Standing::of_model(rng, NOT_RUST, case))
-        else {
+        let Some(mut random) = random(rng, from, 1, of_model) else {
             continue;
         };
         let n_qubits = random.standing.model.qubits;
@@ -296,7 +307,7 @@ fn refused(rng: &mut Rng, case: usize) -> Case {
             _ => continue,
         }
         let is_refused = random.answer().0.status.refusal != 0;
-        if is_refused && random.fits() && random.line().0.len() <= LONGEST {
+        if is_refused && random.fits() && random.line().0.len() <= most(LONGEST, from) {
             return random;
         }
     }
@@ -312,7 +323,7 @@ fn model(rng: &mut Rng, kind: u64, terms: &[(&str, f64)]) -> Standing {
         hamiltonian: terms.iter().map(item).collect(),
         jumps: Vec::new(),
     };
-    Standing::of_items(rng, kind, items).expect("there is room for it")
+    Standing::of_items(rng, kind, 0, items).expect("there is room for it")
 }
 
 fn run(times: usize, text: &str, coeff: f64) -> Run {

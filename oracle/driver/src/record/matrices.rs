@@ -6,11 +6,11 @@
 //! A case stands in a line like that of a model: K for the rates, and operators for the jumps. The
 //! model before is one of Hamiltonian terms I, whose words are zero as the tables of replaying are.
 
-use super::Line;
-use super::models::{TERM_PLACES, line};
-use crate::inputs::Rng;
+use super::models::{TERM_PLACES, line, short};
+use super::{Line, most};
 use crate::inputs::matrices::{self as inputs, Matrix};
 use crate::inputs::models::{self as model_inputs, Items};
+use crate::inputs::{Rng, register_from};
 use crate::port::WORD_LANES;
 use crate::port::matrices::Given;
 use crate::port::models::{self as port, Built, Lent, Model, Sizes};
@@ -29,19 +29,20 @@ const LARGEST: usize = 240;
 const OPERATORS: usize = 8;
 const TERMS: usize = 40;
 
-pub fn record(seed: u64, cases: usize) {
+pub fn record(seed: u64, cases: usize, from: usize) {
     let rng = &mut Rng::new(seed);
     println!("# 7, as 5: a matrix added to a model of Hamiltonian terms I with these h_numbers; K");
     println!("#   stands for the rates, operators for the jumps");
-    for case in tempting() {
+    for case in tempting().into_iter().filter(|_| from == 0) {
         case.answered().expect("a sound case").print();
     }
     for case in 0..cases {
-        answered(rng, ANSWERED[case % ANSWERED.len()]).print();
+        answered(rng, from, ANSWERED[case % ANSWERED.len()]).print();
     }
     println!("# 8, as 7: refusals of document 01 that the Rust does not have");
     for case in 0..cases {
-        refused(rng, REFUSED_BY_DOCUMENT[case % REFUSED_BY_DOCUMENT.len()]).print();
+        let refusals = short(&REFUSED_BY_DOCUMENT, from);
+        refused(rng, from, refusals[case % refusals.len()]).print();
     }
 }
 
@@ -53,15 +54,21 @@ pub(super) struct Case {
 
 impl Case {
     /// A small matrix, with something wrong in most.
-    fn new(rng: &mut Rng) -> Self {
+    fn new(rng: &mut Rng, from: usize) -> Self {
         loop {
-            let n_qubits = rng.below(6);
+            let n_qubits = match from {
+                0 => rng.below(6),
+                _ => register_from(rng, 0, from).min(MAX_QUBITS),
+            };
             let mut matrix = inputs::sound(rng, n_qubits);
             if !rng.one_in(4) {
                 inputs::spoil(rng, n_qubits, &mut matrix);
             }
             let terms = matrix.operators.iter().map(Vec::len).sum::<usize>();
-            if matrix.size() <= LARGEST && matrix.operators.len() <= OPERATORS && terms <= TERMS {
+            if matrix.size() <= most(LARGEST, from)
+                && matrix.operators.len() <= OPERATORS
+                && terms <= TERMS
+            {
                 return Self::of(rng, n_qubits, matrix);
             }
         }
@@ -171,9 +178,9 @@ impl Case {
 }
 
 /// A case with this answer, which the Rust gives too.
-fn answered(rng: &mut Rng, refusal: u64) -> Line {
+fn answered(rng: &mut Rng, from: usize, refusal: u64) -> Line {
     loop {
-        let case = Case::new(rng);
+        let case = Case::new(rng, from);
         let (built, _) = case.add(&case.matrix.flat(), case.sizes(TERM_PLACES));
         if built.status.refusal == refusal
             && let Some(line) = case.answered()
@@ -212,9 +219,9 @@ fn tempting() -> Vec<Case> {
 }
 
 /// A case with this answer, which is that of document 01 alone.
-fn refused(rng: &mut Rng, refusal: u64) -> Line {
+fn refused(rng: &mut Rng, from: usize, refusal: u64) -> Line {
     loop {
-        let mut case = Case::new(rng);
+        let mut case = Case::new(rng, from);
         if rng.one_in(8) {
             case.before.n_qubits = MAX_QUBITS + 1 + rng.below(3);
         }

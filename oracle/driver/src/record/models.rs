@@ -3,7 +3,7 @@
 
 //! Models: building. Each cause has as many cases as every other.
 
-use super::Line;
+use super::{Line, most};
 use crate::inputs::Rng;
 use crate::inputs::models::{self as inputs, Items};
 use crate::port::WORD_LANES;
@@ -19,7 +19,7 @@ const REFUSED_BY_DOCUMENT: [u64; 4] = [7, 8, 9, 13];
 const LARGEST: usize = 240;
 pub(super) const TERM_PLACES: usize = 64;
 
-pub fn record(seed: u64, cases: usize) {
+pub fn record(seed: u64, cases: usize, from: usize) {
     let rng = &mut Rng::new(seed);
     println!("# 5 n_qubits texts_len byte.. lengths_len length.. h_numbers_len number..");
     println!("#   rates_len rate.. counts_len count.. numbers_len number..");
@@ -27,12 +27,19 @@ pub fn record(seed: u64, cases: usize) {
     println!("#   work_numbers, then refusal first second hamiltonian jumps terms; the count of");
     println!("#   terms is that of document 01");
     for case in 0..cases {
-        answered(rng, ANSWERED[case % ANSWERED.len()]).print();
+        answered(rng, from, ANSWERED[case % ANSWERED.len()]).print();
     }
     println!("# 6, as 5: refusals of document 01 that the Rust does not have");
     for case in 0..cases {
-        refused(rng, REFUSED_BY_DOCUMENT[case % REFUSED_BY_DOCUMENT.len()]).print();
+        let refusals = short(&REFUSED_BY_DOCUMENT, from);
+        refused(rng, from, refusals[case % refusals.len()]).print();
     }
+}
+
+/// These refusals, but where registers have many qubits not those by too many terms, whose texts would be long.
+pub(super) fn short(refusals: &[u64], from: usize) -> Vec<u64> {
+    let is_short = |refusal: &u64| from == 0 || ![8, 13].contains(refusal);
+    refusals.iter().copied().filter(is_short).collect()
 }
 
 /// The answer of the rules, and how long the lent tables were.
@@ -42,13 +49,13 @@ fn build(given: &Given, n_qubits: usize, lent: Lent) -> (Built, Sizes) {
 }
 
 /// Small items, with something wrong in most.
-fn items(rng: &mut Rng) -> Items {
+fn items(rng: &mut Rng, from: usize) -> Items {
     loop {
         let mut items = inputs::sound(rng);
         if !rng.one_in(4) {
             inputs::spoil(rng, &mut items);
         }
-        if items.size() <= LARGEST {
+        if items.n_qubits >= from && items.size() <= most(LARGEST, from) {
             return items;
         }
     }
@@ -64,9 +71,9 @@ fn enough(given: &Given, items: &Items) -> Sizes {
 }
 
 /// A case with this answer, which the Rust gives too.
-fn answered(rng: &mut Rng, refusal: u64) -> Line {
+fn answered(rng: &mut Rng, from: usize, refusal: u64) -> Line {
     loop {
-        let items = items(rng);
+        let items = items(rng, from);
         let given = items.flat();
         let sizes = enough(&given, &items);
         let (built, sizes) = build(&given, items.n_qubits, inputs::lent(rng, sizes));
@@ -78,9 +85,9 @@ fn answered(rng: &mut Rng, refusal: u64) -> Line {
 }
 
 /// A case with this answer, which is that of document 01 alone.
-fn refused(rng: &mut Rng, refusal: u64) -> Line {
+fn refused(rng: &mut Rng, from: usize, refusal: u64) -> Line {
     loop {
-        let items = items(rng);
+        let items = items(rng, from);
         let mut given = items.flat();
         if rng.one_in(4) {
             inputs::spoil_lengths(rng, &mut given);

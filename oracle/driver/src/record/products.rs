@@ -136,7 +136,7 @@ impl Case {
 
 /// A product with the matrix of a small generator, and what the Rust makes of it.
 fn of_generator(rng: &mut Rng) -> Option<(Case, Vec<f64>)> {
-    let standing = Standing::of_model(rng, PRODUCT, 1)?;
+    let standing = Standing::of_model(rng, PRODUCT, 0, 1)?;
     let Standing {
         items,
         matrices,

@@ -5,7 +5,7 @@
 //! that of a model or a matrix, without the answer to building.
 
 use super::models::given_line;
-use super::{Line, matrices};
+use super::{Line, matrices, most};
 use crate::inputs::Rng;
 use crate::inputs::actions as inputs;
 use crate::inputs::matrices::Matrix;
@@ -30,8 +30,11 @@ pub(super) struct Standing {
 }
 
 impl Standing {
-    /// Nothing where there is no room for it.
-    pub fn of_items(rng: &mut Rng, kind: u64, items: Items) -> Option<Self> {
+    /// Nothing where there is no room for it, or where its register has fewer qubits than these.
+    pub fn of_items(rng: &mut Rng, kind: u64, from: usize, items: Items) -> Option<Self> {
+        if items.n_qubits < from {
+            return None;
+        }
         let given = items.flat();
         let sizes = model_sizes(items.hamiltonian.len(), items.jumps.len(), items.longest());
         let sizes = Sizes {
@@ -41,7 +44,7 @@ impl Standing {
         };
         let mut lent = model_inputs::lent(rng, sizes);
         let built = build_model(&given, items.n_qubits, &mut lent);
-        (built.status.refusal == 0 && given.texts.len() <= BYTES).then(|| Self {
+        (built.status.refusal == 0 && given.texts.len() <= most(BYTES, from)).then(|| Self {
             line: given_line(kind, items.n_qubits, &given, sizes),
             items,
             matrices: Vec::new(),
@@ -51,25 +54,29 @@ impl Standing {
     }
 
     /// A small model, or now and then one of many items.
-    pub fn of_model(rng: &mut Rng, kind: u64, case: usize) -> Option<Self> {
+    pub fn of_model(rng: &mut Rng, kind: u64, from: usize, case: usize) -> Option<Self> {
         let items = match case % 8 {
-            0 => inputs::crowded(rng),
+            0 if from == 0 => inputs::crowded(rng),
             _ => inputs::model(rng).0,
         };
-        Self::of_items(rng, kind, items)
+        Self::of_items(rng, kind, from, items)
     }
 
     /// A matrix that is added to a few Hamiltonian terms I.
     pub fn of_matrix(
         rng: &mut Rng,
         kind: u64,
+        from: usize,
         (n_qubits, matrix): (usize, Matrix),
     ) -> Option<Self> {
+        if n_qubits < from {
+            return None;
+        }
         let case = matrices::Case::of(rng, n_qubits, matrix);
         let given = case.matrix.flat();
         let sizes = case.sizes(TERM_PLACES);
         let (built, lent) = case.add(&given, sizes);
-        (built.status.refusal == 0 && given.texts.len() <= BYTES).then(|| Self {
+        (built.status.refusal == 0 && given.texts.len() <= most(BYTES, from)).then(|| Self {
             line: given_line(kind, n_qubits, &case.given(given), sizes),
             items: case.before,
             matrices: vec![case.matrix],

@@ -10,16 +10,24 @@ use crate::published::{self, rust_word};
 use crate::rules::MAX_QUBITS;
 use ppvm_lindblad::open;
 
-pub fn record(seed: u64, cases: usize) {
+pub fn record(seed: u64, cases: usize, from: usize) {
     let rng = &mut Rng::new(seed);
-    println!("# 1 n_qubits text_len byte.. refusal first second x0 x1 z0 z1");
-    (0..cases).for_each(|case| text(rng, case).print());
-    println!("# 2 count code.. refusal first second x0 x1 z0 z1");
-    (0..cases).for_each(|case| codes_read(rng, case).print());
-    println!("# 3 x0 x1 z0 z1 n_qubits code..");
-    (0..cases).for_each(|case| codes_written(rng, case).print());
-    println!("# 4 px0 px1 pz0 pz1 qx0 qx1 qz0 qz1 rx0 rx1 rz0 rz1 phase anti eps");
-    (0..cases).for_each(|case| product(rng, case).print());
+    let mut each = |case: fn(&mut Rng, usize) -> Line| {
+        for place in 0..cases {
+            let n_qubits = inputs::register_from(rng, place, from);
+            case(rng, n_qubits).print();
+        }
+    };
+    println!(
+        "# 1 n_qubits text_len byte.. refusal first second, the lanes of the word: those of x, then of z"
+    );
+    each(text);
+    println!("# 2 count code.. refusal first second, the lanes of the word");
+    each(codes_read);
+    println!("# 3 the lanes of a word, n_qubits code..");
+    each(codes_written);
+    println!("# 4 the lanes of p, of q and of their product, phase anti eps");
+    each(product);
 }
 
 impl Line {
@@ -31,8 +39,7 @@ impl Line {
     }
 }
 
-fn text(rng: &mut Rng, case: usize) -> Line {
-    let n_qubits = inputs::register(rng, case);
+fn text(rng: &mut Rng, n_qubits: usize) -> Line {
     let text = inputs::ascii_text(rng, n_qubits);
     let as_str = std::str::from_utf8(&text).expect("ASCII is UTF-8");
     Line::new(1)
@@ -42,8 +49,7 @@ fn text(rng: &mut Rng, case: usize) -> Line {
         .parsed(published::parse_pauli_string(as_str, n_qubits))
 }
 
-fn codes_read(rng: &mut Rng, case: usize) -> Line {
-    let n_qubits = inputs::register(rng, case);
+fn codes_read(rng: &mut Rng, n_qubits: usize) -> Line {
     let codes = inputs::codes(rng, n_qubits);
     Line::new(2)
         .number(codes.len() as u64)
@@ -51,8 +57,8 @@ fn codes_read(rng: &mut Rng, case: usize) -> Line {
         .parsed(published::word_from_codes(&codes))
 }
 
-fn codes_written(rng: &mut Rng, case: usize) -> Line {
-    let n_qubits = inputs::register(rng, case).min(MAX_QUBITS);
+fn codes_written(rng: &mut Rng, n_qubits: usize) -> Line {
+    let n_qubits = n_qubits.min(MAX_QUBITS);
     let word = inputs::word(rng, n_qubits);
     Line::new(3)
         .word(word)
@@ -60,8 +66,8 @@ fn codes_written(rng: &mut Rng, case: usize) -> Line {
         .bytes(&published::codes_from_word(word, n_qubits))
 }
 
-fn product(rng: &mut Rng, case: usize) -> Line {
-    let n_qubits = inputs::register(rng, case).min(MAX_QUBITS);
+fn product(rng: &mut Rng, n_qubits: usize) -> Line {
+    let n_qubits = n_qubits.min(MAX_QUBITS);
     let (p, q) = inputs::pair(rng, n_qubits);
     let (rust_p, rust_q) = (rust_word(n_qubits, p), rust_word(n_qubits, q));
     let product = published::pauli_mul(&rust_p, &rust_q);
