@@ -1,6 +1,6 @@
 # SPDX-FileCopyrightText: 2026 The PPVM Authors
 # SPDX-License-Identifier: Apache-2.0
-"""What the package costs beside the C call: leakage, generator and CSR of a chain of 128 qubits over 65,536
+"""What the package costs beside the C call: leakage, generator and CSR of a chain of 256 qubits over 65,536
 words, building a large model, and loading.
 
 usage: python/run bench [--words N] [--rounds R] [--seed S]
@@ -21,8 +21,9 @@ import time
 import numpy as np
 
 from pebblelinen import Basis, Model, Word, _library
+from pebblelinen._lanes import WORD_LANES, split
 
-QUBITS = 128
+QUBITS = 256
 LIMIT = 65_536
 # More words than one action touches, and more candidates than are held at a time.
 TOUCHED = 1024
@@ -51,8 +52,7 @@ def local_words(rng, count):
             bit = 1 << first + rng.randrange(6)
             letter = rng.choice("XYZ")
             x, z = x & ~bit | bit * (letter != "Z"), z & ~bit | bit * (letter != "X")
-        low = (1 << 64) - 1
-        found[x & low, x >> 64, z & low, z >> 64] = None
+        found[*split(x), *split(z)] = None
     return np.array(list(found), np.uint64)
 
 
@@ -94,7 +94,7 @@ def leakage_call(model, basis):
         np.zeros(0, np.uint64),
         _library.Limits(LIMIT, 0, 0, 0, 0.0),
         *tables(lengths, floats),
-        np.zeros(4 * LIMIT, np.uint64),
+        np.zeros(WORD_LANES * LIMIT, np.uint64),
         np.zeros(LIMIT),
     )
 

@@ -37,7 +37,7 @@ static bool chance(unsigned percent) { return below(100) < percent; }
 
 /* Counts and numbers that are at some limit, or beyond all. */
 static uint64_t odd_count(void) {
-    static const uint64_t odd[] = {0, 1, 2, 3, 4, 16, 17, 63, 64, 65, 127, 128, 129, 255, 256, 4096, 4097,
+    static const uint64_t odd[] = {0, 1, 2, 3, 4, 16, 17, 63, 64, 65, 127, 128, 129, 255, 256, 257, 4096, 4097,
         65535, 65536, 65537, 1ull << 31, 1ull << 32, 1ull << 61, 1ull << 62, 1ull << 63, UINT64_MAX,
         UINT64_MAX - 1, UINT64_MAX / 4, UINT64_MAX / 8 + 1};
     return chance(20) ? bits() : odd[below(sizeof odd / sizeof *odd)];
@@ -196,20 +196,26 @@ static void check(pebblelinen_status status) {
 
 #define P(s) (s).p, (s).len
 
-static size_t some_qubits(void) { return chance(5) ? 128 : chance(5) ? 70 : below(7); }
+/* The lanes of a word in a table: those of x, then those of z. */
+enum { LANES = PEBBLELINEN_MAX_QUBITS / 64, WORD = 2 * LANES };
+
+static size_t some_qubits(void) {
+    static const size_t wide[] = {70, 128, 129, 192, 256};
+    return chance(10) ? wide[below(5)] : below(7);
+}
 
 static void put_word(uint64_t *lanes, size_t n) {
-    memset(lanes, 0, 32);
+    memset(lanes, 0, WORD * sizeof *lanes);
     for (size_t times = below(4); times && n; times--) {
         size_t q = below(n);
         if (chance(66)) lanes[q / 64] |= 1ull << q % 64;
-        if (chance(66)) lanes[2 + q / 64] |= 1ull << q % 64;
+        if (chance(66)) lanes[LANES + q / 64] |= 1ull << q % 64;
     }
 }
 
 static Slice some_words(size_t count, size_t n, Role role) {
-    Slice s = make(4 * count, 8, role);
-    for (size_t i = 0; i < count; i++) put_word((uint64_t *)s.p + 4 * i, n);
+    Slice s = make(WORD * count, 8, role);
+    for (size_t i = 0; i < count; i++) put_word((uint64_t *)s.p + WORD * i, n);
     return s;
 }
 
@@ -222,10 +228,12 @@ static Slice some_numbers(size_t count, Role role) {
 }
 
 static pebblelinen_word some_word(size_t n) {
-    uint64_t lanes[4];
+    uint64_t lanes[WORD];
     put_word(lanes, n);
-    if (chance(10)) lanes[below(4)] = bits();
-    pebblelinen_word word = {{lanes[0], lanes[1]}, {lanes[2], lanes[3]}};
+    if (chance(10)) lanes[below(WORD)] = bits();
+    pebblelinen_word word;
+    memcpy(word.x, lanes, sizeof word.x);
+    memcpy(word.z, lanes + LANES, sizeof word.z);
     return word;
 }
 
@@ -317,7 +325,7 @@ static void call_write_codes(void) {
 }
 
 static void call_algebra(void) {
-    pebblelinen_word p = some_word(128), q = some_word(128);
+    pebblelinen_word p = some_word(PEBBLELINEN_MAX_QUBITS), q = some_word(PEBBLELINEN_MAX_QUBITS);
     pebblelinen_phased r = pebblelinen_pauli_mul(p, q);
     pebblelinen_commutator c = pebblelinen_comm_product(p, q);
     bool odd = r.phase & 1;
@@ -388,8 +396,8 @@ static void call_test(void) {
 static void call_action(void) {
     size_t n = some_qubits(), places = below(40);
     Tables t = some_model(n, READ);
-    Slice words = make(4 * places, 8, WORK), sums = make(2 * places, 8, WORK);
-    Slice out_words = make(4 * places, 8, CHANGED), out_values = make(places, 8, CHANGED);
+    Slice words = make(WORD * places, 8, WORK), sums = make(2 * places, 8, WORK);
+    Slice out_words = make(WORD * places, 8, CHANGED), out_values = make(places, 8, CHANGED);
     lend_tables(&t), lend(&words), lend(&sums), lend(&out_words), lend(&out_values);
     pebblelinen_word p = some_word(n);
     damage((size_t *[]){MODEL_COUNTS(t)}, 4, NULL, 0);
@@ -401,7 +409,7 @@ static void call_count(void) {
     Tables t = some_model(n, READ);
     Slice list = some_words(below(12), n, READ);
     Slice h_index = make(64 * n, 8, WORK), j_index = make(64 * n, 8, WORK), mask = make(64, 8, WORK);
-    Slice words = make(4 * places, 8, WORK), sums = make(2 * places, 8, WORK);
+    Slice words = make(WORD * places, 8, WORK), sums = make(2 * places, 8, WORK);
     lend_tables(&t), lend(&list), lend(&h_index), lend(&j_index), lend(&mask), lend(&words), lend(&sums);
     damage((size_t *[]){MODEL_COUNTS(t)}, 4, NULL, 0);
     check(pebblelinen_count_action_terms(MODEL(t), P(list), P(h_index), P(j_index), P(mask), P(words), P(sums)).status);
@@ -412,7 +420,7 @@ static void call_shorten(bool capping) {
     double drop_tol = some_number();
     Slice words = some_words(len + room, n, CHANGED), coeffs = some_numbers(len + room, CHANGED);
     Slice fixed_words = some_words(below(4), n, READ);
-    pebblelinen_basis_work sizes = pebblelinen_basis_sizes(len, fixed_words.len / 4, 0);
+    pebblelinen_basis_work sizes = pebblelinen_basis_sizes(len, fixed_words.len / WORD, 0);
     Slice order = make(sizes.order, 8, WORK), work = make(sizes.work, 8, WORK);
     Slice fixed = make(sizes.fixed, 8, WORK), kept = make(sizes.kept, 8, WORK);
     lend(&words), lend(&coeffs), lend(&fixed_words), lend(&order), lend(&work), lend(&fixed), lend(&kept);
@@ -430,7 +438,7 @@ static void call_cap(void) { call_shorten(true); }
 
 static void call_admit(void) {
     size_t n = some_qubits(), len = below(12), listed = below(8), limit = below(24);
-    Slice words = some_words(len + below(10), n, CHANGED), coeffs = some_numbers(words.len / 4, CHANGED);
+    Slice words = some_words(len + below(10), n, CHANGED), coeffs = some_numbers(words.len / WORD, CHANGED);
     Slice list = some_words(listed, n, READ), values = some_numbers(listed, READ);
     pebblelinen_basis_work sizes = pebblelinen_basis_sizes(0, 0, listed);
     Slice order = make(sizes.order, 8, WORK), work = make(sizes.work, 8, WORK), kept = make(sizes.kept, 8, WORK);
@@ -446,13 +454,13 @@ static void call_leakage(void) {
     for (size_t i = 0; i < len && chance(10); i++) ((double *)coeffs.p)[i] = 1.5e308;
     Slice fixed_words = some_words(below(4), n, READ);
     pebblelinen_limits limits = {len + room, chance(30), below(40), chance(50), some_number()};
-    pebblelinen_leakage_lengths sizes = pebblelinen_leakage_sizes(n, len, fixed_words.len / 4, below(40), below(100));
+    pebblelinen_leakage_lengths sizes = pebblelinen_leakage_sizes(n, len, fixed_words.len / WORD, below(40), below(100));
     size_t lengths[19];
     memcpy(lengths, &sizes, sizeof lengths);
     Slice w[19];
     lend_tables(&t), lend(&words), lend(&coeffs), lend(&fixed_words);
     for (size_t i = 0; i < 19; i++) w[i] = make(lengths[i], 8, WORK), lend(&w[i]);
-    Slice out_words = make(4 * room, 8, CHANGED), out_values = make(room, 8, CHANGED);
+    Slice out_words = make(WORD * room, 8, CHANGED), out_values = make(room, 8, CHANGED);
     lend(&out_words), lend(&out_values);
     damage((size_t *[]){MODEL_COUNTS(t), &len, &limits.max_basis, &limits.admit_basis}, 7,
            (double *[]){&limits.tau_add}, 1);
@@ -520,7 +528,7 @@ static void call_norm(void) {
     Tables t = some_model(n, READ);
     Slice words = some_words(len, n, READ);
     Slice h_index = make(64 * n, 8, WORK), j_index = make(64 * n, 8, WORK), mask = make(64, 8, WORK);
-    Slice work = make(4 * places, 8, WORK), sums = make(2 * places, 8, WORK);
+    Slice work = make(WORD * places, 8, WORK), sums = make(2 * places, 8, WORK);
     Slice raws = make(len, 8, WORK), diags = make(len, 8, WORK);
     lend_tables(&t), lend(&words), lend(&h_index), lend(&j_index), lend(&mask), lend(&work), lend(&sums);
     lend(&raws), lend(&diags);

@@ -28,20 +28,22 @@ class Odd:
 
 
 def junk(rng):
-    lanes = np.array([[1, 0, 2, 0], [rng.getrandbits(64), 0, 0, rng.getrandbits(64)]], np.uint64)
+    lanes = np.zeros((2, 8), np.uint64)
+    lanes[0, [0, 4]] = 1, 2
+    lanes[1, [0, rng.randrange(1, 8)]] = rng.getrandbits(64), rng.getrandbits(64)
     numbers = np.array([0.5, rng.choice([NAN, INF, -INF, 1e308, 0.0])])
     return rng.choice(
         [
-            None, True, -1, 0, 1, 2, 3, 128, 129, 65_536, 65_537, 1 << 63, 1 << 64, 10**400, 10**5000, 0.0, -0.0, 0.5, 1e308,
+            None, True, -1, 0, 1, 2, 3, 128, 129, 256, 257, 65_536, 65_537, 1 << 63, 1 << 64, 10**400, 10**5000, 0.0, -0.0, 0.5, 1e308,
             NAN, INF, -INF, 1j, complex(NAN, 1), "", "X", "x", "XYZ", "X0 Z2", "X5", "X0 X0", "é", "X\udcff", "\0",
             "X" * 200, "X99999", b"XYZ", bytearray(b"X"), [], {}, (), set(), [[]], [None], ["X"], ["XYZ"], [1, 2],
             [("XYZ", 1)], [("XYZ", NAN)], {"XYZ": 1}, {"XYZ": 1j}, {0: "X"}, {0: "XX"}, {-1: "X"}, {5: "Z"},
             {Position(0): "X"}, Position(0), Qubit(0), object(), Odd(), range(3), iter("XYZ"), lanes, lanes[0],
-            lanes[:, :3], lanes.astype(float), lanes.T, lanes[::-1], lanes.view(np.int64), lanes[:0], numbers,
+            lanes[:, :3], lanes[:, :4], lanes.astype(float), lanes.T, lanes[::-1], lanes.view(np.int64), lanes[:0], numbers,
             numbers[::2], numbers.astype(">f8"), numbers.astype(complex), numbers.astype(object), numbers[0],
             numbers.reshape(1, 2), np.ma.array(numbers), np.array("X"), np.array(["XYZ", "ZZZ"]), np.array(1.0),
             np.uint64(3), np.float32(0.5), np.bool_(True), np.datetime64("2000"), Word("XYZ", n=3), Word("X", n=1),
-            Word.from_lanes([1 << 40, 0, 0, 0], n=3), Basis(3, {"XYZ": 1}), Basis(1), Model(3), type, len,
+            Word.from_lanes([1 << 40, *7 * [0]], n=3), Basis(3, {"XYZ": 1}), Basis(1), Model(3), type, len,
             np.zeros((2, 2)), np.zeros((3, 4)), [(["XYZ"], [[1]])], [(["XYZ"], [[NAN]])], [(1, "XYZ")],
             [(1, {"XYZ": 1, "ZZI": 1j})], [(-1, "XYZ")], [(["XYZ"] * 65, np.zeros((65, 65)))],
             Terms(3, lanes, numbers), Terms(3, lanes, [1.0]), Terms(3, np.arange(7, dtype=np.uint64), [1]),
@@ -62,7 +64,7 @@ def calls(rng):
     words = ["XYZ", "X0 Z2", {1: "Y"}]
     found = {
         "Word": lambda: Word(any_of(*words), n=any_of(3)),
-        "Word.from_lanes": lambda: Word.from_lanes(any_of([1, 0, 2, 0]), n=any_of(3)).text,
+        "Word.from_lanes": lambda: Word.from_lanes(any_of([1, 0, 0, 0, 2, 0, 0, 0], [1, 0, 2, 0]), n=any_of(3)).text,
         "Word.from_codes": lambda: Word.from_codes(any_of([0, 1, 2], b"\0\3")),
         "Word.times": lambda: Word("XYZ", n=3).times(any_of(*words)),
         "Word.letter": lambda: Word("XYZ", n=3).letter(qubit=any_of(1)),
@@ -82,7 +84,7 @@ def calls(rng):
         ),
         "Basis": lambda: Basis(any_of(3), any_of({"XYZ": 1.0}, [("Z0", any_of(0.5))])),
         "Basis.from_arrays": lambda: Basis.from_arrays(
-            any_of(3), any_of(np.zeros((2, 4), np.uint64)), any_of(np.zeros(2), None)
+            any_of(3), any_of(np.zeros((2, 8), np.uint64)), any_of(np.zeros(2), None)
         ).cap(limit=1),
         "prune": lambda: basis.prune(drop_tol=any_of(0.3), protected=any_of([], ["XYZ"])),
         "cap": lambda: basis.cap(limit=any_of(1), protected=any_of([], ["XYZ"])),

@@ -1,6 +1,7 @@
 # SPDX-FileCopyrightText: 2026 The PPVM Authors
 # SPDX-License-Identifier: Apache-2.0
-"""Compares actions and generators with QuTiP's Liouvillian, on random models of at most four qubits.
+"""Compares actions and generators with QuTiP's Liouvillian, on random models of at most four qubits: on a register
+of these alone, and on as many sites of a register of 256 qubits, most of them from 128 to 255.
 
 usage: python/run qutip [--models N] [--seed S]
 
@@ -15,10 +16,13 @@ import sys
 import numpy as np
 import qutip
 
+import dense
 from pebblelinen import Basis, Model
 
 TOLERANCE = 1e-12
 MOST_QUBITS = 4
+LARGEST = 256
+LANE_ENDS = [63, 64, 127, 128, 191, 192, 255]
 LETTERS = {"I": qutip.qeye(2), "X": qutip.sigmax(), "Y": qutip.sigmay(), "Z": qutip.sigmaz()}
 
 
@@ -68,6 +72,26 @@ def random_model(rng, n):
     return hamiltonian, jumps, matrices
 
 
+def some_sites(rng, n):
+    """So many sites of the largest register, in any order."""
+    found = set(rng.sample(LANE_ENDS, rng.randint(0, n)))
+    while len(found) < n:
+        found.add(rng.randrange(128, LARGEST))
+    return rng.sample(sorted(found), n)
+
+
+def found_on(sites, n, given, texts):
+    """Actions and generator of a model on these sites of a register, over the words of these sites."""
+    model = Model(n, *dense.moved(sites, n, *given))
+    words = [dense.placed(text, sites, n) for text in texts]
+    rows = {word: row for row, word in enumerate(words)}
+    ours = np.zeros((len(texts), len(texts)))
+    for column, word in enumerate(words):
+        for found, value in model.action(word):
+            ours[rows[found.text], column] = value
+    return ours, model.generator(Basis(n, [(word, 0.0) for word in words])).toarray()
+
+
 def main():
     parser = argparse.ArgumentParser(prog="python/run qutip")
     parser.add_argument("--models", type=int, default=200)
@@ -81,23 +105,18 @@ def main():
     for case in range(options.models):
         n = 1 + case % MOST_QUBITS
         given = random_model(rng, n)
-        model = Model(n, *given)
         texts = ["".join(letters) for letters in itertools.product("IXYZ", repeat=n)]
         theirs = expected(n, *given, texts)
-        ours = np.zeros_like(theirs, float)
-        for column, text in enumerate(texts):
-            for found, value in model.action(text):
-                ours[texts.index(found.text), column] = value
-        generator = model.generator(Basis(n, [(text, 0.0) for text in texts])).toarray()
-        actions += len(texts)
-        for what, numbers in ("action", ours), ("generator", generator):
-            deviation = abs(numbers - theirs).max()
-            largest[what] = max(largest[what], deviation)
-            if not deviation <= TOLERANCE * max(1.0, abs(theirs).max()):
-                disagreements += 1
-                print(f"the {what} disagrees by {deviation}: {given}")
+        for sites, qubits in (range(n), n), (some_sites(rng, n), LARGEST):
+            actions += len(texts)
+            for what, numbers in zip(largest, found_on(sites, qubits, given, texts)):
+                deviation = abs(numbers - theirs).max()
+                largest[what] = max(largest[what], deviation)
+                if not deviation <= TOLERANCE * max(1.0, abs(theirs).max()):
+                    disagreements += 1
+                    print(f"the {what} disagrees by {deviation} on the sites {list(sites)}: {given}")
     print(
-        f"{options.models} models, {actions} actions and as many columns of generators: {disagreements}"
+        f"{options.models} models, each on two registers, {actions} actions and as many columns of generators: {disagreements}"
         f" disagreements, largest deviations {largest['action']:.3g} and {largest['generator']:.3g}"
     )
     return 1 if disagreements else 0

@@ -2,7 +2,7 @@
 # SPDX-License-Identifier: Apache-2.0
 """Pebblelinen: how noise moves an observable of a quantum device.
 
-The adjoint Lindblad generator on Pauli words of up to 128 qubits. Every answer comes from a library that is
+The adjoint Lindblad generator on Pauli words of up to 256 qubits. Every answer comes from a library that is
 proved to give it; this package carries numbers in and out.
 
     from pebblelinen import Basis, Model

@@ -16,6 +16,7 @@ import numpy as np
 from numpy.typing import NDArray
 
 from . import _given, _library, _texts, words
+from ._lanes import WORD_LANES
 from ._tables import WorkTables, work_tables, zeros
 from ._texts import Items, Named
 from ._types import ItemPath, LaneTable, NumberTable
@@ -33,7 +34,7 @@ Tables = dict[str, NDArray[Any]]
 TABLES = "h_words h_coeffs jumps rates t_words t_numbers".split()
 _LANES = {"h_words", "jumps", "t_words"}
 # Numbers that a place takes.
-_EACH = dict(h_words=4, h_coeffs=1, jumps=8, rates=1, t_words=4, t_numbers=2)
+_EACH = dict(h_words=WORD_LANES, h_coeffs=1, jumps=8, rates=1, t_words=WORD_LANES, t_numbers=2)
 
 _RANGE = "0, or 2^-200 to 2^200 in magnitude, is needed"
 _LIMITS = {"hamiltonian": 4096, "jumps": 4096, "terms": 16, "operators": MOST_OPERATORS}
@@ -360,7 +361,7 @@ def jump_refusal(status: _library.Status, n: int, i: int, jump: Jumps) -> Refusa
     what, path, values = f"jump {i}", ("jumps", i), {"jump": i}
     if status.refusal == 5:
         return Refusal(5, f"{what} has the rate {rate}, below 0", values, (*path, "rate"))
-    sound = operators_of([words.made((0, 0, 0, 0), n)], lambda i: ())
+    sound = operators_of([words.made([0] * WORD_LANES, n)], lambda i: ())
     if build(n, NO_ITEMS, Jumps(jump.rates, sound))[0].status.refusal:
         return Refusal(7, f"{what} has the rate {rate}: {_RANGE}", values, (*path, "rate"))
     return _operator_refusal(status, n, what, jump.operators.terms, values, (*path, "operator"))
@@ -458,7 +459,7 @@ def _short_table(
     are tested in the order of TABLES, then the work tables, whose needs the library alone knows."""
     first, second = status.first, status.second
     lent = [(name, len(tables[name]) // _EACH[name]) for name, need in needs.items() if need == first]
-    work = dict(work_words=sizes.work_words // 4, work_numbers=sizes.work_numbers // 2)
+    work = dict(work_words=sizes.work_words // WORD_LANES, work_numbers=sizes.work_numbers // 2)
     lent += [(name, places) for name, places in work.items() if places < first]
     name = next((name for name, places in lent if places == second), "a table")
     short = f"{_given.counted(second, 'place')} in {name}, in place of {first}"

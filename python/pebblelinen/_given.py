@@ -12,6 +12,7 @@ from typing import Any
 import numpy as np
 from numpy.typing import NDArray
 
+from ._lanes import NAMED, WORD_LANES, advice
 from ._types import ItemPath, LaneTable, NumberTable
 from .errors import InputError
 
@@ -133,8 +134,8 @@ def numbers(given: Any, what: str) -> NumberTable:
 
 
 def lanes(given: Any, what: str) -> LaneTable:
-    """A flat table of words, four lanes each: the array itself, where it can be lent. A last word may
-    be cut off, for the library to refuse."""
+    """A flat table of words: the array itself, where it can be lent. A last word may be cut off, for the
+    library to refuse."""
     if not hasattr(given, "__len__"):
         given = listed(given, what)
     made = array(given, what)
@@ -145,8 +146,9 @@ def lanes(given: Any, what: str) -> LaneTable:
         raise InputError(f"{what} is an array of {made.dtype}: uint64 is needed")
     if made.dtype.kind == "i" and made.size and made.min() < 0:
         raise InputError(f"{what} has a number below 0: lanes are uint64")
-    if made.ndim != 1 and made.shape[1:] != (4,):
-        raise InputError(f"{what} has the shape {made.shape}: (words, 4) is needed")
+    if made.ndim != 1 and made.shape[1:] != (WORD_LANES,):
+        needed = f"(words, {WORD_LANES}) is needed, {NAMED}"
+        raise InputError(f"{what} has the shape {made.shape}: {needed}{advice(made.shape[-1])}")
     return np.require(made, np.uint64, ["C", "A"]).reshape(-1)
 
 

@@ -11,6 +11,7 @@ from typing import Annotated, Any, TypeVar, get_origin, get_type_hints
 import numpy as np
 
 from . import _tree
+from ._lanes import LANES
 from .errors import LibraryMissing
 
 
@@ -20,7 +21,7 @@ Size = Annotated[int, c_size_t]
 Small = Annotated[int, c_uint32]
 Large = Annotated[int, c_uint64]
 Real = Annotated[float, c_double]
-Lanes = Annotated[Sequence[int], c_uint64 * 2]
+Lanes = Annotated[Sequence[int], c_uint64 * LANES]
 
 _Made = TypeVar("_Made", bound=type[Structure])
 

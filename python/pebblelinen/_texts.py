@@ -14,6 +14,8 @@ import numpy as np
 from numpy.typing import NDArray
 
 from . import words
+from ._lanes import LANES, WORD_LANES
+from ._lanes import joined as joined_lanes
 from ._tables import WorkTables
 from ._types import ByteTable, ItemPath, LaneTable
 
@@ -69,11 +71,11 @@ def _write(given: list[Any], texts: ByteTable) -> bool:
             return False
         if len(packed) != len(part):
             return False
-        lanes = np.frombuffer(b"".join(packed), np.uint64).reshape(-1, 4)
-        x0, x1, z0, z1 = np.bitwise_or.reduce(lanes).tolist()
-        if (x0 | z0 | (x1 | z1) << 64) >> n:
+        lanes = np.frombuffer(b"".join(packed), np.uint64).reshape(-1, WORD_LANES)
+        all_x, all_z = joined_lanes(np.bitwise_or.reduce(lanes).tolist())
+        if (all_x | all_z) >> n:
             return False
-        x, z = np.moveaxis(lanes.view(np.uint8).reshape(-1, 2, 16), 1, 0)
+        x, z = np.moveaxis(lanes.view(np.uint8).reshape(-1, 2, 8 * LANES), 1, 0)
         eights = _eights()[x | z.astype(np.uint16) << 8]
         texts[start : start + _PART] = eights.view(np.uint8)[:, :n]
     return True

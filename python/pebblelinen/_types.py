@@ -4,14 +4,14 @@
 import numpy as np
 from numpy.typing import NDArray
 
-# Flat tables: of words, four lanes each; of numbers; of texts; of columns.
+# Flat tables: of words, WORD_LANES lanes each; of numbers; of texts; of columns.
 LaneTable = NDArray[np.uint64]
 NumberTable = NDArray[np.float64]
 ByteTable = NDArray[np.uint8]
 ColumnTable = NDArray[np.uint32]
 
-# The four lanes of a word: x[0], x[1], z[0], z[1].
-FourLanes = tuple[int, int, int, int]
+# The lanes of a word: those of x, then those of z.
+WordLanes = tuple[int, ...]
 
 # The way to an item of the input: a key, then places, counted from 0, and further keys.
 ItemPath = tuple[str | int, ...]

@@ -9,6 +9,7 @@ import numpy as np
 from numpy.typing import NDArray
 
 from . import _given, _library
+from ._lanes import LANES, WORD_LANES, advice
 from ._sealed import Sealed, read_only
 from ._showing import SHOWN, Shown, Table
 from ._tables import work_tables, zeros
@@ -62,7 +63,7 @@ class Basis(Shown, Sealed):
         words: Iterable[Any] | NDArray[Any],
         coefficients: Iterable[float] | NDArray[Any] | None = None,
     ) -> "Basis":
-        """The basis of an array of lanes, of the shape (entries, 4), and one of coefficients, which are
+        """The basis of an array of lanes, of the shape (entries, 8), and one of coefficients, which are
         0 where none are given.
 
         Arrays that can be lent as they are are not copied: the basis reads them where they are, and
@@ -72,15 +73,14 @@ class Basis(Shown, Sealed):
         self.n = register(n)
         lanes = _given.lanes(words, "words")
         if coefficients is None:
-            coefficients = np.zeros(len(lanes) // 4)
+            coefficients = np.zeros(len(lanes) // WORD_LANES)
         self._hold(lanes, _given.numbers(coefficients, "coefficients"), own=False)
         return self
 
     def _hold(self, lanes: LaneTable, coefficients: NumberTable, own: bool) -> None:
-        if 4 * len(coefficients) != len(lanes):
-            raise InputError(
-                f"{len(coefficients)} coefficients beside {len(lanes)} lanes: each has a word of 4"
-            )
+        if WORD_LANES * len(coefficients) != len(lanes):
+            said = f"{len(coefficients)} coefficients beside {len(lanes)} lanes: each has a word of {WORD_LANES}"
+            raise InputError(said + (advice(len(lanes) // len(coefficients)) if len(coefficients) else ""))
         self._lanes = lanes
         self._coefficients = coefficients
         self._len = len(coefficients)
@@ -108,12 +108,13 @@ class Basis(Shown, Sealed):
     @property
     def lanes(self) -> LaneTable:
         """The words in use, flat, to be read only."""
-        return read_only(self._lanes[: 4 * self._len])
+        return read_only(self._lanes[: WORD_LANES * self._len])
 
     @property
     def words(self) -> LaneTable:
-        """The words, four lanes each: an array of uint64 of the shape (entries, 4), to be read only."""
-        return self.lanes.reshape(-1, 4)
+        """The words, eight lanes each, x[0] to x[3], then z[0] to z[3]: an array of uint64 of the shape
+        (entries, 8), to be read only."""
+        return self.lanes.reshape(-1, WORD_LANES)
 
     @property
     def coefficients(self) -> NumberTable:
@@ -143,7 +144,7 @@ class Basis(Shown, Sealed):
         p = int(Position(position))
         if p >= self._len:
             raise InputError(f"position {p} is outside the basis of {self._shown_len()}")
-        lanes = self._lanes[4 * p : 4 * p + 4].tolist()
+        lanes = self._lanes[WORD_LANES * p : WORD_LANES * (p + 1)].tolist()
         return Entry(Position(p), made(lanes, self.n), float(self._coefficients[p]))
 
     def __iter__(self) -> Iterator[Entry]:
@@ -160,7 +161,7 @@ class Basis(Shown, Sealed):
         if q >= min(self.n, MAX_QUBITS):
             raise InputError(f"qubit {q} is outside the register of {qubits(self.n)}")
         lane, bit = q // 64, np.uint64(1 << q % 64)
-        found = (self.words[:, lane] | self.words[:, 2 + lane]) & bit
+        found = (self.words[:, lane] | self.words[:, LANES + lane]) & bit
         return [Position(p) for p in np.flatnonzero(found).tolist()]
 
     def by_site(self) -> dict[str, float]:
@@ -216,7 +217,7 @@ class Basis(Shown, Sealed):
         with self._lock:
             self._take_over()
             fixed = self._apart(fixed)
-            lengths = _library.call("basis_sizes", self._len, len(fixed) // 4, 0)
+            lengths = _library.call("basis_sizes", self._len, len(fixed) // WORD_LANES, 0)
             with work_tables() as tables:
                 kept: _library.Kept = _library.call(
                     name,
@@ -244,7 +245,7 @@ class Basis(Shown, Sealed):
         with self._lock:
             self._take_over()
             list_, values = self._apart(terms.lanes), self._apart(terms.values)
-            lengths = _library.call("basis_sizes", 0, 0, len(list_) // 4)
+            lengths = _library.call("basis_sizes", 0, 0, len(list_) // WORD_LANES)
             while True:
                 with work_tables() as tables:
                     order, work, _, flags = tables.lend(lengths)
@@ -262,7 +263,7 @@ class Basis(Shown, Sealed):
                         flags,
                     )
                 # Places for the entries and all that is listed are enough.
-                places, enough = kept.status.second, self._len + len(list_) // 4
+                places, enough = kept.status.second, self._len + len(list_) // WORD_LANES
                 if kept.status.refusal != 13 or places >= enough:
                     break
                 self._reserve(min(2 * places + 64, enough))
@@ -283,8 +284,8 @@ class Basis(Shown, Sealed):
         return given.copy() if any(np.may_share_memory(given, table) for table in ours) else given
 
     def _reserve(self, places: int) -> None:
-        lanes, coefficients = zeros(4 * places, np.uint64), zeros(places, np.float64)
-        lanes[: 4 * self._len] = self.lanes
+        lanes, coefficients = zeros(WORD_LANES * places, np.uint64), zeros(places, np.float64)
+        lanes[: WORD_LANES * self._len] = self.lanes
         coefficients[: self._len] = self.coefficients
         self._lanes, self._coefficients = lanes, coefficients
 
@@ -320,7 +321,7 @@ def refusal(
         said = _count_said(first, basis, others, lanes, limits)
         return Refusal(8, f"{said}: at most {MAX_WORDS}", {"count": first, "limit": MAX_WORDS})
     if number == 9:
-        if values is not None and first == len(lanes) // 4 and second == len(values):
+        if values is not None and first == len(lanes) // WORD_LANES and second == len(values):
             said = f"{first} {others} words and {second} values"
         else:
             said = f"the {others} words have {second} lanes: the last word is cut off"
@@ -350,7 +351,7 @@ def _count_said(
 ) -> str:
     if len(basis) > MAX_WORDS:
         return f"the basis has {count} entries"
-    if len(lanes) // 4 > MAX_WORDS:
+    if len(lanes) // WORD_LANES > MAX_WORDS:
         return f"there are {count} {others} words"
     return next((f"{name} is {count}" for name, limit in limits.items() if limit == count), f"{count}")
 

@@ -14,6 +14,7 @@ import numpy as np
 from numpy.typing import NDArray
 
 from . import _given
+from ._lanes import LANES, split
 from ._types import LaneTable, NumberTable
 from .errors import InputError
 from .words import MAX_QUBITS, qubits, site_text
@@ -25,9 +26,9 @@ _STATES = {"0": ("Z", 0), "1": ("Z", 1), "+": ("X", 0), "-": ("X", 1), "r": ("Y"
 def summed(
     words: LaneTable, values: NumberTable
 ) -> tuple[LaneTable, NumberTable]:
-    """Words, four lanes each, with the sum of their values, added in the order in which they stand: each word
-    once, in word order, none with a sum of 0."""
-    # The last key counts first: x[0], x[1], z[0], z[1].
+    """Words with the sum of their values, added in the order in which they stand: each word once, in word order,
+    none with a sum of 0."""
+    # The last key counts first: x[0] before all others.
     order = np.lexsort(words.T[::-1])
     ordered = words[order]
     first = np.ones(len(words), bool)
@@ -43,7 +44,7 @@ def summed(
 def expectation(n: int, words: LaneTable, values: NumberTable, state: str) -> float:
     """The expectation of words with their values in a product state, rounded once."""
     masks = _masks(n, state)
-    x, z = words[:, :2], words[:, 2:]
+    x, z = words[:, :LANES], words[:, LANES:]
     letters = {"X": x & ~z, "Y": x & z, "Z": z & ~x}
     outside = (x | z) & ~(masks["X"] | masks["Y"] | masks["Z"])
     if outside.any():
@@ -57,7 +58,7 @@ def expectation(n: int, words: LaneTable, values: NumberTable, state: str) -> fl
 
 
 def _masks(n: int, state: str) -> dict[str, LaneTable]:
-    """The qubits in an eigenstate of each letter, and those whose number is -1: two lanes each."""
+    """The qubits in an eigenstate of each letter, and those whose number is -1: as many lanes as a word has x lanes."""
     if not isinstance(state, str):
         raise InputError(f"{_given.shown(state)} is no product state: a text of 0 1 + - r l is needed")
     if len(state) != n or n > MAX_QUBITS:
@@ -70,13 +71,12 @@ def _masks(n: int, state: str) -> dict[str, LaneTable]:
         of, negative = _STATES[letter]
         masks[of] |= 1 << qubit
         masks["-1"] |= negative << qubit
-    low = (1 << 64) - 1
-    return {name: np.array([mask & low, mask >> 64], np.uint64) for name, mask in masks.items()}
+    return {name: np.array(split(mask), np.uint64) for name, mask in masks.items()}
 
 
 def _odd(lanes: LaneTable) -> NDArray[np.int64]:
-    """1 where the two lanes of a row have an odd number of bits."""
-    bits = lanes[:, 0] ^ lanes[:, 1]
+    """1 where the lanes of a row together have an odd number of bits."""
+    bits = np.bitwise_xor.reduce(lanes, axis=1)
     for half in 32, 16, 8, 4, 2, 1:
         bits = bits ^ bits >> np.uint64(half)
     return (bits & np.uint64(1)).astype(np.int64)

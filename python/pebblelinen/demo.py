@@ -14,8 +14,8 @@ from .errors import InputError
 from .matrix import product
 from .model import Model
 
-QUBITS = 128
-SITE = 64
+QUBITS = 256
+SITE = 128
 OBSERVABLE = f"Z{SITE}"
 
 # A time step that asks for more products than this is mistyped.

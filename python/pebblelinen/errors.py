@@ -8,7 +8,7 @@ from ._types import ItemPath
 
 # The causes for which the library refuses a call, by number.
 CAUSES = {
-    1: "qubits above 128",
+    1: "qubits above 256",
     2: "text length wrong",
     3: "byte not I, X, Y, Z",
     4: "code above 3",

@@ -10,6 +10,7 @@ from typing import Any, NamedTuple
 import numpy as np
 from numpy.typing import NDArray
 
+from ._lanes import WORD_LANES
 from ._sealed import read_only
 from ._types import LaneTable, NumberTable
 from .words import Word, made
@@ -98,6 +99,6 @@ def _operators(n: int, added: Added, tables: Mapping[str, NDArray[Any]]) -> Iter
 def _terms(
     n: int, tables: Mapping[str, NDArray[Any]], start: int, end: int
 ) -> list[tuple[Word, complex]]:
-    words = tables["t_words"][4 * start : 4 * end].reshape(-1, 4).tolist()
+    words = tables["t_words"].reshape(-1, WORD_LANES)[start:end].tolist()
     numbers = tables["t_numbers"][2 * start : 2 * end].view(np.complex128).tolist()
     return [(made(lanes, n), x) for lanes, x in zip(words, numbers)]

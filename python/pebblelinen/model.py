@@ -10,6 +10,7 @@ from numpy.typing import NDArray
 
 from . import _building, _given, _library, items, kossakowski, matrix
 from ._building import AnyMatrix, AnyOperator
+from ._lanes import WORD_LANES
 from ._sealed import Sealed
 from ._showing import Shown, Table
 from ._tables import MOST_TOUCHED, work_tables
@@ -295,7 +296,7 @@ class Model(Shown, Sealed):
             return self._action(lanes_of(given, self.n))
         listed = Terms.of(given, n=self.n)
         acted = [self._action(lanes) * x for lanes, x in zip(listed.words.tolist(), listed.values.tolist())]
-        words = np.concatenate([np.zeros((0, 4), np.uint64), *(terms.words for terms in acted)])
+        words = np.concatenate([np.zeros((0, WORD_LANES), np.uint64), *(terms.words for terms in acted)])
         values = np.concatenate([np.zeros(0), *(terms.values for terms in acted)])
         return Terms(self.n, *summed(words, values))
 
@@ -304,13 +305,13 @@ class Model(Shown, Sealed):
 
         def attempt(touched: int, _: int) -> Any:
             # An action lists no more words than it touches.
-            out[:] = np.empty(4 * touched, np.uint64), np.empty(touched)
+            out[:] = np.empty(WORD_LANES * touched, np.uint64), np.empty(touched)
             with work_tables() as work:
                 return _library.call(
                     "compute_action_terms",
                     *self._lent(),
                     struct_of(lanes),
-                    work.table("work_words", 4 * touched),
+                    work.table("work_words", WORD_LANES * touched),
                     work.table("work_sums", 2 * touched),
                     *out,
                 )
@@ -323,7 +324,7 @@ class Model(Shown, Sealed):
         if status.refusal:
             raise too_short(status)
         words, values = out
-        return Terms(self.n, words[: 4 * listed.count].copy(), values[: listed.count].copy())
+        return Terms(self.n, words[: WORD_LANES * listed.count].copy(), values[: listed.count].copy())
 
     # ---- leakage out of a basis ----
 
@@ -356,14 +357,14 @@ class Model(Shown, Sealed):
         with basis._lock:
             # No more words are listed than there is room for.
             room = max(min(max(limits.values()), MAX_WORDS) - len(basis), 0)
-            out = np.empty(4 * room, np.uint64), np.empty(room)
+            out = np.empty(WORD_LANES * room, np.uint64), np.empty(room)
             listed = self._leak(basis, fixed, passed, room, out)
             if listed.status.refusal:
                 raise refusal(listed.status, basis, "protected", fixed, limits, thresholds)
         words, values = out
         return Leakage(
             self.n,
-            words[: 4 * listed.count],
+            words[: WORD_LANES * listed.count],
             values[: listed.count],
             room=room,
             entries=len(basis),
@@ -382,7 +383,7 @@ class Model(Shown, Sealed):
 
         def attempt(touched: int, candidates: int) -> Any:
             lengths = _library.call(
-                "leakage_sizes", self.n, entries, len(fixed) // 4, touched, candidates
+                "leakage_sizes", self.n, entries, len(fixed) // WORD_LANES, touched, candidates
             )
             with work_tables() as work:
                 return _library.call(

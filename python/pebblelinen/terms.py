@@ -8,6 +8,7 @@ import numpy as np
 from numpy.typing import NDArray
 
 from . import _given, combining
+from ._lanes import WORD_LANES
 from ._sealed import Sealed, read_only
 from ._showing import Shown, Table
 from ._types import LaneTable, NumberTable
@@ -21,7 +22,7 @@ class Terms(Shown, Sealed):
     """Words with their values, which actions and leakages list in word order.
 
     n        the qubits of the register
-    words    four lanes each: an array of uint64 of the shape (words, 4)
+    words    eight lanes each, x[0] to x[3], then z[0] to z[3]: an array of uint64 of the shape (words, 8)
     values   one number each: an array of float64
 
     `"X12 Z40" in terms`, `terms["X12 Z40"]` and `terms.get("X12 Z40")` take a word in every way of writing
@@ -53,8 +54,8 @@ class Terms(Shown, Sealed):
 
     @property
     def words(self) -> LaneTable:
-        """The words, four lanes each: an array of uint64 of the shape (words, 4)."""
-        return self.lanes[: len(self.lanes) // 4 * 4].reshape(-1, 4)
+        """The words, eight lanes each: an array of uint64 of the shape (words, 8)."""
+        return self.lanes[: len(self.lanes) // WORD_LANES * WORD_LANES].reshape(-1, WORD_LANES)
 
     def __len__(self) -> int:
         return len(self.values)

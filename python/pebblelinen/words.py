@@ -19,17 +19,17 @@ from typing import Any, ClassVar, Protocol, TypeVar
 import numpy as np
 from numpy.typing import NDArray
 
-from . import _given, _library
-from ._types import ByteTable, FourLanes, ItemPath, LaneTable
+from . import _given, _lanes, _library
+from ._lanes import LANES, MAX_QUBITS, WORD_LANES
+from ._types import ByteTable, ItemPath, LaneTable, WordLanes
 from .errors import InputError, Refusal
 
-MAX_QUBITS = 128
 # The most words of a list, and the largest word limit.
 MAX_WORDS = 65_536
 LETTERS = "IXZY"  # by code
 _CODES = "I is 0, X 1, Z 2, Y 3"
 _NO_SIGN = "a word has no sign or phase: give it to the word's number"
-_PACKED = struct.Struct("=4Q")
+_PACKED = struct.Struct(f"={WORD_LANES}Q")
 _SITE = re.compile(r"([^\s0-9])0*([0-9]+)")
 
 
@@ -115,7 +115,7 @@ class Word:
     # Packed are the lanes as they stand in a table, for tables of many words.
     __slots__ = ("n", "lanes", "packed")
     n: int
-    lanes: FourLanes
+    lanes: WordLanes
     packed: bytes
 
     def __init__(self, word: "AnyWord", *, n: int) -> None:
@@ -127,11 +127,9 @@ class Word:
 
     @classmethod
     def from_lanes(cls, lanes: Iterable[int], *, n: int) -> "Word":
-        """The word of four lanes x[0], x[1], z[0], z[1]: qubit q is bit q % 64 of lane q / 64. Calls
+        """The word of eight lanes, x[0] to x[3], then z[0] to z[3]: qubit q is bit q % 64 of lane q / 64. Calls
         that take the word test it."""
         lanes = tuple(_given.whole(lane, "a lane") for lane in _given.listed(lanes, "lanes"))
-        if len(lanes) != 4:
-            raise InputError(f"{len(lanes)} lanes: a word has 4")
         return made(lanes, register(n))
 
     @classmethod
@@ -308,10 +306,19 @@ def _set(word: Word, n: int, lanes: Sequence[int]) -> None:
 
 
 def made(lanes: Iterable[int], n: int) -> Word:
-    """The word of four lanes that are known to be such."""
-    word = object.__new__(Word)
-    _set(word, n, tuple(lanes))
+    """The word of lanes that are known to be such."""
+    word, lanes = object.__new__(Word), tuple(lanes)
+    try:
+        _set(word, n, lanes)
+    except struct.error:
+        raise InputError(_lanes_said(len(lanes))) from None
     return word
+
+
+def _lanes_said(count: int) -> str:
+    """What is wrong with a word of so many lanes."""
+    said = f"{_given.counted(count, 'lane')}: a word has {WORD_LANES}, {_lanes.NAMED}"
+    return said + ("; two zeros belong after the two x lanes, and two at the end" if count == 4 else "")
 
 
 def _each_once(letters: Iterable[tuple[int, Any]], word: Any, path: ItemPath = ()) -> dict[int, Any]:
@@ -347,14 +354,12 @@ def qubits(n: int) -> str:
 
 def struct_of(lanes: Sequence[int]) -> _library.Word:
     """Lanes as the library takes a word."""
-    x0, x1, z0, z1 = lanes
-    return _library.Word((x0, x1), (z0, z1))
+    return _library.Word((*lanes[:LANES],), (*lanes[LANES:],))
 
 
 def _sites(lanes: Sequence[int]) -> Iterator[tuple[int, str]]:
     """(qubit, letter) for each letter other than I."""
-    x0, x1, z0, z1 = lanes
-    x, z = x0 | x1 << 64, z0 | z1 << 64
+    x, z = _lanes.joined(lanes)
     left = x | z
     while left:
         q = (left & -left).bit_length() - 1
@@ -375,7 +380,7 @@ def same_register(thing: _OfRegister, n: int, what: str = "word", path: ItemPath
 
 
 def table(given: Any, n: int, what: str) -> LaneTable:
-    """A flat table of words, four lanes each, of an array of lanes or of a list of words."""
+    """A flat table of words, of an array of lanes or of a list of words."""
     if hasattr(given, "lanes") and hasattr(given, "n") and not isinstance(given, Word):
         lanes: LaneTable = same_register(given, n, "list").lanes
         return lanes
@@ -385,15 +390,14 @@ def table(given: Any, n: int, what: str) -> LaneTable:
     return np.array(found, np.uint64).reshape(-1)
 
 
-def lanes_of(word: AnyWord, n: int, path: ItemPath = ()) -> FourLanes:
+def lanes_of(word: AnyWord, n: int, path: ItemPath = ()) -> WordLanes:
     """The lanes of a word, as the library reads its text."""
     if isinstance(word, Word):
         return same_register(word, n, path=path).lanes
     parsed: _library.Parsed = _library.call("parse_pauli_string", bytes_of(word, n, path), n)
     if parsed.status.refusal:
         raise text_refusal(parsed.status, word, n, path)
-    (x0, x1), (z0, z1) = parsed.word.x, parsed.word.z
-    return x0, x1, z0, z1
+    return *parsed.word.x, *parsed.word.z
 
 
 def places_of(word: AnyWord, words: NDArray[np.uint64], n: int) -> NDArray[np.intp]:

@@ -43,6 +43,9 @@ static uint64_t nothing[1];
 
 #define ALL(table) table, sizeof(table) / sizeof *(table)
 
+/* The lanes of a word in a table: those of x, then those of z. */
+enum { WORD = sizeof(pebblelinen_word) / sizeof(uint64_t) };
+
 static void *zeros(size_t len) { return calloc(len + 1, 8); }
 
 /* The lanes of a register of two qubits that an index asks for, and of a mask. */
@@ -99,20 +102,20 @@ static void long_operators(void) {
 
 static void nothing_to_build(void) {
     uint8_t text[] = "ZI";
-    uint64_t length[] = {2}, h_words[4] = {0};
+    uint64_t length[] = {2}, h_words[WORD] = {0};
     double number[] = {0.5}, h_coeffs[1] = {0};
     pebblelinen_built built =
         pebblelinen_build_model(text, 2, ALL(length), ALL(number), NO_NUMBERS, NO_LANES, NO_NUMBERS, QUBITS,
                                 ALL(h_words), ALL(h_coeffs), NO_LANES, NO_NUMBERS, NO_LANES, NO_NUMBERS, NO_LANES,
                                 NO_NUMBERS);
     accepted("a model without jumps, without work places", built.status);
-    holds("its one term", built.model.hamiltonian == 1 && h_words[2] == 1 && h_coeffs[0] == 0.5);
+    holds("its one term", built.model.hamiltonian == 1 && h_words[WORD / 2] == 1 && h_coeffs[0] == 0.5);
     built = pebblelinen_build_model(NO_TEXT, NO_LANES, NO_NUMBERS, NO_NUMBERS, NO_LANES, NO_NUMBERS, QUBITS, NO_LANES,
                                     NO_NUMBERS, NO_LANES, NO_NUMBERS, NO_LANES, NO_NUMBERS, NO_LANES, NO_NUMBERS);
     accepted("a model of nothing", built.status);
     /* The model as it should be, whatever came of building it. */
     pebblelinen_model model = {QUBITS, 1, 0, 0};
-    h_words[2] = 1, h_coeffs[0] = 0.5;
+    h_words[WORD / 2] = 1, h_coeffs[0] = 0.5;
     pebblelinen_built added = pebblelinen_add_kossakowski(model, NO_TEXT, NO_LANES, NO_LANES, NO_NUMBERS, NO_NUMBERS,
                                                           ALL(h_words), ALL(h_coeffs), NO_LANES, NO_NUMBERS, NO_LANES,
                                                           NO_NUMBERS, NO_LANES, NO_NUMBERS);
@@ -122,7 +125,7 @@ static void nothing_to_build(void) {
 
 /* ---- a model in its tables: 0.5 ZZ, and the jump XI at rate 0.25 ---- */
 
-static const uint64_t H_WORDS[] = {0, 0, 3, 0}, JUMPS[] = {0, 0, 1, 0, 0, 0, 0, 0}, T_WORDS[] = {1, 0, 0, 0};
+static const uint64_t H_WORDS[WORD] = {[WORD / 2] = 3}, JUMPS[] = {0, 0, 1, 0, 0, 0, 0, 0}, T_WORDS[WORD] = {1};
 static const double H_COEFFS[] = {0.5}, RATES[] = {0.25}, T_NUMBERS[] = {1, 0};
 #define MODEL                                                                                        \
     (pebblelinen_model){QUBITS, 1, 1, 1}, ALL(H_WORDS), ALL(H_COEFFS), ALL(JUMPS), ALL(RATES), ALL(T_WORDS), \
@@ -135,7 +138,7 @@ static const pebblelinen_limits LIMITS = {8, 0, 0, 0, 0};
 /* The lengths of a call's tables, in the order in which they are tested. */
 typedef pebblelinen_status (*Call)(size_t words, const size_t *len);
 
-static const uint64_t X[] = {1, 0, 0, 0};
+static const uint64_t X[WORD] = {1};
 static const double ONE[] = {1};
 
 #define LANES(i) lanes[i], len[i]
@@ -144,14 +147,14 @@ static const double ONE[] = {1};
 #define SUMS lanes[10], words ? INDEX : 0, numbers[0], words ? INDEX : 0
 
 static pebblelinen_status call_norm(size_t words, const size_t *len) {
-    pebblelinen_normed found = pebblelinen_norm(MODEL, X, 4 * words, words, LANES(0), LANES(1), LANES(2), SUMS,
+    pebblelinen_normed found = pebblelinen_norm(MODEL, X, WORD * words, words, LANES(0), LANES(1), LANES(2), SUMS,
                                                 numbers[1], len[3], numbers[2], len[4]);
     if (!words) holds("norm over no words", found.norm == 0 && found.mu == 0);
     return found.status;
 }
 
 static pebblelinen_status call_degree(size_t words, const size_t *len) {
-    pebblelinen_partition found = pebblelinen_expm_degree(MODEL, X, 4 * words, words, 1, 0, LANES(0), LANES(1),
+    pebblelinen_partition found = pebblelinen_expm_degree(MODEL, X, WORD * words, words, 1, 0, LANES(0), LANES(1),
                                                           LANES(2), SUMS, numbers[1], len[3], numbers[2], len[4]);
     if (!words) holds("degree over no words", found.norm == 0 && found.mu == 0 && found.m == 1 && found.s == 1);
     return found.status;
@@ -159,7 +162,7 @@ static pebblelinen_status call_degree(size_t words, const size_t *len) {
 
 static pebblelinen_status call_count(size_t words, const size_t *len) {
     pebblelinen_counted found =
-        pebblelinen_count_action_terms(MODEL, X, 4 * words, LANES(0), LANES(1), LANES(2), SUMS);
+        pebblelinen_count_action_terms(MODEL, X, WORD * words, LANES(0), LANES(1), LANES(2), SUMS);
     if (!words) holds("counts over no words", found.touched == 0 && found.listed == 0);
     return found.status;
 }
@@ -167,7 +170,7 @@ static pebblelinen_status call_count(size_t words, const size_t *len) {
 static pebblelinen_status call_generator(size_t words, const size_t *len) {
     size_t room = words ? INDEX : 0;
     pebblelinen_listed found = pebblelinen_generator(
-        MODEL, X, 4 * words, words, LANES(0), LANES(1), LANES(2), LANES(3), LANES(4), SUMS, places[0], room, places[1],
+        MODEL, X, WORD * words, words, LANES(0), LANES(1), LANES(2), LANES(3), LANES(4), SUMS, places[0], room, places[1],
         room, numbers[1], room, places[2], room, places[3], room, numbers[2], room);
     if (!words) holds("entries over no words", found.count == 0);
     return found.status;
@@ -177,7 +180,7 @@ static pebblelinen_status call_csr(size_t words, const size_t *len) {
     size_t room = words ? INDEX : 0;
     uint64_t offsets[] = {7, 7};
     pebblelinen_listed found = pebblelinen_build_csr(
-        MODEL, X, 4 * words, words, LANES(0), LANES(1), LANES(2), LANES(3), LANES(4), SUMS, places[0], room, places[1],
+        MODEL, X, WORD * words, words, LANES(0), LANES(1), LANES(2), LANES(3), LANES(4), SUMS, places[0], room, places[1],
         room, numbers[1], room, offsets, len[5], places[3], room, numbers[2], room);
     if (!words && !found.status.refusal)
         holds("offsets over no words", found.count == 0 && offsets[0] == 0 && offsets[1] == 7);
@@ -185,12 +188,12 @@ static pebblelinen_status call_csr(size_t words, const size_t *len) {
 }
 
 /* One protected word, Z, and the word X of the basis. */
-static const uint64_t PROTECTED[] = {0, 0, 1, 0};
+static const uint64_t PROTECTED[WORD] = {[WORD / 2] = 1};
 
 static pebblelinen_status call_leakage(size_t words, const size_t *len) {
     size_t room = words ? INDEX : 0;
     pebblelinen_listed found = pebblelinen_leakage_with_prune(
-        MODEL, X, 4 * words, ONE, words, words, ALL(PROTECTED), LIMITS, LANES(0), LANES(1), LANES(2), SUMS, LANES(3),
+        MODEL, X, WORD * words, ONE, words, words, ALL(PROTECTED), LIMITS, LANES(0), LANES(1), LANES(2), SUMS, LANES(3),
         LANES(4), LANES(5), LANES(6), LANES(7), lanes[11], room, numbers[1], room, lanes[12], room, numbers[2], room,
         lanes[13], room, numbers[3], room, lanes[14], room, lanes[15], room, lanes[16], room, lanes[17], room,
         (double *)lanes[18], room);
@@ -200,7 +203,7 @@ static pebblelinen_status call_leakage(size_t words, const size_t *len) {
 
 static pebblelinen_status leak_unprotected(size_t words, const size_t *len) {
     (void)len;
-    return pebblelinen_leakage_with_prune(MODEL, X, 4 * words, ONE, words, words, NO_LANES, LIMITS, NO_LANES, NO_LANES,
+    return pebblelinen_leakage_with_prune(MODEL, X, WORD * words, ONE, words, words, NO_LANES, LIMITS, NO_LANES, NO_LANES,
                                           NO_LANES, NO_LANES, NO_NUMBERS, NO_LANES, NO_LANES, NO_LANES, NO_LANES,
                                           NO_LANES, NO_LANES, NO_NUMBERS, NO_LANES, NO_NUMBERS, NO_LANES, NO_NUMBERS,
                                           NO_LANES, NO_LANES, NO_LANES, NO_LANES, NO_NUMBERS)
@@ -208,18 +211,18 @@ static pebblelinen_status leak_unprotected(size_t words, const size_t *len) {
 }
 
 static pebblelinen_status call_prune(size_t words, const size_t *len) {
-    uint64_t basis[] = {1, 0, 0, 0};
+    uint64_t basis[WORD] = {1};
     double coeffs[] = {1};
-    pebblelinen_kept found = pebblelinen_prune_basis(QUBITS, basis, 4 * words, coeffs, words, words, ALL(PROTECTED),
+    pebblelinen_kept found = pebblelinen_prune_basis(QUBITS, basis, WORD * words, coeffs, words, words, ALL(PROTECTED),
                                                      0.5, LANES(0), LANES(1), LANES(2), LANES(3));
     if (!words) holds("no words pruned", found.entries == 0);
     return found.status;
 }
 
 static pebblelinen_status call_cap(size_t words, const size_t *len) {
-    uint64_t basis[] = {1, 0, 0, 0};
+    uint64_t basis[WORD] = {1};
     double coeffs[] = {1};
-    pebblelinen_kept found = pebblelinen_cap_basis(QUBITS, basis, 4 * words, coeffs, words, words, ALL(PROTECTED), 0,
+    pebblelinen_kept found = pebblelinen_cap_basis(QUBITS, basis, WORD * words, coeffs, words, words, ALL(PROTECTED), 0,
                                                    LANES(0), LANES(1), LANES(2), LANES(3));
     if (!words) holds("no words capped", found.entries == 0);
     return found.status;
@@ -291,17 +294,21 @@ static void rows_of_a_matrix(void) {
 /* ---- registers ---- */
 
 static void registers(void) {
-    pebblelinen_word last = {{0, 1ull << 63}, {0, 0}};
-    pebblelinen_fitting found = pebblelinen_fits_register(last, 128);
-    accepted("X127 in a register of 128 qubits", found.status);
-    holds("it fits", found.fits);
-    found = pebblelinen_fits_register(last, 127);
-    accepted("X127 in a register of 127 qubits", found.status);
-    holds("it does not fit", !found.fits);
-    found = pebblelinen_fits_register((pebblelinen_word){{0, 0}, {0, 0}}, 129);
-    expect("a register of 129 qubits", found.status, 1, 129, 128);
+    for (size_t n = 1; n <= PEBBLELINEN_MAX_QUBITS; n++) {
+        pebblelinen_word last = {{0}, {0}};
+        (n % 2 ? last.x : last.z)[(n - 1) / 64] = 1ull << (n - 1) % 64;
+        pebblelinen_fitting found = pebblelinen_fits_register(last, n);
+        accepted("a letter on the last qubit", found.status);
+        holds("it fits", found.fits);
+        found = pebblelinen_fits_register(last, n - 1);
+        accepted("a letter above the last qubit", found.status);
+        holds("it does not fit", !found.fits);
+    }
+    pebblelinen_word none = {{0}, {0}};
+    pebblelinen_fitting found = pebblelinen_fits_register(none, 257);
+    expect("a register of 257 qubits", found.status, 1, 257, 256);
     holds("nothing fits a register that is refused", !found.fits);
-    expect("the largest register", pebblelinen_fits_register(last, SIZE_MAX).status, 1, SIZE_MAX, 128);
+    expect("the largest register", pebblelinen_fits_register(none, SIZE_MAX).status, 1, SIZE_MAX, 256);
 }
 
 int main(void) {

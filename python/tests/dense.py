@@ -20,6 +20,24 @@ def register(n):
     return ["".join(letters) for letters in itertools.product("IXYZ", repeat=n)]
 
 
+def placed(text, sites, n):
+    """The text of n letters with these letters on these sites, and I elsewhere."""
+    letters = ["I"] * n
+    for site, letter in zip(sites, text):
+        letters[site] = letter
+    return "".join(letters)
+
+
+def moved(sites, n, hamiltonian, jumps, matrices):
+    """A model on these sites of a register of n qubits."""
+
+    def terms(given):
+        return [(placed(text, sites, n), number) for text, number in given]
+
+    jumps = [(rate, terms(operator)) for rate, operator in jumps]
+    return terms(hamiltonian), jumps, [([terms(each) for each in operators], k) for operators, k in matrices]
+
+
 def matrix_of(text):
     return functools.reduce(np.kron, (LETTERS[letter] for letter in text), np.eye(1, dtype=complex))
 

@@ -2,10 +2,14 @@
 # SPDX-License-Identifier: Apache-2.0
 """Asks the library what was recorded of the published Rust, and compares its answers bit for bit.
 
-recorded.txt has a case in each line: lower-case hexadecimal numbers with a space between two. The first is its kind;
+A recording has a case in each line: lower-case hexadecimal numbers with a space between two. The first is its kind;
 then comes what the call is given, and then the whole answer. f64 numbers are recorded by their bits. The lines that
 start with # say what the numbers of each kind are; kinds 6, 8, 11, 15, 18 and 24 have answers of document 01 that the
-Rust does not give.
+Rust does not give. One of them, "# lanes N", says how many x lanes words have there, and how many z lanes.
+
+recorded.txt was recorded when words had two lanes each and registers at most 128 qubits; recorded-wide.txt has cases of
+more qubits. Words of two lanes are widened by zero lanes, tables of lanes are as much longer, and what a refusal counts
+in lanes or says of the limit follows. Cases of 129 to 256 qubits, which were refused then, are left out.
 
 Work tables and the places past an answer are full of FILLER before a call, so that what it leaves there shows."""
 import ctypes
@@ -13,14 +17,16 @@ import re
 from collections.abc import Callable, Iterator
 from functools import partial
 from pathlib import Path
-from typing import Any
+from typing import Any, NamedTuple
 
 import numpy as np
 import numpy.typing as npt
 
 from pebblelinen import _library
+from pebblelinen._lanes import LANES, MAX_QUBITS, WORD_LANES
 
-RECORDED = Path(__file__).resolve().parent / "recorded.txt"
+FOLDER = Path(__file__).resolve().parent
+RECORDINGS = "recorded.txt", "recorded-wide.txt"
 FILLER = 9
 ACCEPTED = _library.Status(0, 0, 0)
 
@@ -35,6 +41,14 @@ class Malformed(Exception):
 
 class Disagreement(Exception):
     """An answer, or a lent table, that is not what it is to be."""
+
+
+class Recorded(NamedTuple):
+    """A line of a recording: which it is, the lanes of words there, and the case."""
+
+    place: str
+    lanes: int
+    line: str
 
 
 def bits(answer: Any) -> list[int]:
@@ -56,17 +70,15 @@ def real(number: int) -> float:
     return float(np.array([number], np.uint64).view(np.float64)[0])
 
 
-def word(lanes: list[int]) -> _library.Word:
-    """The word of four lanes."""
-    return _library.Word((lanes[0], lanes[1]), (lanes[2], lanes[3]))
-
-
 class Case:
-    """A recorded case, read from left to right."""
+    """A recorded case, read from left to right, of a recording whose words have so many lanes of each sort."""
 
-    def __init__(self, numbers: list[int]) -> None:
+    def __init__(self, numbers: list[int], lanes: int) -> None:
         self.numbers = numbers
+        self.lanes = lanes
         self.at = 0
+        # The lanes of a list of words whose last one is cut off, where there is one.
+        self.cut = -1
         # The places of the numbers that were compared with an answer.
         self.compared: list[int] = []
 
@@ -96,14 +108,61 @@ class Case:
         """A table with its length before it."""
         return self.table(type_, self.number())
 
+    def wide(self, recorded: int) -> int:
+        """How long a table of lanes is now that had so many, a last word that is cut off among them."""
+        words, rest = divmod(recorded, 2 * self.lanes)
+        return WORD_LANES * words + rest + (LANES - self.lanes) * (rest > self.lanes)
+
+    def widened(self, count: int) -> list[int]:
+        """So many recorded lanes, with zero lanes between them for those that words have more now."""
+        lanes, more = self.take(count), [0] * (LANES - self.lanes)
+        wide: list[int] = []
+        for at in range(0, count, 2 * self.lanes):
+            x, z = lanes[at : at + self.lanes], lanes[at + self.lanes : at + 2 * self.lanes]
+            wide += x + more + z if z else x
+            wide += more if len(z) == self.lanes else []
+        return wide
+
+    def word(self) -> _library.Word:
+        """The next word."""
+        lanes = self.widened(2 * self.lanes)
+        return _library.Word((*lanes[:LANES],), (*lanes[LANES:],))
+
+    def words(self, count: int) -> Table:
+        """A table of so many words."""
+        return np.array(self.widened(2 * self.lanes * count), np.uint64)
+
+    def status(self) -> list[int]:
+        """The next status, as the library is to give it."""
+        refusal, first, second = self.take(3)
+        if refusal == 1 and second == 64 * self.lanes:
+            second = MAX_QUBITS
+        if refusal == 9 and first < second == self.cut:
+            first, second = self.wide(first), self.wide(second)
+        return [refusal, first, second]
+
     def agree(self, *answers: Any) -> None:
         """Compares the next numbers with answers."""
         for answer in answers:
-            own, place = bits(answer), self.at
-            recorded = self.take(len(own))
-            self.compared.extend(range(place, self.at))
-            if recorded != own:
-                raise Disagreement(f"{_shown(recorded)} is recorded, and the library answers {_shown(own)}")
+            if isinstance(answer, _library.Status):
+                self._same(self.status, bits(answer))
+            elif isinstance(answer, _library.Word):
+                self._same(lambda: self.widened(2 * self.lanes), bits(answer))
+            elif isinstance(answer, ctypes.Structure):
+                self.agree(*(getattr(answer, field[0]) for field in answer._fields_))
+            else:
+                own = bits(answer)
+                self._same(lambda own=own: self.take(len(own)), own)
+
+    def agree_lanes(self, table: Table, recorded: int) -> None:
+        """Compares the next so many lanes with a table."""
+        self._same(lambda: self.widened(recorded), bits(table))
+
+    def _same(self, recorded: Callable[[], list[int]], own: list[int]) -> None:
+        place, expected = self.at, recorded()
+        self.compared.extend(range(place, self.at))
+        if expected != own:
+            raise Disagreement(f"{_shown(expected)} is recorded, and the library answers {_shown(own)}")
 
 
 def _shown(numbers: list[int]) -> str:
@@ -156,14 +215,14 @@ def codes_read(case: Case) -> None:
 
 
 def codes_written(case: Case) -> None:
-    asked, qubits = word(case.take(4)), case.number()
+    asked, qubits = case.word(), case.number()
     written = np.full(qubits, FILLER, np.uint8)
     expect(_library.call("codes_from_word", asked, qubits, written), ACCEPTED)
     case.agree(written)
 
 
 def product(case: Case) -> None:
-    p, q = word(case.take(4)), word(case.take(4))
+    p, q = case.word(), case.word()
     phased, commutator = _library.call("pauli_mul", p, q), _library.call("comm_product", p, q)
     case.agree(phased, _library.call("anti_commutes", p, q), commutator.eps)
     expect(commutator.word, phased.word)
@@ -177,10 +236,11 @@ def make(case: Case, matrix: bool) -> tuple[_library.Built, list[Table]]:
     qubits, texts, lengths = case.number(), case.counted(np.uint8), case.counted(np.uint64)
     h_numbers, rates = case.counted(np.float64), case.counted(np.float64)
     counts, numbers = case.counted(np.uint64), case.counted(np.float64)
-    *places, work_words, work_numbers = case.take(8)
+    h_words, h_coeffs, jumps, jump_rates, t_words, t_numbers, work_words, work_numbers = case.take(8)
+    places = case.wide(h_words), h_coeffs, jumps, jump_rates, case.wide(t_words), t_numbers
     # All zero: the lanes of I, where a matrix is added.
     empty = [np.zeros(length, type_) for length, type_ in zip(places, [np.uint64, np.float64] * 3)]
-    work = [*lanes(work_words), *reals(work_numbers)]
+    work = [*lanes(case.wide(work_words)), *reals(work_numbers)]
     if matrix:
         tables = [empty[0], h_numbers, *empty[2:]]
         before = _library.Model(qubits, len(h_numbers), 0, 0)
@@ -214,9 +274,9 @@ def actions(case: Case, matrix: bool = False) -> None:
     lent = lent_model(case, matrix)
     work_words, work_sums, out_words, out_values = case.take(4)
     for _ in range(case.number()):
-        asked = word(case.take(4))
-        work = [*lanes(work_words), *reals(work_sums)]
-        out = [*lanes(out_words), *reals(out_values)]
+        asked = case.word()
+        work = [*lanes(case.wide(work_words)), *reals(work_sums)]
+        out = [*lanes(case.wide(out_words)), *reals(out_values)]
         listed = _library.call("compute_action_terms", *lent, asked, *work, *out)
         agree_list(case, listed, *out)
         check_work(listed.status, *work)
@@ -225,8 +285,10 @@ def actions(case: Case, matrix: bool = False) -> None:
 def agree_list(case: Case, listed: _library.Listed, words: Table, values: Table) -> None:
     """The words listed and their values; places past them are as they were."""
     count = listed.count
-    case.agree(listed, words[: 4 * count], values[:count])
-    all_hold(FILLER, words[4 * count :], values[count:])
+    case.agree(listed)
+    case.agree_lanes(words[: WORD_LANES * count], 2 * case.lanes * count)
+    case.agree(values[:count])
+    all_hold(FILLER, words[WORD_LANES * count :], values[count:])
 
 
 # ---- Bases
@@ -235,8 +297,9 @@ def agree_list(case: Case, listed: _library.Listed, words: Table, values: Table)
 def basis(case: Case, name: str) -> None:
     """A call that changes a basis."""
     qubits, length, parameter, *lengths = case.take(11)
-    words, coeffs = case.table(np.uint64, lengths[0]), case.table(np.float64, lengths[1])
-    given, values = case.table(np.uint64, lengths[2]), case.table(np.float64, lengths[3])
+    words, coeffs = np.array(case.widened(lengths[0]), np.uint64), case.table(np.float64, lengths[1])
+    given, values = np.array(case.widened(lengths[2]), np.uint64), case.table(np.float64, lengths[3])
+    case.cut = lengths[2] if lengths[2] % (2 * case.lanes) else -1
     order, work, fixed, kept = tables = lanes(*lengths[4:])
     entries = qubits, words, coeffs, length
     if name == "prune_basis":
@@ -245,7 +308,9 @@ def basis(case: Case, name: str) -> None:
         changed = _library.call(name, *entries, given, parameter, *tables)
     else:
         changed = _library.call(name, *entries, given, values, parameter, order, work, kept)
-    case.agree(changed, words, coeffs, held_by(tables))
+    case.agree(changed)
+    case.agree_lanes(words, lengths[0])
+    case.agree(coeffs, held_by(tables))
 
 
 def held_by(tables: list[Table]) -> int:
@@ -261,30 +326,30 @@ def held_by(tables: list[Table]) -> int:
 # Places for the entries of a basis, for protected words, of tables 1 and 2, and of the list; lanes of an index and of
 # its mask.
 ENTRIES, PROTECTED, PLACES, LIST = 8192, 8, 256, 64
-INDEX, MASK = 8192, 64
+INDEX, MASK = 64 * MAX_QUBITS, 64
 
 
 def leakage(case: Case, matrix: bool = False) -> None:
     lent = lent_model(case, matrix)
     runs, protected, *limits, tau_add, touched, held, listed_words = case.take(10)
     words, coeffs = laid(case, runs)
-    given = words, coeffs, len(coeffs) - 1, case.table(np.uint64, 4 * protected)
+    given = words, coeffs, len(coeffs) - 1, case.words(protected)
     # One of the tables of each sort has as many places as are recorded.
     work = [
         *lanes(INDEX, INDEX, MASK),
-        *lanes(4 * touched),
+        *lanes(WORD_LANES * touched),
         *reals(2 * PLACES),
         *lanes(ENTRIES, 2 * ENTRIES, ENTRIES),  # order, heads, nexts
         *lanes(2 * PROTECTED, PROTECTED),  # fixed_heads, fixed_nexts
-        *lanes(4 * PLACES),  # the log
+        *lanes(WORD_LANES * PLACES),  # the log
         *reals(PLACES),
-        *lanes(4 * PLACES),  # candidates
+        *lanes(WORD_LANES * PLACES),  # candidates
         *reals(held),
-        *lanes(4 * PLACES),  # candidates of the next pass
+        *lanes(WORD_LANES * PLACES),  # candidates of the next pass
         *reals(PLACES),
         *lanes(PLACES, PLACES, PLACES),  # place_order, place_work, place_kept
     ]
-    out = [*lanes(4 * listed_words), *reals(LIST)]
+    out = [*lanes(WORD_LANES * listed_words), *reals(LIST)]
     limited = _library.Limits(*limits, real(tau_add))
     listed = _library.call("leakage_with_prune", *lent, *given, limited, *work, *out)
     agree_list(case, listed, *out)
@@ -293,10 +358,11 @@ def leakage(case: Case, matrix: bool = False) -> None:
 
 def laid(case: Case, runs: int) -> tuple[Table, Table]:
     """The words and coefficients of a basis of so many runs of entries alike, with one place more."""
-    table = np.array([case.take(6) for _ in range(runs)], np.uint64).reshape(-1, 6)
+    each = [(case.number(), *case.words(1).tolist(), case.number()) for _ in range(runs)]
+    table = np.array(each, np.uint64).reshape(-1, 2 + WORD_LANES)
     entries = np.repeat(table[:, 1:], table[:, 0].astype(np.intp), axis=0)
-    entries = np.vstack([entries, np.full((1, 5), FILLER, np.uint64)])
-    return entries[:, :4].flatten(), entries[:, 4].copy().view(np.float64)
+    entries = np.vstack([entries, np.full((1, WORD_LANES + 1), FILLER, np.uint64)])
+    return entries[:, :WORD_LANES].flatten(), entries[:, WORD_LANES].copy().view(np.float64)
 
 
 # ---- Generators, norms and products
@@ -326,11 +392,11 @@ def cells(case: Case, name: str, rows: Table) -> tuple[_library.Listed, Table, T
     the basis has."""
     lent = lent_model(case)
     length, touched, places = case.take(3)
-    words = case.table(np.uint64, 4 * length)
+    words = case.words(length)
     work = [
         *lanes(INDEX, INDEX, MASK),
         *lanes(2 * WORDS, WORDS),  # heads, nexts
-        *lanes(4 * touched),
+        *lanes(WORD_LANES * touched),
         *reals(2 * TOUCHED),
         *narrow(CELLS, CELLS),  # the stage
         *reals(CELLS),
@@ -344,8 +410,8 @@ def cells(case: Case, name: str, rows: Table) -> tuple[_library.Listed, Table, T
 def norm(case: Case) -> None:
     lent = lent_model(case)
     length, touched, dt, drop_tol = case.take(4)
-    words = case.table(np.uint64, 4 * length)
-    work = [*lanes(INDEX, INDEX, MASK, 4 * touched), *reals(2 * TOUCHED, WORDS, WORDS)]
+    words = case.words(length)
+    work = [*lanes(INDEX, INDEX, MASK, WORD_LANES * touched), *reals(2 * TOUCHED, WORDS, WORDS)]
     answer = _library.call("expm_degree", *lent, words, length, real(dt), real(drop_tol), *work)
     case.agree(answer)
     check_work(answer.status, *work)
@@ -406,12 +472,25 @@ KINDS: dict[int, tuple[str, Callable[[Case], None]]] = {
 }
 
 
-def lines() -> Iterator[tuple[int, str]]:
-    """The recorded cases, each with the number of its line."""
-    with RECORDED.open(encoding="ascii", newline="\n") as file:
+# The kinds whose calls take a register, and where that stands.
+_REGISTER = {**dict.fromkeys((1, 2, 5, 6, 7, 8, 12, 13, 14), 1), 15: 2}
+
+
+def is_left_out(numbers: list[int], lanes: int) -> bool:
+    """Whether a case was refused for qubits that words have room for now."""
+    place = _REGISTER.get(numbers[0])
+    return place is not None and place < len(numbers) and 64 * lanes < numbers[place] <= MAX_QUBITS
+
+
+def lines(name: str) -> Iterator[Recorded]:
+    """The cases of a recording."""
+    lanes = 0
+    with (FOLDER / name).open(encoding="ascii", newline="\n") as file:
         for number, line in enumerate(file, 1):
+            if line.startswith("# lanes "):
+                lanes = int(line.removeprefix("# lanes "))
             if not line.startswith("#"):
-                yield number, line.removesuffix("\n")
+                yield Recorded(f"{name}, line {number}", lanes, line.removesuffix("\n"))
 
 
 def parsed(line: str) -> list[int]:
@@ -421,9 +500,9 @@ def parsed(line: str) -> list[int]:
     return [int(number, 16) for number in line.split(" ")]
 
 
-def replay(numbers: list[int]) -> tuple[str, Case]:
+def replay(numbers: list[int], lanes: int = LANES) -> tuple[str, Case]:
     """Replays a case: what it is about, and what was read of it."""
-    case = Case(numbers)
+    case = Case(numbers, lanes)
     kind = case.number()
     if kind not in KINDS:
         raise Malformed(f"there is no kind {kind}")

@@ -62,7 +62,7 @@ class Action(unittest.TestCase):
         model = Model(2, {"XI": 1, "ZZ": 0.5, "IY": 0.25})
         terms = model.action("YX")
         self.assertEqual(terms.words.dtype, np.uint64)
-        self.assertEqual(terms.words.shape, (len(terms), 4))
+        self.assertEqual(terms.words.shape, (len(terms), 8))
         words = [word for word, _ in terms]
         self.assertEqual(words, sorted(words))
         self.assertIn("2 qubits", repr(terms))
@@ -77,16 +77,37 @@ class Action(unittest.TestCase):
             self.assertEqual(set(abs(terms.values)), {2.0})
 
     def test_a_model_without_items(self):
-        for n in 0, 1, 128:
+        for n in 0, 1, 128, 256:
             model = Model(n)
             self.assertEqual(len(model.action("I" * n)), 0)
-        self.assertEqual(repr(model), "Model of 128 qubits: 0 Hamiltonian terms, 0 jumps, 0 pairs")
+        self.assertEqual(repr(model), "Model of 256 qubits: 0 Hamiltonian terms, 0 jumps, 0 pairs")
 
     def test_the_last_qubit(self):
-        model = Model(128, {"Z127": 0.5})
-        self.assertEqual(model.action("X127").by_site(), {"Y127": -1.0})
-        self.assertEqual(len(model.action("X126")), 0)
-        self.assertEqual(model.action("X63 X127").by_site(), {"X63 Y127": -1.0})
+        for n in 128, 129, 192, 256:
+            last = n - 1
+            model = Model(n, {f"Z{last}": 0.5})
+            self.assertEqual(model.action(f"X{last}").by_site(), {f"Y{last}": -1.0})
+            self.assertEqual(len(model.action(f"X{last - 1}")), 0)
+            # Nor on the qubits at the same bit of other lanes.
+            self.assertEqual(len(model.action(" ".join(f"X{q}" for q in range(last % 64, last, 64)))), 0)
+            self.assertEqual(model.action(f"X63 X{last}").by_site(), {f"X63 Y{last}": -1.0})
+
+    def test_models_on_sites_of_a_large_register(self):
+        """Against matrices: small models on sites at and above 128 and at the ends of lanes, in any order."""
+        rng = random.Random(20)
+        ends = [63, 64, 127, 128, 191, 192, 255]
+        for case in range(12):
+            n = 1 + case % 3
+            sites = rng.sample(ends, n) if case % 2 else rng.sample(range(128, 256), n)
+            given = dense.random_model(rng, n, True)
+            model = Model(256, *dense.moved(sites, 256, *given))
+            expected = dense.superoperator(n, *given)
+            for column, text in enumerate(dense.register(n)):
+                terms = model.action(dense.placed(text, sites, 256)).by_site()
+                words = [Word(dense.placed(each, sites, 256), n=256).by_site for each in dense.register(n)]
+                found = np.array([terms.pop(word, 0.0) for word in words])
+                self.assertTrue((found == expected[:, column]).all())
+                self.assertEqual(terms, {})
 
     def test_many_matrices(self):
         matrices = [([f"X{q}", f"X{q + 1}"], [[1, 0.5j], [-0.5j, 1]]) for q in range(7)]

@@ -208,7 +208,7 @@ class Lengths(test_refusals.Case):
             return Model(2, [], [(1, "XX")], [(["X0", "X1"], np.eye(2))])
 
         blamed = "nothing that was given is to blame"
-        for table, length in ("work_words", 8), ("work_numbers", 4):
+        for table, length in ("work_words", 16), ("work_numbers", 4):
             values = {"matrix": 0, "needed": 258, "given": 2}
             said = f"matrix 0 was lent 2 places in {table}, in place of 258: {blamed}"
             with short("matrix_sizes", table, length):

@@ -5,9 +5,11 @@ import unittest
 
 import numpy as np
 
-from pebblelinen import Basis, InputError, Model, Terms
+from pebblelinen import Basis, InputError, Model, Terms, Word
 
-LANES = np.array([[1, 0, 0, 0], [2, 0, 2, 0], [0, 0, 3, 0]], np.uint64)
+# X0, Y1 and Z0 Z1: the lanes of x, then those of z.
+LANES = np.zeros((3, 8), np.uint64)
+LANES[:, [0, 4]] = [[1, 0], [2, 2], [0, 3]]
 NUMBERS = np.array([1.0, -2.0, 0.5])
 
 
@@ -51,7 +53,7 @@ class Arrays(unittest.TestCase):
         self.assertTrue((lanes == LANES).all() and (numbers == NUMBERS).all())
 
     def test_gaps(self):
-        wide = np.zeros((6, 8), np.uint64)
+        wide = np.zeros((6, 16), np.uint64)
         wide[::2, ::2] = LANES
         numbers = np.repeat(NUMBERS, 3)[::3]
         self.assertFalse(wide[::2, ::2].flags.c_contiguous)
@@ -61,7 +63,7 @@ class Arrays(unittest.TestCase):
 
     def test_unaligned(self):
         bytes_ = b"\0" + LANES.tobytes()
-        lanes = np.frombuffer(bytes_, np.uint8)[1:].view(np.uint64).reshape(3, 4)
+        lanes = np.frombuffer(bytes_, np.uint8)[1:].view(np.uint64).reshape(3, 8)
         bytes_ = b"\0" + NUMBERS.tobytes()
         numbers = np.frombuffer(bytes_, np.uint8)[1:].view(np.float64)
         self.assertFalse(numbers.flags.aligned)
@@ -84,15 +86,15 @@ class Arrays(unittest.TestCase):
                 self.same(lanes, numbers)
         self.same(LANES.view(np.recarray), NUMBERS)
         self.same(memoryview(LANES), memoryview(NUMBERS))
-        high = Basis.from_arrays(128, [[0, 1 << 63, 0, 0]])
-        self.assertEqual(high.by_site(), {"X127": 0.0})
+        high = Basis.from_arrays(256, [[0, 1 << 63, 0, 0, 0, 0, 0, 1 << 63]])
+        self.assertEqual(high.by_site(), {"X127 Z255": 0.0})
 
     def test_types_that_do_not(self):
         for lanes in [
             LANES.astype(float), LANES.astype(complex), LANES.astype(str), LANES.astype(object), LANES > 0,
-            -LANES.astype(np.int64), [[0.5, 0, 0, 0]] * 3, [[1, 0, 0, -1]] * 3, [[1, 0, 0, 1 << 64]] * 3,
-            np.ma.array(LANES, mask=LANES == 0), "X0", None, 5, [["X0", 0, 0, 0]] * 3, [[1], [2, 3]],
-            np.zeros(3, [("x", np.uint64)]), LANES.reshape(3, 2, 2), LANES[:, :2], LANES[0, 0], LANES.T,
+            -LANES.astype(np.int64), [[0.5] + 7 * [0]] * 3, [7 * [0] + [-1]] * 3, [7 * [0] + [1 << 64]] * 3,
+            np.ma.array(LANES, mask=LANES == 0), "X0", None, 5, [["X0"] + 7 * [0]] * 3, [[1], [2, 3]],
+            np.zeros(3, [("x", np.uint64)]), LANES.reshape(3, 2, 4), LANES[:, :2], LANES[:, :4], LANES[0, 0], LANES.T,
         ]:  # fmt: skip
             with self.subTest(lanes=lanes), self.assertRaises(InputError):
                 Basis.from_arrays(2, lanes, NUMBERS)
@@ -104,8 +106,32 @@ class Arrays(unittest.TestCase):
             with self.subTest(numbers=numbers), self.assertRaises(InputError):
                 Basis.from_arrays(2, LANES, numbers)
 
+    def test_words_of_two_lanes(self):
+        """As they were before registers had 256 qubits: told what to do, and then the same."""
+        narrow = LANES[:, [0, 1, 4, 5]]
+        advice = (
+            r"words of two x lanes and two z lanes, as they were for at most 128 qubits, are widened by"
+            r" numpy\.insert\(words, \[2, 2, 4, 4\], 0, axis=1\)$"
+        )
+        said = r"words has the shape \(3, 4\): \(words, 8\) is needed, x\[0\] to x\[3\], then z\[0\] to z\[3\]; "
+        for call in [
+            lambda: Basis.from_arrays(2, narrow, NUMBERS),
+            lambda: Basis.from_arrays(2, narrow),
+            lambda: Terms(2, narrow, NUMBERS),
+        ]:
+            with self.assertRaisesRegex(InputError, said + advice):
+                call()
+        with self.assertRaisesRegex(InputError, r"\(words, 8\) is needed, .*" + advice):
+            Basis(2).cap(limit=1, protected=narrow)
+        with self.assertRaisesRegex(InputError, "3 coefficients beside 12 lanes: each has a word of 8; " + advice):
+            Basis.from_arrays(2, narrow.reshape(-1), NUMBERS)
+        self.same(np.insert(narrow, [2, 2, 4, 4], 0, axis=1), NUMBERS)
+        said = r"4 lanes: a word has 8, x\[0\] to x\[3\], then z\[0\] to z\[3\]; two zeros belong after the two x lanes"
+        with self.assertRaisesRegex(InputError, said):
+            Word.from_lanes([1, 0, 2, 0], n=2)
+
     def test_empty(self):
-        for lanes in [], np.zeros((0, 4), np.uint64), np.zeros(0), np.zeros((0, 4)):
+        for lanes in [], np.zeros((0, 8), np.uint64), np.zeros(0), np.zeros((0, 8)):
             for numbers in [], np.zeros(0), np.zeros(0, np.int8), None:
                 basis = Basis.from_arrays(2, lanes, numbers)
                 self.assertEqual(len(basis), 0)

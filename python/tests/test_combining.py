@@ -55,12 +55,12 @@ class Sums(unittest.TestCase):
 
     def test_words_on_all_lanes_are_in_the_librarys_order(self):
         rng = random.Random(6)
-        texts = ["".join(rng.choices("IXYZ", k=128)) for _ in range(200)]
-        texts += [f"{p}{q}" for q in (0, 63, 64, 127) for p in "XYZ"]
-        terms = Terms.of([(text, 1.0) for text in texts], n=128) + 0
+        texts = ["".join(rng.choices("IXYZ", k=256)) for _ in range(200)]
+        texts += [f"{p}{q}" for q in (0, 63, 64, 127, 128, 191, 192, 255) for p in "XYZ"]
+        terms = Terms.of([(text, 1.0) for text in texts], n=256) + 0
         words = [word for word, _ in terms]
         self.assertEqual(words, sorted(words))
-        self.assertEqual(len(words), 212)
+        self.assertEqual(len(words), 224)
 
     def test_values_are_added_in_the_order_in_which_they_stand(self):
         terms = Terms.of([("X", 1.0), ("X", 1e16), ("X", -1e16)], n=1)
@@ -159,12 +159,16 @@ class Expectations(unittest.TestCase):
             expected = (np.conj(vector) @ as_matrix(terms) @ vector).real
             self.assertAlmostEqual(terms.expectation(state), expected, delta=1e-14)
 
-    def test_128_qubits(self):
-        terms = Terms.of({"Z0 Z63": 1.0, "Z64 X100 Y127": 2.0, "X0": 4.0, "I0": 8.0}, n=128)
-        state = list("0" * 128)
-        self.assertEqual(terms.expectation("".join(state)), 9.0)
-        state[63], state[100], state[127] = "1", "-", "l"
-        self.assertEqual(terms.expectation("".join(state)), 8.0 - 1.0 + 2.0)
+    def test_128_and_256_qubits(self):
+        for n in 128, 256:
+            far = n - 28
+            terms = Terms.of({"Z0 Z63": 1.0, f"Z64 X{far} Y{n - 1}": 2.0, "X0": 4.0, "I0": 8.0}, n=n)
+            state = list("0" * n)
+            self.assertEqual(terms.expectation("".join(state)), 9.0)
+            state[63], state[far], state[n - 1] = "1", "-", "l"
+            self.assertEqual(terms.expectation("".join(state)), 8.0 - 1.0 + 2.0)
+            state[far] = "+"
+            self.assertEqual(terms.expectation("".join(state)), 8.0 - 1.0 - 2.0)
 
     def test_the_sum_is_rounded_once(self):
         terms = Terms.of([("Z0", 1.0), ("Z1", 1e16), ("Z0 Z1", -1e16)], n=2)
@@ -181,7 +185,7 @@ class Expectations(unittest.TestCase):
             with self.assertRaises(InputError) as caught:
                 terms.expectation(state)
             self.assertIn(said, str(caught.exception))
-        outside = Terms(1, np.array([[0, 0, 2, 0]], np.uint64), [1.0])
+        outside = Terms(1, np.array([[0, 0, 0, 0, 2, 0, 0, 0]], np.uint64), [1.0])
         with self.assertRaises(InputError) as caught:
             outside.expectation("0")
         self.assertIn("the word Z1 has a letter at or above qubit 1", str(caught.exception))

@@ -28,7 +28,7 @@ class Elsewhere(unittest.TestCase):
 
     def test_there_and_back(self):
         rng = random.Random(10)
-        for n in 1, 2, 63, 64, 65, 128:
+        for n in 1, 2, 63, 64, 65, 128, 129, 192, 256:
             for _ in range(10):
                 word = Word("".join(rng.choices("IXYZ", k=n)), n=n)
                 self.assertEqual(Word.from_qiskit(word.to_qiskit()), word)
@@ -65,7 +65,7 @@ class Elsewhere(unittest.TestCase):
         self.wrong("a pair is needed", Word.from_openfermion, ("X0",), n=3)
         self.wrong("a letter is needed", Word.from_openfermion, ((0, "XY"),), n=3)
         for site in 0, -1:
-            self.wrong(f"a site is {site}: from 1 to 128 is needed", Word.from_julia, "X", site, n=3)
+            self.wrong(f"a site is {site}: from 1 to 256 is needed", Word.from_julia, "X", site, n=3)
         self.wrong("qubit 1 comes twice", Word.from_julia, "X", 2, "X", 2, n=3)
         self.wrong("a site is needed after each letter", Word.from_julia, "X", 1, "Z", n=3)
         self.wrong("a whole number is needed", Word.from_julia, 1, "X", n=3)

@@ -172,7 +172,7 @@ class Refusals(test_refusals.Case):
             model.norm,
             lambda basis: model.degree(basis, dt=1),
         ]
-        many = Basis.from_arrays(3, np.zeros((65_537, 4), np.uint64))
+        many = Basis.from_arrays(3, np.zeros((65_537, 8), np.uint64))
         outside = Basis.from_arrays(3, np.array([[1, 0, 0, 0], [8, 0, 0, 0]], np.uint64))
         for call in calls:
             said = "the basis has 65537 entries: at most 65536"
@@ -299,7 +299,7 @@ class Demo(test_command.Case):
 
     def test_demo(self):
         out = self.answered("demo", "--rounds", "4", "--limit", "200")
-        self.assertIn("a chain of 128 qubits with couplings, fields, decay and dephasing", out)
+        self.assertIn("a chain of 256 qubits with couplings, fields, decay and dephasing", out)
         self.assertIn("action on the observable, Z on qubit 64:", out)
         self.assertIn("position 0: Z64, coefficient", out)
         self.assertIn("200 positions have a letter on qubit 64", out)

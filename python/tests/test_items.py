@@ -189,7 +189,7 @@ class Numbers(unittest.TestCase):
 class Texts(unittest.TestCase):
     def test_words_already_read_make_the_same_model_as_texts(self):
         rng = random.Random(4)
-        for n in 1, 2, 7, 8, 9, 63, 64, 65, 127, 128:
+        for n in 1, 2, 7, 8, 9, 63, 64, 65, 127, 128, 129, 191, 192, 193, 255, 256:
             texts = ["".join(rng.choices("IXYZ", k=n)) for _ in range(24)]
             words = [Word(text, n=n) for text in texts]
 

@@ -57,7 +57,7 @@ class Words(Case):
 
     def test_qubits_that_no_register_has(self):
         for word in "X100000", "Z0 X100000", {100_000: "X"}:
-            self.word(InputError, "qubit 100000: a register has at most 128 qubits, 0 to 127", word)
+            self.word(InputError, "qubit 100000: a register has at most 256 qubits, 0 to 255", word)
         self.word(InputError, "qubit 99999999999999999999..: a register has", "X" + "9" * 10_000)
         self.assertEqual(Word("X0000001", n=3), Word("X1", n=3))
         self.word(Refusal, "the register has 3 qubits, 0 to 2", "X99999")
@@ -80,7 +80,7 @@ class Limits(Case):
             ]:
                 self.told(InputError, f"{name} is {given}: from 0 to 65536 is needed", call)
             for call in (lambda: Model(given)), (lambda: Basis(given)), (lambda: Word("X", n=given)):
-                self.told(InputError, f"the number of qubits, is {given}: from 0 to 128 is needed", call)
+                self.told(InputError, f"the number of qubits, is {given}: from 0 to 256 is needed", call)
             self.told(InputError, f"a qubit is {given}: from 0 to 127 is needed", lambda: Qubit(given))
             self.told(InputError, f"a position is {given}: from 0 to 65535 is needed", lambda: Position(given))
         self.told(Refusal, "max_basis is 65537: at most 65536", lambda: model.leakage(basis, max_basis=65_537))
@@ -164,7 +164,7 @@ class Command(test_command.Case):
             status, _, error = self.run_command("leakage", self.path, "--max-basis", given)
             self.assertEqual((status, error), (2, f"pebblelinen: max_basis is {given}: from 0 to 65536 is needed\n"))
         self.write("qubits = -1")
-        with self.assertRaisesRegex(InputError, "the number of qubits is -1: from 0 to 128 is needed"):
+        with self.assertRaisesRegex(InputError, "the number of qubits is -1: from 0 to 256 is needed"):
             load(self.path)
 
     def test_words(self):

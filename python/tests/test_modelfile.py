@@ -137,19 +137,19 @@ class Files(unittest.TestCase):
         text = GOOD.replace('"ZI" = 0.5', '"ZI" = inf')
         self.refused(text, 7, 'hamiltonian."ZI"', f"Hamiltonian item 1 has the number inf: {needed}")
 
-    def test_qubit_128_of_128(self):
-        said = "the word 'X128' has a letter at qubit 128, and the register has 128 qubits, 0 to 127"
+    def test_qubit_256_of_256(self):
+        said = "the word 'X256' has a letter at qubit 256, and the register has 256 qubits, 0 to 255"
         self.refused(
-            'qubits = 128\n[hamiltonian]\n"X127" = 1\n"X128" = 1',
+            'qubits = 256\n[hamiltonian]\n"X255" = 1\n"X256" = 1',
             2,
-            'hamiltonian."X128"',
+            'hamiltonian."X256"',
             f"Hamiltonian item 1: {said}",
         )
-        self.refused('qubits = 128\n[basis]\n"X128" = 1', 2, 'basis."X128"', said)
-        self.refused('qubits = 128\nprotected = ["Z0", "X128"]', 2, "protected[1]", said)
+        self.refused('qubits = 256\n[basis]\n"X256" = 1', 2, 'basis."X256"', said)
+        self.refused('qubits = 256\nprotected = ["Z0", "X256"]', 2, "protected[1]", said)
 
     def test_too_many_qubits(self):
-        self.refused("qubits = 129", 1, "qubits", "a register of 129 qubits: at most 128")
+        self.refused("qubits = 257", 1, "qubits", "a register of 257 qubits: at most 256")
         for given in "-1", "1.5", '"2"', "true", "[2]", "2000-01-01":
             self.wrong(f"qubits = {given}", "qubits", "the number of qubits is")
 

@@ -33,23 +33,23 @@ class Case(unittest.TestCase):
 
 class Words(Case):
     def test_1(self):
-        said = "a register of 129 qubits: at most 128"
-        values = {"count": 129, "limit": 128}
-        self.refused(1, values, said, lambda: Model(129), ("n",))
-        self.refused(1, values, said, lambda: Word("X0", n=129))
-        self.refused(1, values, said, lambda: Word.from_codes([0] * 129))
-        self.refused(1, values, said, lambda: Basis.from_arrays(129, []).prune(drop_tol=1))
-        self.refused(1, values, said, lambda: Basis(129).cap(limit=1))
-        self.refused(1, values, said, lambda: Basis(129).admit([], limit=1))
+        said = "a register of 257 qubits: at most 256"
+        values = {"count": 257, "limit": 256}
+        self.refused(1, values, said, lambda: Model(257), ("n",))
+        self.refused(1, values, said, lambda: Word("X0", n=257))
+        self.refused(1, values, said, lambda: Word.from_codes([0] * 257))
+        self.refused(1, values, said, lambda: Basis.from_arrays(257, []).prune(drop_tol=1))
+        self.refused(1, values, said, lambda: Basis(257).cap(limit=1))
+        self.refused(1, values, said, lambda: Basis(257).admit([], limit=1))
         most = 2**64 - 1
-        said = f"a register of {most} qubits: at most 128"
-        self.refused(1, {"count": most, "limit": 128}, said, lambda: Word("X0", n=most))
-        self.refused(1, {"count": most, "limit": 128}, said, lambda: Model(most, {"X5": 1}), ("n",))
+        said = f"a register of {most} qubits: at most 256"
+        self.refused(1, {"count": most, "limit": 256}, said, lambda: Word("X0", n=most))
+        self.refused(1, {"count": most, "limit": 256}, said, lambda: Model(most, {"X5": 1}), ("n",))
         self.refused(
             1,
-            {"count": most, "limit": 128},
+            {"count": most, "limit": 256},
             said,
-            lambda: Word.from_lanes([1, 0, 0, 0], n=most).text,
+            lambda: Word.from_lanes([1, 0, 0, 0, 0, 0, 0, 0], n=most).text,
         )
 
     def test_2(self):
@@ -61,9 +61,9 @@ class Words(Case):
         )
         self.refused(
             2,
-            {"expected": 128, "got": 129, "qubit": Qubit(128)},
-            "the word 'X128' has a letter at qubit 128, and the register has 128 qubits, 0 to 127",
-            lambda: Model(128).action("X128"),
+            {"expected": 256, "got": 257, "qubit": Qubit(256)},
+            "the word 'X256' has a letter at qubit 256, and the register has 256 qubits, 0 to 255",
+            lambda: Model(256).action("X256"),
         )
 
     def test_3(self):
@@ -82,22 +82,22 @@ class Words(Case):
             11,
             {"position": Position(0)},
             "the word X5 has a letter at or above qubit 3",
-            lambda: Word.from_lanes([32, 0, 0, 0], n=3).text,
+            lambda: Word.from_lanes([32, 0, 0, 0, 0, 0, 0, 0], n=3).text,
         )
         self.refused(
             11,
             {"position": Position(0), "qubits": 3},
             "the word X5 has a bit at or above qubit 3",
-            lambda: Model(3).action(Word.from_lanes([32, 0, 0, 0], n=3)),
+            lambda: Model(3).action(Word.from_lanes([32, 0, 0, 0, 0, 0, 0, 0], n=3)),
         )
 
     def test_11_in_models(self):
         """A word with a letter outside its register is refused beside others too, wherever the letter is."""
-        for n in 0, 1, 3, 8, 63, 64, 65, 127:
-            for qubit in {n, 63, 64, 127} - set(range(n)):
+        for n in 0, 1, 3, 8, 63, 64, 65, 127, 128, 191, 192, 255:
+            for qubit in {n, 63, 64, 127, 128, 191, 192, 255} - set(range(n)):
                 for z in False, True:
-                    bit = 1 << qubit + 128 * z
-                    word = Word.from_lanes([bit >> 64 * lane & 2**64 - 1 for lane in range(4)], n=n)
+                    bit = 1 << qubit + 256 * z
+                    word = Word.from_lanes([bit >> 64 * lane & 2**64 - 1 for lane in range(8)], n=n)
                     said = f"the word {'XZ'[z]}{qubit} has a letter at or above qubit {n}"
                     one = Word("I" * n, n=n)
                     for call in [
@@ -253,7 +253,7 @@ class Bases(Case):
 
     def test_8(self):
         model = Model(1, {"Z": 1})
-        many = np.zeros((65_537, 4), np.uint64)
+        many = np.zeros((65_537, 8), np.uint64)
         basis, small = Basis.from_arrays(1, many), Basis(1, {"X": 1})
         values = {"count": 65_537, "limit": 65_536}
         for said, call in [
@@ -276,21 +276,22 @@ class Bases(Case):
 
     def test_9(self):
         basis = Basis(1, {"X": 1})
-        said = "the protected words have 5 lanes: the last word is cut off"
-        call = lambda: basis.cap(limit=1, protected=np.zeros(5, np.uint64))  # noqa: E731
-        self.refused(9, {"needed": 4, "given": 5}, said, call)
-        call = lambda: Model(1).leakage(basis, max_basis=1, protected=np.zeros(5, np.uint64))  # noqa: E731
-        self.refused(9, {"needed": 4, "given": 5}, said, call)
-        said = "the listed words have 5 lanes: the last word is cut off"
-        call = lambda: basis.admit(Terms(1, np.zeros(5, np.uint64), [1]), limit=1)  # noqa: E731
-        self.refused(9, {"needed": 4, "given": 5}, said, call)
+        said = "the protected words have 9 lanes: the last word is cut off"
+        call = lambda: basis.cap(limit=1, protected=np.zeros(9, np.uint64))  # noqa: E731
+        self.refused(9, {"needed": 8, "given": 9}, said, call)
+        call = lambda: Model(1).leakage(basis, max_basis=1, protected=np.zeros(9, np.uint64))  # noqa: E731
+        self.refused(9, {"needed": 8, "given": 9}, said, call)
+        said = "the listed words have 9 lanes: the last word is cut off"
+        call = lambda: basis.admit(Terms(1, np.zeros(9, np.uint64), [1]), limit=1)  # noqa: E731
+        self.refused(9, {"needed": 8, "given": 9}, said, call)
         said = "2 listed words and 1 values"
-        call = lambda: basis.admit(Terms(1, np.zeros(8, np.uint64), [1]), limit=1)  # noqa: E731
+        call = lambda: basis.admit(Terms(1, np.zeros(16, np.uint64), [1]), limit=1)  # noqa: E731
         self.refused(9, {"needed": 2, "given": 1}, said, call)
 
     def test_11(self):
         model = Model(3, {"Z0": 1})
-        outside = np.array([[1, 0, 0, 0], [0, 0, 1, 0], [2, 0, 2, 0], [0, 0, 0, 1]], np.uint64)
+        outside = np.zeros((4, 8), np.uint64)
+        outside[:, [0, 4, 5]] = [[1, 0, 0], [0, 1, 0], [2, 2, 0], [0, 0, 1]]
         basis = Basis.from_arrays(3, outside)
         said = "basis word at position 3 has a bit at or above qubit 3: Z64"
         for call in [

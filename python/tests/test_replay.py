@@ -13,23 +13,24 @@ import numpy as np
 import replay
 from pebblelinen import _library
 
-# How many cases of each kind are recorded, so that an empty or a cut recording shows.
+# How many cases of each kind are recorded, so that an empty or a cut recording shows: those of at most 128 qubits, or
+# more than 256, and those of 129 qubits or more.
 CASES = {
-    "texts": 400,
-    "codes read": 400,
+    "texts": 382,
+    "codes read": 384,
     "codes written": 400,
     "products": 400,
-    "models": 100,
+    "models": 92,
     "models refused": 100,
     "matrices": 32,
-    "matrices refused": 30,
+    "matrices refused": 24,
     "actions": 50,
     "actions of matrices": 51,
     "actions refused": 50,
     "prunes": 25,
     "caps": 25,
     "admissions": 25,
-    "bases without the Rust": 25,
+    "bases without the Rust": 22,
     "leakage": 54,
     "leakage of matrices": 25,
     "leakage without the Rust": 38,
@@ -60,19 +61,28 @@ WRITTEN = {
 BASES = "prune_basis", "cap_basis", "add_leakage_capped"
 
 
-def cases() -> Iterator[list[int]]:
-    """The numbers of each case."""
-    return (replay.parsed(line) for _, line in replay.lines())
+# The numbers of a case, and the lanes of its recording.
+Numbers = tuple[list[int], int]
 
 
-def first_cases() -> Iterator[list[int]]:
-    """The first case of each kind, but for codes of no qubits."""
-    first: dict[int, list[int]] = {}
-    for numbers in cases():
-        if replay.replay(numbers)[1].compared:
-            first.setdefault(numbers[0], numbers)
-    assert set(first) == set(replay.KINDS)
-    return iter(first.values())
+def cases(*names: str) -> Iterator[Numbers]:
+    """The cases of these recordings, or of all, but for those that are left out."""
+    for name in names or replay.RECORDINGS:
+        for _, lanes, line in replay.lines(name):
+            numbers = replay.parsed(line)
+            if not replay.is_left_out(numbers, lanes):
+                yield numbers, lanes
+
+
+def first_cases() -> Iterator[Numbers]:
+    """The first case of each kind in each recording, but for codes of no qubits."""
+    for name, missing in zip(replay.RECORDINGS, (set(), {22, 23})):
+        first: dict[int, Numbers] = {}
+        for numbers, lanes in cases(name):
+            if numbers[0] not in first and replay.replay(numbers, lanes)[1].compared:
+                first[numbers[0]] = numbers, lanes
+        assert set(first) == set(replay.KINDS) - missing
+        yield from first.values()
 
 
 def written(name: str, arguments: tuple[Any, ...]) -> list[replay.Table]:
@@ -88,47 +98,61 @@ def change_last(table: replay.Table) -> None:
 
 
 class Replay(unittest.TestCase):
-    def test_every_recorded_answer_is_the_librarys(self) -> None:
+    def replayed(self, name: str, lanes: int) -> tuple[collections.Counter[str], int]:
+        """How many cases of each kind were replayed, and how many were left out."""
         counts: collections.Counter[str] = collections.Counter()
-        wrong = []
-        for number, line in replay.lines():
+        left_out, wrong = 0, []
+        for place, recorded, line in replay.lines(name):
+            self.assertEqual(recorded, lanes)
             try:
-                about, _ = replay.replay(replay.parsed(line))
+                numbers = replay.parsed(line)
+                if replay.is_left_out(numbers, recorded):
+                    left_out += 1
+                    continue
+                about, _ = replay.replay(numbers, recorded)
             except (replay.Malformed, replay.Disagreement) as error:
-                wrong.append(f"line {number}: {type(error).__name__}: {str(error)[:200]}")
+                wrong.append(f"{place}: {type(error).__name__}: {str(error)[:200]}")
             else:
                 counts[about] += 1
         self.assertEqual(len(wrong), 0, "\n" + "\n".join(wrong[:10]))
+        return counts, left_out
+
+    def test_every_recorded_answer_is_the_librarys(self) -> None:
+        counts, left_out = self.replayed("recorded.txt", 2)
         self.assertEqual(counts, CASES)
+        self.assertEqual(left_out, LEFT_OUT)
+
+    def test_those_of_many_qubits_too(self) -> None:
+        self.assertEqual(self.replayed("recorded-wide.txt", 4), (WIDE, 0))
 
 
 class Changes(unittest.TestCase):
     """What is changed by one bit is found."""
 
-    def changed(self, numbers: list[int], place: int) -> None:
+    def changed(self, numbers: list[int], lanes: int, place: int) -> None:
         other = list(numbers)
         other[place] ^= 1
         with self.assertRaises(replay.Disagreement, msg=(numbers[0], place)):
-            replay.replay(other)
+            replay.replay(other, lanes)
 
     def test_a_recorded_number(self) -> None:
         """In each case one number of the answer: in one case the first, in the next the second, and so on."""
         found: collections.Counter[str] = collections.Counter()
-        for turn, numbers in enumerate(cases()):
-            about, case = replay.replay(numbers)
+        for turn, (numbers, lanes) in enumerate(cases("recorded.txt")):
+            about, case = replay.replay(numbers, lanes)
             if case.compared:
-                self.changed(numbers, case.compared[turn % len(case.compared)])
+                self.changed(numbers, lanes, case.compared[turn % len(case.compared)])
                 found[about] += 1
         # The word of no qubits has no codes.
         self.assertEqual(found, {**CASES, "codes written": 389})
 
     def test_every_number_of_an_answer(self) -> None:
         """All that follows what is given is compared: in one case of each kind, number by number."""
-        for numbers in first_cases():
-            _, case = replay.replay(numbers)
+        for numbers, lanes in first_cases():
+            _, case = replay.replay(numbers, lanes)
             self.assertEqual(case.compared[-1], len(numbers) - 1)
             for place in case.compared:
-                self.changed(numbers, place)
+                self.changed(numbers, lanes, place)
 
     def test_what_is_not_recorded(self) -> None:
         """That codes are written and models made, with their qubits, and that both products are the same word."""
@@ -146,31 +170,31 @@ class Changes(unittest.TestCase):
             return answer
 
         untouched = 1, 2, 12, 13, 14, 15, 22, 23
-        for numbers in first_cases():
+        for numbers, lanes in first_cases():
             with mock.patch.object(_library, "call", other):
                 if numbers[0] in untouched:
-                    replay.replay(numbers)
+                    replay.replay(numbers, lanes)
                 else:
                     with self.assertRaises(replay.Disagreement, msg=numbers[0]):
-                        replay.replay(numbers)
+                        replay.replay(numbers, lanes)
 
     def test_a_lent_table(self) -> None:
         """The last place of each table that a call writes to, in turn, in one case of each kind that has it."""
         tried = set()
-        for numbers in cases():
-            for turn, (name, index, table) in enumerate(self.tables_of(numbers)):
+        for numbers, lanes in cases():
+            for turn, (name, index, table) in enumerate(self.tables_of(numbers, lanes)):
                 key = numbers[0], name, index
                 if key in tried or not table.size:
                     continue
                 tried.add(key)
                 with mock.patch.object(_library, "call", self.changing(turn)):
                     with self.assertRaises(replay.Disagreement, msg=key):
-                        replay.replay(numbers)
+                        replay.replay(numbers, lanes)
         all_tables = {(name, index) for name in WRITTEN for index in range(WRITTEN[name] + 2 * (name in BASES))}
         self.assertEqual({(name, index) for _, name, index in tried}, all_tables)
 
     @staticmethod
-    def tables_of(numbers: list[int]) -> list[tuple[str, int, replay.Table]]:
+    def tables_of(numbers: list[int], lanes: int) -> list[tuple[str, int, replay.Table]]:
         """Every table that a case's calls write to, with the function and the table's place among its own."""
         call = _library.call
         tables: list[tuple[str, int, replay.Table]] = []
@@ -180,7 +204,7 @@ class Changes(unittest.TestCase):
             return call(name, *arguments)
 
         with mock.patch.object(_library, "call", noted):
-            replay.replay(numbers)
+            replay.replay(numbers, lanes)
         return tables
 
     @staticmethod
@@ -231,10 +255,10 @@ class Damage(unittest.TestCase):
 
     def test_numbers_that_lack_or_are_too_many(self) -> None:
         """A case of each kind, cut at each place or with a number more."""
-        for numbers in first_cases():
+        for numbers, lanes in first_cases():
             for other in [*(numbers[:end] for end in range(len(numbers))), [*numbers, 0]]:
                 with self.assertRaises(replay.Malformed, msg=(numbers[0], len(other))):
-                    replay.replay(other)
+                    replay.replay(other, lanes)
 
     def test_numbers_too_large_for_their_table(self) -> None:
         self.malformed("1 1 1 158 0 0 0 1 0 0 0")

@@ -66,7 +66,8 @@ class Saving(unittest.TestCase):
         self.held(Model(0, {"": 0.5}, [(1.0, "")]), Basis(0, {"": 1.0}), [""])
         self.held(Model(1, {"I": 0.5}))
         self.held(Model(128))
-        self.held(demo.chain(), Basis(128, {"Z64": 1.0}))
+        self.held(Model(256))
+        self.held(demo.chain(), Basis(256, {"Z128": 1.0}))
 
     def test_how_a_file_looks(self):
         model = Model(

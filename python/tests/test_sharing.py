@@ -9,7 +9,9 @@ import numpy as np
 
 from pebblelinen import Basis, Model, Position, Qubit, Terms, row
 
-LANES = np.array([[1, 0, 0, 0], [2, 0, 2, 0], [0, 0, 3, 0]], np.uint64)
+# X0, Y1 and Z0 Z1: the lanes of x, then those of z.
+LANES = np.zeros((3, 8), np.uint64)
+LANES[:, [0, 4]] = [[1, 0], [2, 2], [0, 3]]
 NUMBERS = np.array([1.0, -2.0, 0.5])
 
 

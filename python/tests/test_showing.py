@@ -104,7 +104,7 @@ class Showing(unittest.TestCase):
 
     def test_only_what_is_shown_is_made(self):
         # 65,536 words show themselves at once.
-        basis = Basis.from_arrays(128, np.ones((65_536, 4), np.uint64))
+        basis = Basis.from_arrays(128, np.ones((65_536, 8), np.uint64))
         self.assertLess(len(basis._repr_html_()), 5000)
         self.assertFalse(re.search(r"\s$", pretty(basis)[1]))
 

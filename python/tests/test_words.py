@@ -42,9 +42,10 @@ class Words(unittest.TestCase):
         self.assertEqual(Word.from_codes(np.array([0, 1, 3, 2], np.uint8)), word)
         self.assertEqual(Word.from_codes(bytes([0, 1, 3, 2])), word)
         self.assertEqual(Word.from_lanes(word.lanes, n=4), word)
-        for q in 0, 63, 64, 127:
-            self.assertEqual(Word({q: "Y"}, n=128).letter(qubit=q), "Y")
-            self.assertEqual(Word(f"Y{q}", n=128).by_site, f"Y{q}")
+        for q in 0, 63, 64, 127, 128, 191, 192, 255:
+            self.assertEqual(Word({q: "Y"}, n=256).letter(qubit=q), "Y")
+            self.assertEqual(Word(f"Y{q}", n=256).by_site, f"Y{q}")
+            self.assertEqual(len(Word(f"Y{q}", n=256).letters), 1)
 
     def test_products_against_matrices(self):
         for p, q in itertools.product(dense.register(2), repeat=2):

@@ -1,0 +1,42 @@
+# SPDX-FileCopyrightText: 2026 The PPVM Authors
+# SPDX-License-Identifier: Apache-2.0
+"""How wide a word is: the one place that says how many lanes it has.
+
+Qubit q is bit q % 64 of lane q / 64. A word has LANES lanes of x bits and as many of z bits; in a table it has
+its x lanes, then its z lanes."""
+from collections.abc import Iterable, Sequence
+
+LANES = 4
+WORD_LANES = 2 * LANES
+MAX_QUBITS = 64 * LANES
+
+# What the lanes of a word are called, in their order.
+NAMED = f"x[0] to x[{LANES - 1}], then z[0] to z[{LANES - 1}]"
+
+# The lanes of a word of 128 qubits, which was the largest once.
+_OLD = 4
+_OLD_ADVICE = (
+    "; words of two x lanes and two z lanes, as they were for at most 128 qubits, are widened by"
+    " numpy.insert(words, [2, 2, 4, 4], 0, axis=1)"
+)
+
+_LANE = (1 << 64) - 1
+
+
+def split(bits: int) -> list[int]:
+    """The bits of all qubits, as lanes."""
+    return [bits >> 64 * lane & _LANE for lane in range(LANES)]
+
+
+def joined(lanes: Sequence[int]) -> tuple[int, int]:
+    """The x bits and the z bits of a word of these lanes, each as one number."""
+    return _number(lanes[:LANES]), _number(lanes[LANES:])
+
+
+def _number(lanes: Iterable[int]) -> int:
+    return sum(lane << 64 * i for i, lane in enumerate(lanes))
+
+
+def advice(lanes: int) -> str:
+    """What to do where words of so many lanes were given."""
+    return _OLD_ADVICE if lanes == _OLD else ""
