@@ -16,9 +16,8 @@ use lib.Seq.{ext-getD}
 use Rattle.word.specs.Count.{anyTo, tabulate}
 use Rattle.word.specs.Word.{laneCount, bit, Sound}
 use Rattle.word.specs.Register.{actsOn, share}
-use Rattle.word.specs.Order.{compareLanes, same}
+use Rattle.word.specs.Order.{same}
 use Rattle.word.specs.declared.word.Word.{Word}
-use Rattle.word.specs.declared.word.Ordering.{Ordering}
 use Rattle.word.proofs.Sums.{any-cong, any-runs}
 use Rattle.word.proofs.Digits.{at-bits, bit-lt, bit-and, bit-or, any-digit}
 use Rattle.word.proofs.Lanes.{letter-in}
@@ -33,7 +32,7 @@ beq-eq false true t = absurd t
 beq-eq false false t = refl
 
 -- ---- a | b is 0 exactly if both are
-or-zero : (a b : ℕ) → bitOr a b ≡ 0 → (a ≡ 0) × (b ≡ 0)
+pub or-zero : (a b : ℕ) → bitOr a b ≡ 0 → (a ≡ 0) × (b ≡ 0)
 or-zero a b h =
     let e = or-add-and a b in
     let l = and-le-l a b in
@@ -126,10 +125,3 @@ same-is p q sp sq = go (ℕ-discrete (orTo (laneCount - 1) (differing p q)) 0) (
     go (yes h) b e = eq-eqb _ 0 h ∙ sym (ap (same p) (sym (none-differing p q sp sq h)) ∙ same-self p)
     go (no h) true e = absurd (h (ap (λ (v : Word). orTo (laneCount - 1) (differing p v)) (sym (same-eq p q e)) ∙ self-differing p))
     go (no h) false e = ne-eqb _ 0 h ∙ sym e
-
--- ---- the order, lane by lane
-abbrev laneList : List ℕ → List ℕ
-laneList l = tabulate laneCount (λ i. getD l i 0)
-
-pub compare-is : (l m : List ℕ) (after : Ordering) → length l ≡ laneCount → length m ≡ laneCount → compareLanes (laneList l) (laneList m) after ≡ compareLanes l m after
-compare-is l m after hl hm = ap₂ (λ (a b : List ℕ). compareLanes a b after) (one-by-one l hl) (one-by-one m hm)

@@ -11,13 +11,14 @@ ghost use Rattle.word.specs.Text.{codeOf, dropped, readLetters, parse};
 ghost use Rattle.word.specs.Codes.{readCodes};
 ghost use Rattle.word.specs.Register.{reaches, share};
 ghost use Rattle.word.specs.Order.{compareThen, compareLanes, compare, same};
+ghost use Rattle.word.specs.declared.word.Ordering.the-variants.{Equal};
 ghost use Rattle.word.specs.Steps.{chosen, Put, scanFrom};
 use refusal::Answer;
 use refusal::Refusal;
 ghost use Rattle.word.specs.Between.{Wrote, NextQubit};
 
 // The lanes of a word's x and of its z, and the qubits that they hold, 64 to a lane.
-pub const LANES: usize = 2;
+pub const LANES: usize = 4;
 
 pub const MAX_QUBITS: usize = 64 * LANES;
 
@@ -32,8 +33,12 @@ pub struct Word {
 pub struct Lanes {
     pub x0: u64,
     pub x1: u64,
+    pub x2: u64,
+    pub x3: u64,
     pub z0: u64,
     pub z1: u64,
+    pub z2: u64,
+    pub z3: u64,
 }
 
 // What a reader of texts or codes answers.
@@ -62,8 +67,12 @@ pub fn packed(w: Word) -> Lanes
     Lanes {
         x0: w.x[0],
         x1: w.x[1],
+        x2: w.x[2],
+        x3: w.x[3],
         z0: w.z[0],
         z1: w.z[1],
+        z2: w.z[2],
+        z3: w.z[3],
     }
 }
 
@@ -71,8 +80,8 @@ pub fn unpacked(l: Lanes) -> Word
     ensures { λ r. ⌜ r ≡ unpack l ⌝ }
 {
     Word {
-        x: [l.x0, l.x1],
-        z: [l.z0, l.z1],
+        x: [l.x0, l.x1, l.x2, l.x3],
+        z: [l.z0, l.z1, l.z2, l.z3],
     }
 }
 
@@ -304,14 +313,16 @@ pub fn shares_qubit(p: Word, q: Word) -> bool
     let z = p.z;
     let u = q.x;
     let v = q.z;
-    let low = (x[0] | z[0]) & (u[0] | v[0]);
-    let high = (x[1] | z[1]) & (u[1] | v[1]);
-    low | high != 0
+    let s0 = (x[0] | z[0]) & (u[0] | v[0]);
+    let s1 = (x[1] | z[1]) & (u[1] | v[1]);
+    let s2 = (x[2] | z[2]) & (u[2] | v[2]);
+    let s3 = (x[3] | z[3]) & (u[3] | v[3]);
+    s0 | s1 | s2 | s3 != 0
 }
 
-// a against b, and where they are equal, what comes after.
-fn compare_then(a: u64, b: u64, after: Ordering) -> Ordering
-    ensures { λ r. ⌜ r ≡ compareThen a b after ⌝ }
+// a against b.
+fn compare_numbers(a: u64, b: u64) -> Ordering
+    ensures { λ r. ⌜ r ≡ compareThen a b Equal ⌝ }
 {
     if a < b {
         return Ordering::Less;
@@ -319,15 +330,24 @@ fn compare_then(a: u64, b: u64, after: Ordering) -> Ordering
     if b < a {
         return Ordering::Greater;
     }
-    after
+    Ordering::Equal
 }
 
-// The lanes a against the lanes b as numbers, and where they are equal, what comes after.
-fn compare_lanes(a: [u64; LANES], b: [u64; LANES], after: Ordering) -> Ordering
-    ensures { λ r. ⌜ r ≡ compareLanes a b after ⌝ }
+// The lanes a against the lanes b as numbers. The first difference decides, and nothing is looked at
+// after it.
+fn compare_lanes(a: [u64; LANES], b: [u64; LANES]) -> Ordering
+    ensures { λ r. ⌜ r ≡ compareLanes a b Equal ⌝ }
 {
-    let last = compare_then(a[1], b[1], after);
-    compare_then(a[0], b[0], last)
+    if a[0] != b[0] {
+        return compare_numbers(a[0], b[0]);
+    }
+    if a[1] != b[1] {
+        return compare_numbers(a[1], b[1]);
+    }
+    if a[2] != b[2] {
+        return compare_numbers(a[2], b[2]);
+    }
+    compare_numbers(a[3], b[3])
 }
 
 // The order of words: x lanes, then z lanes; the first difference decides.
@@ -338,7 +358,12 @@ pub fn compare_words(p: Word, q: Word) -> Ordering
     let qx = q.x;
     let pz = p.z;
     let qz = q.z;
-    compare_lanes(px, qx, compare_lanes(pz, qz, Ordering::Equal))
+    let order = compare_lanes(px, qx);
+    match order {
+        Ordering::Less => Ordering::Less,
+        Ordering::Equal => compare_lanes(pz, qz),
+        Ordering::Greater => Ordering::Greater,
+    }
 }
 
 pub fn same_word(p: Word, q: Word) -> bool
@@ -348,7 +373,9 @@ pub fn same_word(p: Word, q: Word) -> bool
     let z = p.z;
     let u = q.x;
     let v = q.z;
-    let low = (x[0] ^ u[0]) | (z[0] ^ v[0]);
-    let high = (x[1] ^ u[1]) | (z[1] ^ v[1]);
-    low | high == 0
+    let d0 = (x[0] ^ u[0]) | (z[0] ^ v[0]);
+    let d1 = (x[1] ^ u[1]) | (z[1] ^ v[1]);
+    let d2 = (x[2] ^ u[2]) | (z[2] ^ v[2]);
+    let d3 = (x[3] ^ u[3]) | (z[3] ^ v[3]);
+    d0 | d1 | d2 | d3 == 0
 }
