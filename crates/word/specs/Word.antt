@@ -51,8 +51,14 @@ identity = record { x = replicate laneCount 0; z = replicate laneCount 0 }
 -- a word's lanes one by one, and back
 abbrev pub pack : Word → Lanes
 pack w = record {
-  x0 = getD (w .x) 0 0; x1 = getD (w .x) 1 0; x2 = getD (w .x) 2 0; x3 = getD (w .x) 3 0;
-  z0 = getD (w .z) 0 0; z1 = getD (w .z) 1 0; z2 = getD (w .z) 2 0; z3 = getD (w .z) 3 0;
+  x0 = getD (w .x) 0 0;
+  x1 = getD (w .x) 1 0;
+  x2 = getD (w .x) 2 0;
+  x3 = getD (w .x) 3 0;
+  z0 = getD (w .z) 0 0;
+  z1 = getD (w .z) 1 0;
+  z2 = getD (w .z) 2 0;
+  z3 = getD (w .z) 3 0;
 }
 
 abbrev pub unpack : Lanes → Word

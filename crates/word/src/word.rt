@@ -11,8 +11,7 @@ ghost use Rattle.word.specs.Text.{codeOf, dropped, readLetters, parse};
 ghost use Rattle.word.specs.Codes.{readCodes};
 ghost use Rattle.word.specs.Register.{reaches, share};
 ghost use Rattle.word.specs.Order.{compareThen, compareLanes, compare, same};
-ghost use Rattle.word.specs.declared.word.Ordering.the-variants.{Equal};
-ghost use Rattle.word.specs.Steps.{chosen, Put, scanFrom};
+ghost use Rattle.word.specs.Steps.{chosen, Put, scanFrom, compareTwo};
 use refusal::Answer;
 use refusal::Refusal;
 ghost use Rattle.word.specs.Between.{Wrote, NextQubit};
@@ -320,9 +319,9 @@ pub fn shares_qubit(p: Word, q: Word) -> bool
     s0 | s1 | s2 | s3 != 0
 }
 
-// a against b.
-fn compare_numbers(a: u64, b: u64) -> Ordering
-    ensures { λ r. ⌜ r ≡ compareThen a b Equal ⌝ }
+// a against b, and where they are equal, what comes after.
+fn compare_then(a: u64, b: u64, after: Ordering) -> Ordering
+    ensures { λ r. ⌜ r ≡ compareThen a b after ⌝ }
 {
     if a < b {
         return Ordering::Less;
@@ -330,27 +329,28 @@ fn compare_numbers(a: u64, b: u64) -> Ordering
     if b < a {
         return Ordering::Greater;
     }
-    Ordering::Equal
+    after
 }
 
-// The lanes a against the lanes b as numbers. The first difference decides, and nothing is looked at
-// after it.
-fn compare_lanes(a: [u64; LANES], b: [u64; LANES]) -> Ordering
-    ensures { λ r. ⌜ r ≡ compareLanes a b Equal ⌝ }
+// The first two lanes of a against those of b, and where they are equal, what comes after.
+fn compare_two(a: [u64; LANES], b: [u64; LANES], after: Ordering) -> Ordering
+    ensures { λ r. ⌜ r ≡ compareTwo a b after ⌝ }
 {
-    if a[0] != b[0] {
-        return compare_numbers(a[0], b[0]);
-    }
-    if a[1] != b[1] {
-        return compare_numbers(a[1], b[1]);
-    }
-    if a[2] != b[2] {
-        return compare_numbers(a[2], b[2]);
-    }
-    compare_numbers(a[3], b[3])
+    let last = compare_then(a[1], b[1], after);
+    compare_then(a[0], b[0], last)
 }
 
-// The order of words: x lanes, then z lanes; the first difference decides.
+// The lanes a against the lanes b as numbers, and where they are equal, what comes after.
+fn compare_lanes(a: [u64; LANES], b: [u64; LANES], after: Ordering) -> Ordering
+    ensures { λ r. ⌜ r ≡ compareLanes a b after ⌝ }
+{
+    let last = compare_then(a[3], b[3], after);
+    let third = compare_then(a[2], b[2], last);
+    compare_two(a, b, third)
+}
+
+// The order of words: x lanes, then z lanes; the first difference decides. Lanes that are equal decide
+// nothing, and those from qubit 128 on are empty in most words.
 pub fn compare_words(p: Word, q: Word) -> Ordering
     ensures { λ r. ⌜ r ≡ compare p q ⌝ }
 {
@@ -358,12 +358,12 @@ pub fn compare_words(p: Word, q: Word) -> Ordering
     let qx = q.x;
     let pz = p.z;
     let qz = q.z;
-    let order = compare_lanes(px, qx);
-    match order {
-        Ordering::Less => Ordering::Less,
-        Ordering::Equal => compare_lanes(pz, qz),
-        Ordering::Greater => Ordering::Greater,
+    let d2 = (px[2] ^ qx[2]) | (pz[2] ^ qz[2]);
+    let d3 = (px[3] ^ qx[3]) | (pz[3] ^ qz[3]);
+    if d2 | d3 == 0 {
+        return compare_two(px, qx, compare_two(pz, qz, Ordering::Equal));
     }
+    compare_lanes(px, qx, compare_lanes(pz, qz, Ordering::Equal))
 }
 
 pub fn same_word(p: Word, q: Word) -> bool
