@@ -110,11 +110,11 @@ fn with_letter(w: Word, q: usize, code: u8) -> Word
     ensures { λ r. ⌜ Put w q code r ⌝ }
 {
     let mut v = w;
-    let i = q / 64;
+    let lane = q / 64;
     let k = q % 64;
     let l = code as u64;
-    v.x[i] = with_bit(v.x[i], k, l % 2);
-    v.z[i] = with_bit(v.z[i], k, l / 2);
+    v.x[lane] = with_bit(v.x[lane], k, l % 2);
+    v.z[lane] = with_bit(v.z[lane], k, l / 2);
     v
 }
 
