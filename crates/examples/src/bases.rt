@@ -5,6 +5,7 @@
 use crate::actions::print_list;
 use crate::print;
 use pebblelinen::bases::KeptEntries;
+use word::flat::WORD_LANES;
 
 // The entries that the basis has, or the refusal.
 fn print_kept(answer: KeptEntries, words: &[u64], coeffs: &[f64]) {
@@ -17,9 +18,20 @@ fn print_kept(answer: KeptEntries, words: &[u64], coeffs: &[f64]) {
     print::end_line();
 }
 
+// XI, YI, ZI, IX: the first x lane and the first z lane of each.
+fn basis() -> [u64; WORD_LANES * 4] {
+    let mut words = [0u64; WORD_LANES * 4];
+    words[0] = 1;
+    words[8] = 1;
+    words[12] = 1;
+    words[20] = 1;
+    words[24] = 2;
+    words
+}
+
 // The basis XI 3, YI -1, ZI 1, IX 0.5 with this limit; the protected words are in lanes.
 fn capped(protected: &[u64], limit: usize) {
-    let mut words = [1u64, 0, 0, 0, 1, 0, 1, 0, 0, 0, 1, 0, 2, 0, 0, 0];
+    let mut words = basis();
     let mut coeffs = [3.0, -1.0, 1.0, 0.5];
     let mut order = [0u64; 4];
     let mut work = [0u64; 4];
@@ -42,7 +54,7 @@ fn capped(protected: &[u64], limit: usize) {
 
 // The same basis with this threshold and no protected words.
 fn pruned(drop_tol: f64) {
-    let mut words = [1u64, 0, 0, 0, 1, 0, 1, 0, 0, 0, 1, 0, 2, 0, 0, 0];
+    let mut words = basis();
     let mut coeffs = [3.0, -1.0, 1.0, 0.5];
     let mut order = [0u64; 4];
     let mut work = [0u64; 4];
@@ -65,9 +77,14 @@ fn pruned(drop_tol: f64) {
 
 // The basis XI 3, in a table of four places, and the words XX 1, YY -2, ZZ 2 listed; with this limit.
 fn admitted(limit: usize) {
-    let mut words = [1u64, 0, 0, 0, 0, 0, 0, 0, 0, 0, 0, 0, 0, 0, 0, 0];
+    let mut words = [0u64; WORD_LANES * 4];
+    words[0] = 1;
     let mut coeffs = [3.0, 0.0, 0.0, 0.0];
-    let list = [3u64, 0, 0, 0, 3, 0, 3, 0, 0, 0, 3, 0];
+    let mut list = [0u64; WORD_LANES * 3];
+    list[0] = 3;
+    list[8] = 3;
+    list[12] = 3;
+    list[20] = 3;
     let values = [1.0, -2.0, 2.0];
     let mut order = [0u64; 3];
     let mut work = [0u64; 3];
@@ -104,9 +121,9 @@ pub fn run() {
     print::text(b"basis XI 3, YI -1, ZI 1, IX 0.5 capped at 2: ");
     capped(&[0u64; 0], 2);
     print::text(b"the same with IX protected: ");
-    capped(&[2u64, 0, 0, 0], 2);
+    capped(&[2u64, 0, 0, 0, 0, 0, 0, 0], 2);
     print::text(b"capped at 0 with IX protected: ");
-    capped(&[2u64, 0, 0, 0], 0);
+    capped(&[2u64, 0, 0, 0, 0, 0, 0, 0], 0);
     print::text(b"capped at 65537: ");
     capped(&[0u64; 0], 65537);
     print::text(b"pruned at 1: ");

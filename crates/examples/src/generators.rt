@@ -25,10 +25,23 @@ fn model() -> Model {
     }
 }
 
+// XX, YX, XY, YY: the first x lane and the first z lane of each.
+fn basis() -> [u64; WORD_LANES * 4] {
+    let mut words = [0u64; WORD_LANES * 4];
+    words[0] = 3;
+    words[8] = 3;
+    words[12] = 1;
+    words[16] = 3;
+    words[20] = 2;
+    words[24] = 3;
+    words[28] = 3;
+    words
+}
+
 fn generate(rows: &mut [u32], columns: &mut [u32], values: &mut [f64]) -> ListedWords {
-    let h_words = [0u64, 0, 1, 0, 0, 0, 2, 0];
+    let h_words = [0u64, 0, 0, 0, 1, 0, 0, 0, 0, 0, 0, 0, 2, 0, 0, 0];
     let h_coeffs = [0.5, 0.5];
-    let words = [3u64, 0, 0, 0, 3, 0, 1, 0, 3, 0, 2, 0, 3, 0, 3, 0];
+    let words = basis();
     let mut h_index = [0u64; 128];
     let mut j_index = [0u64; 128];
     let mut mask = [0u64; 64];
@@ -66,9 +79,9 @@ fn generate(rows: &mut [u32], columns: &mut [u32], values: &mut [f64]) -> Listed
 }
 
 fn build_rows(offsets: &mut [u64], columns: &mut [u32], values: &mut [f64]) -> ListedWords {
-    let h_words = [0u64, 0, 1, 0, 0, 0, 2, 0];
+    let h_words = [0u64, 0, 0, 0, 1, 0, 0, 0, 0, 0, 0, 0, 2, 0, 0, 0];
     let h_coeffs = [0.5, 0.5];
-    let words = [3u64, 0, 0, 0, 3, 0, 1, 0, 3, 0, 2, 0, 3, 0, 3, 0];
+    let words = basis();
     let mut h_index = [0u64; 128];
     let mut j_index = [0u64; 128];
     let mut mask = [0u64; 64];
@@ -107,9 +120,9 @@ fn build_rows(offsets: &mut [u64], columns: &mut [u32], values: &mut [f64]) -> L
 
 // The norm, and the degree for a step.
 fn partition(dt: f64) -> Partition {
-    let h_words = [0u64, 0, 1, 0, 0, 0, 2, 0];
+    let h_words = [0u64, 0, 0, 0, 1, 0, 0, 0, 0, 0, 0, 0, 2, 0, 0, 0];
     let h_coeffs = [0.5, 0.5];
-    let words = [3u64, 0, 0, 0, 3, 0, 1, 0, 3, 0, 2, 0, 3, 0, 3, 0];
+    let words = basis();
     let mut h_index = [0u64; 128];
     let mut j_index = [0u64; 128];
     let mut mask = [0u64; 64];

@@ -37,9 +37,9 @@ fn leak(
         jumps: 0,
         terms: 0,
     };
-    let h_words = [0u64, 0, 1, 0, 0, 0, 2, 0];
+    let h_words = [0u64, 0, 0, 0, 1, 0, 0, 0, 0, 0, 0, 0, 2, 0, 0, 0];
     let h_coeffs = [0.5, 0.5];
-    let words = [3u64, 0, 0, 0, 3, 0, 3, 0];
+    let words = [3u64, 0, 0, 0, 0, 0, 0, 0, 3, 0, 0, 0, 3, 0, 0, 0];
     let mut h_index = [0u64; 128];
     let mut j_index = [0u64; 128];
     let mut mask = [0u64; 64];
@@ -120,7 +120,7 @@ pub fn run() {
     print::text(b"the same, limit 3: ");
     print_leakage(&[2.0, 1.0], &[0u64; 0], above(3, 0.0));
     print::text(b"limit 4 with YX protected: ");
-    print_leakage(&[2.0, 1.0], &[3u64, 0, 1, 0], above(4, 0.0));
+    print_leakage(&[2.0, 1.0], &[3u64, 0, 0, 0, 1, 0, 0, 0], above(4, 0.0));
     print::text(b"limit 4, above 1: ");
     print_leakage(&[2.0, 1.0], &[0u64; 0], above(4, 1.0));
     print::text(b"out of XX 1, YY 1, limit 4: ");

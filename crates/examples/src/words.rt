@@ -4,6 +4,8 @@
 // Texts, codes and products of Pauli words.
 use crate::print;
 use pebblelinen::words::Parsed;
+use word::word::MAX_QUBITS;
+use word::word::Word;
 
 // The word that was read, by its letters, or the refusal.
 fn print_parsed(answer: Parsed, n_qubits: usize) {
@@ -66,18 +68,72 @@ fn multiply(p: &[u8], q: &[u8]) {
     print::end_line();
 }
 
+// X at qubit 128, by its codes: its bit is outside a register of 128 qubits, and is never left out.
+fn write_qubit_128(n_qubits: usize) {
+    print::text(b"the word of x lanes (0, 0, 1, 0) at ");
+    print::number(n_qubits as u64);
+    print::text(b" qubits: ");
+    let w = Word {
+        x: [0, 0, 1, 0],
+        z: [0, 0, 0, 0],
+    };
+    let mut codes = [0u8; MAX_QUBITS];
+    let status = pebblelinen::words::pebblelinen_codes_from_word(w, n_qubits, &mut codes);
+    if status.refusal != 0 {
+        print::refusal(status);
+    } else {
+        print::text(b"accepted");
+    }
+    print::end_line();
+}
+
+// X times Z at one qubit of the widest register: the phase, and the code of the product there.
+fn multiply_at(q: usize) {
+    if MAX_QUBITS <= q {
+        return;
+    }
+    let mut codes = [0u8; MAX_QUBITS];
+    codes[q] = 1;
+    let left = pebblelinen::words::pebblelinen_word_from_codes(&codes);
+    codes[q] = 2;
+    let right = pebblelinen::words::pebblelinen_word_from_codes(&codes);
+    let product = pebblelinen::words::pebblelinen_pauli_mul(left.word, right.word);
+    let status = pebblelinen::words::pebblelinen_codes_from_word(
+        product.word,
+        MAX_QUBITS,
+        &mut codes,
+    );
+    print::text(b"X * Z, both at qubit ");
+    print::number(q as u64);
+    print::text(b" of 256: i^");
+    print::number(product.phase as u64);
+    print::text(b" times a word with code ");
+    print::number(codes[q] as u64);
+    print::text(b" there");
+    if status.refusal != 0 {
+        print::refusal(status);
+    }
+    print::end_line();
+}
+
 pub fn run() {
     read_text(b"X_Z", 2);
     read_text(b"X_Z", 3);
     read_text(b"xZ", 2);
-    let most = [b'I'; 128];
+    let past_two_lanes = [b'I'; 129];
+    read_identity(&past_two_lanes);
+    let most = [b'I'; MAX_QUBITS];
     read_identity(&most);
-    let more = [b'I'; 129];
+    let more = [b'I'; 257];
     read_identity(&more);
+    write_qubit_128(128);
+    write_qubit_128(129);
     read_code(3);
     read_code(4);
     multiply(b"X", b"Z");
     multiply(b"Z", b"X");
     multiply(b"X", b"Y");
     multiply(b"XX", b"ZZ");
+    multiply_at(128);
+    multiply_at(255);
 }

@@ -34,7 +34,7 @@ at-less : (a b : ℕ) (o : Ordering) → a < b → compareThen a b o ≡ Less
 unfolding compareThen
 at-less a b o h = simp (lt-ltb a b h)
 
-at-same : (a b : ℕ) (o : Ordering) → a ≡ b → compareThen a b o ≡ o
+pub at-same : (a b : ℕ) (o : Ordering) → a ≡ b → compareThen a b o ≡ o
 unfolding compareThen
 at-same a b o h = simp (le-ltb a b (omega arith), le-ltb b a (omega arith))
 

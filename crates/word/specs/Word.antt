@@ -12,7 +12,7 @@ use Rattle.word.specs.declared.word.Lanes.{Lanes}
 
 -- the lanes of a word's x, and as many of its z, and the qubits that they hold
 abbrev pub laneCount : ℕ
-laneCount = 2
+laneCount = 4
 
 abbrev pub maxQubits : ℕ
 maxQubits = 64 * laneCount
@@ -50,7 +50,16 @@ identity = record { x = replicate laneCount 0; z = replicate laneCount 0 }
 
 -- a word's lanes one by one, and back
 abbrev pub pack : Word → Lanes
-pack w = record { x0 = getD (w .x) 0 0; x1 = getD (w .x) 1 0; z0 = getD (w .z) 0 0; z1 = getD (w .z) 1 0 }
+pack w = record {
+  x0 = getD (w .x) 0 0;
+  x1 = getD (w .x) 1 0;
+  x2 = getD (w .x) 2 0;
+  x3 = getD (w .x) 3 0;
+  z0 = getD (w .z) 0 0;
+  z1 = getD (w .z) 1 0;
+  z2 = getD (w .z) 2 0;
+  z3 = getD (w .z) 3 0;
+}
 
 abbrev pub unpack : Lanes → Word
-unpack l = record { x = l .x0 ∷ l .x1 ∷ []; z = l .z0 ∷ l .z1 ∷ [] }
+unpack l = record { x = l .x0 ∷ l .x1 ∷ l .x2 ∷ l .x3 ∷ []; z = l .z0 ∷ l .z1 ∷ l .z2 ∷ l .z3 ∷ [] }

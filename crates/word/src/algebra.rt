@@ -61,12 +61,14 @@ pub fn pauli_mul(p: Word, q: Word) -> Phased
     let v = q.z;
     let none = Planes { low: 0, high: 0 };
     let first = add_lane(none, x[0], z[0], u[0], v[0]);
-    let both = add_lane(first, x[1], z[1], u[1], v[1]);
-    let phase = phase_of(both);
+    let second = add_lane(first, x[1], z[1], u[1], v[1]);
+    let third = add_lane(second, x[2], z[2], u[2], v[2]);
+    let all = add_lane(third, x[3], z[3], u[3], v[3]);
+    let phase = phase_of(all);
     Phased {
         word: Word {
-            x: [x[0] ^ u[0], x[1] ^ u[1]],
-            z: [z[0] ^ v[0], z[1] ^ v[1]],
+            x: [x[0] ^ u[0], x[1] ^ u[1], x[2] ^ u[2], x[3] ^ u[3]],
+            z: [z[0] ^ v[0], z[1] ^ v[1], z[2] ^ v[2], z[3] ^ v[3]],
         },
         phase,
     }
@@ -82,7 +84,9 @@ pub fn anti_commutes(p: Word, q: Word) -> bool
     let v = q.z;
     let c0 = (x[0] & v[0]) ^ (z[0] & u[0]);
     let c1 = (x[1] & v[1]) ^ (z[1] & u[1]);
-    u64::count_ones(c0 ^ c1) % 2 == 1
+    let c2 = (x[2] & v[2]) ^ (z[2] & u[2]);
+    let c3 = (x[3] & v[3]) ^ (z[3] & u[3]);
+    u64::count_ones(c0 ^ c1 ^ c2 ^ c3) % 2 == 1
 }
 
 // The factor of i times a commutator whose product has this phase.

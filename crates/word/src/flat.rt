@@ -21,8 +21,8 @@ pub fn word_at(table: &[u64], i: usize) -> Word
 {
     let at = i * WORD_LANES;
     Word {
-        x: [table[at], table[at + 1]],
-        z: [table[at + 2], table[at + 3]],
+        x: [table[at], table[at + 1], table[at + 2], table[at + 3]],
+        z: [table[at + 4], table[at + 5], table[at + 6], table[at + 7]],
     }
 }
 
@@ -35,6 +35,10 @@ pub fn set_word(table: &mut [u64], i: usize, w: Word)
     let z = w.z;
     table[at] = x[0];
     table[at + 1] = x[1];
-    table[at + 2] = z[0];
-    table[at + 3] = z[1];
+    table[at + 2] = x[2];
+    table[at + 3] = x[3];
+    table[at + 4] = z[0];
+    table[at + 5] = z[1];
+    table[at + 6] = z[2];
+    table[at + 7] = z[3];
 }

@@ -11,13 +11,13 @@ ghost use Rattle.word.specs.Text.{codeOf, dropped, readLetters, parse};
 ghost use Rattle.word.specs.Codes.{readCodes};
 ghost use Rattle.word.specs.Register.{reaches, share};
 ghost use Rattle.word.specs.Order.{compareThen, compareLanes, compare, same};
-ghost use Rattle.word.specs.Steps.{chosen, Put, scanFrom};
+ghost use Rattle.word.specs.Steps.{chosen, Put, scanFrom, compareTwo};
 use refusal::Answer;
 use refusal::Refusal;
 ghost use Rattle.word.specs.Between.{Wrote, NextQubit};
 
 // The lanes of a word's x and of its z, and the qubits that they hold, 64 to a lane.
-pub const LANES: usize = 2;
+pub const LANES: usize = 4;
 
 pub const MAX_QUBITS: usize = 64 * LANES;
 
@@ -32,8 +32,12 @@ pub struct Word {
 pub struct Lanes {
     pub x0: u64,
     pub x1: u64,
+    pub x2: u64,
+    pub x3: u64,
     pub z0: u64,
     pub z1: u64,
+    pub z2: u64,
+    pub z3: u64,
 }
 
 // What a reader of texts or codes answers.
@@ -62,8 +66,12 @@ pub fn packed(w: Word) -> Lanes
     Lanes {
         x0: w.x[0],
         x1: w.x[1],
+        x2: w.x[2],
+        x3: w.x[3],
         z0: w.z[0],
         z1: w.z[1],
+        z2: w.z[2],
+        z3: w.z[3],
     }
 }
 
@@ -71,8 +79,8 @@ pub fn unpacked(l: Lanes) -> Word
     ensures { λ r. ⌜ r ≡ unpack l ⌝ }
 {
     Word {
-        x: [l.x0, l.x1],
-        z: [l.z0, l.z1],
+        x: [l.x0, l.x1, l.x2, l.x3],
+        z: [l.z0, l.z1, l.z2, l.z3],
     }
 }
 
@@ -102,11 +110,11 @@ fn with_letter(w: Word, q: usize, code: u8) -> Word
     ensures { λ r. ⌜ Put w q code r ⌝ }
 {
     let mut v = w;
-    let i = q / 64;
+    let lane = q / 64;
     let k = q % 64;
     let l = code as u64;
-    v.x[i] = with_bit(v.x[i], k, l % 2);
-    v.z[i] = with_bit(v.z[i], k, l / 2);
+    v.x[lane] = with_bit(v.x[lane], k, l % 2);
+    v.z[lane] = with_bit(v.z[lane], k, l / 2);
     v
 }
 
@@ -304,9 +312,11 @@ pub fn shares_qubit(p: Word, q: Word) -> bool
     let z = p.z;
     let u = q.x;
     let v = q.z;
-    let low = (x[0] | z[0]) & (u[0] | v[0]);
-    let high = (x[1] | z[1]) & (u[1] | v[1]);
-    low | high != 0
+    let s0 = (x[0] | z[0]) & (u[0] | v[0]);
+    let s1 = (x[1] | z[1]) & (u[1] | v[1]);
+    let s2 = (x[2] | z[2]) & (u[2] | v[2]);
+    let s3 = (x[3] | z[3]) & (u[3] | v[3]);
+    s0 | s1 | s2 | s3 != 0
 }
 
 // a against b, and where they are equal, what comes after.
@@ -322,15 +332,25 @@ fn compare_then(a: u64, b: u64, after: Ordering) -> Ordering
     after
 }
 
-// The lanes a against the lanes b as numbers, and where they are equal, what comes after.
-fn compare_lanes(a: [u64; LANES], b: [u64; LANES], after: Ordering) -> Ordering
-    ensures { λ r. ⌜ r ≡ compareLanes a b after ⌝ }
+// The first two lanes of a against those of b, and where they are equal, what comes after.
+fn compare_two(a: [u64; LANES], b: [u64; LANES], after: Ordering) -> Ordering
+    ensures { λ r. ⌜ r ≡ compareTwo a b after ⌝ }
 {
     let last = compare_then(a[1], b[1], after);
     compare_then(a[0], b[0], last)
 }
 
-// The order of words: x lanes, then z lanes; the first difference decides.
+// The lanes a against the lanes b as numbers, and where they are equal, what comes after.
+fn compare_lanes(a: [u64; LANES], b: [u64; LANES], after: Ordering) -> Ordering
+    ensures { λ r. ⌜ r ≡ compareLanes a b after ⌝ }
+{
+    let last = compare_then(a[3], b[3], after);
+    let third = compare_then(a[2], b[2], last);
+    compare_two(a, b, third)
+}
+
+// The order of words: x lanes, then z lanes; the first difference decides. Lanes that are equal decide
+// nothing, and those from qubit 128 on are empty in most words.
 pub fn compare_words(p: Word, q: Word) -> Ordering
     ensures { λ r. ⌜ r ≡ compare p q ⌝ }
 {
@@ -338,6 +358,11 @@ pub fn compare_words(p: Word, q: Word) -> Ordering
     let qx = q.x;
     let pz = p.z;
     let qz = q.z;
+    let d2 = (px[2] ^ qx[2]) | (pz[2] ^ qz[2]);
+    let d3 = (px[3] ^ qx[3]) | (pz[3] ^ qz[3]);
+    if d2 | d3 == 0 {
+        return compare_two(px, qx, compare_two(pz, qz, Ordering::Equal));
+    }
     compare_lanes(px, qx, compare_lanes(pz, qz, Ordering::Equal))
 }
 
@@ -348,7 +373,9 @@ pub fn same_word(p: Word, q: Word) -> bool
     let z = p.z;
     let u = q.x;
     let v = q.z;
-    let low = (x[0] ^ u[0]) | (z[0] ^ v[0]);
-    let high = (x[1] ^ u[1]) | (z[1] ^ v[1]);
-    low | high == 0
+    let d0 = (x[0] ^ u[0]) | (z[0] ^ v[0]);
+    let d1 = (x[1] ^ u[1]) | (z[1] ^ v[1]);
+    let d2 = (x[2] ^ u[2]) | (z[2] ^ v[2]);
+    let d3 = (x[3] ^ u[3]) | (z[3] ^ v[3]);
+    d0 | d1 | d2 | d3 == 0
 }

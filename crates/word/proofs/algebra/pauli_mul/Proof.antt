@@ -14,7 +14,9 @@ unfolding tabulate
 returns c =
     phased-eq
     (mul-is _ _ (sound _ (search needs) (search needs) (λ i. search needs) (λ i. search needs)) (sound _ (search needs) (search needs) (λ i. search needs) (λ i. search needs)))
-    (phase-is (added-more (added-more (added-none _ _) (c .before .before .add-lane .ensures)) (c .before .add-lane2 .ensures)) (c .phase-of .ensures))
+    (phase-is
+    (added-more (added-more (added-more (added-more (added-none _ _) (c .before .before .before .before .add-lane .ensures)) (c .before .before .before .add-lane2 .ensures)) (c .before .before .add-lane3 .ensures)) (c .before .add-lane4 .ensures))
+    (c .phase-of .ensures))
 
 pub pauli-mul-spec : {M : Type 1} → statement M
 pauli-mul-spec =
@@ -30,7 +32,25 @@ pauli-mul-spec =
     (λ c. search needs)
     (λ c. search needs)
     (λ c κs. search needs)
+    (λ c. search needs)
+    (λ c. search needs)
+    (λ c. search needs)
+    (λ c. search needs)
     (λ c κs. search needs)
+    (λ c. search needs)
+    (λ c. search needs)
+    (λ c. search needs)
+    (λ c. search needs)
+    (λ c κs. search needs)
+    (λ c κs. search needs)
+    (λ c. search needs)
+    (λ c. search needs)
+    (λ c. search needs)
+    (λ c. search needs)
+    (λ c. search needs)
+    (λ c. search needs)
+    (λ c. search needs)
+    (λ c. search needs)
     (λ c. search needs)
     (λ c. search needs)
     (λ c. search needs)

@@ -20,6 +20,18 @@ slice-write-table-3 c = simp length-set (omega arith)
 slice-write-table-4 : tie.Need-slice-write-table-4
 slice-write-table-4 c = simp length-set (omega arith)
 
+slice-write-table-5 : tie.Need-slice-write-table-5
+slice-write-table-5 c = simp length-set (omega arith)
+
+slice-write-table-6 : tie.Need-slice-write-table-6
+slice-write-table-6 c = simp length-set (omega arith)
+
+slice-write-table-7 : tie.Need-slice-write-table-7
+slice-write-table-7 c = simp length-set (omega arith)
+
+slice-write-table-8 : tie.Need-slice-write-table-8
+slice-write-table-8 c = simp length-set (omega arith)
+
 returns : tie.Need-returns
 unfolding layFrom tabulate
 returns c = word-laid _ _ _ (sound _ (search needs) (search needs) (λ i. search needs) (λ i. search needs)) (omega arith)
@@ -44,5 +56,21 @@ set-word-spec =
     (λ c. search needs)
     (λ c. search needs)
     slice-write-table-4
+    (λ c. search needs)
+    (λ c. search needs)
+    (λ c. search needs)
+    slice-write-table-5
+    (λ c. search needs)
+    (λ c. search needs)
+    (λ c. search needs)
+    slice-write-table-6
+    (λ c. search needs)
+    (λ c. search needs)
+    (λ c. search needs)
+    slice-write-table-7
+    (λ c. search needs)
+    (λ c. search needs)
+    (λ c. search needs)
+    slice-write-table-8
     (λ c. simp length-set)
     returns)

@@ -9,7 +9,7 @@ use Rattle.word.proofs.hash.word_hash.Tie as tie
 
 returns : tie.Need-returns
 unfolding lanesHash wordHash
-returns c = rw (c .before .before .before .lane-hash .ensures, c .before .before .lane-hash2 .ensures, c .before .lane-hash3 .ensures, c .lane-hash4 .ensures)
+returns c = rw (c .before .before .before .before .lane-hash .ensures, c .before .before .before .lane-hash2 .ensures, c .before .before .lane-hash3 .ensures, c .before .lane-hash4 .ensures, c .upper-hash .ensures)
 
 pub word-hash-spec : {M : Type 1} → statement M
 word-hash-spec =
@@ -21,6 +21,11 @@ word-hash-spec =
     (λ c κs. search needs)
     (λ c. search needs)
     (λ c κs. search needs)
+    (λ c. search needs)
+    (λ c κs. search needs)
+    (λ c. search needs)
+    (λ c. search needs)
+    (λ c. search needs)
     (λ c. search needs)
     (λ c κs. search needs)
     (λ c. search needs)
