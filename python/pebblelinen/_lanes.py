@@ -37,6 +37,11 @@ def _number(lanes: Iterable[int]) -> int:
     return sum(lane << 64 * i for i, lane in enumerate(lanes))
 
 
+def pickled_before(what: str) -> str:
+    """What is said of a pickle whose words have the lanes that words had before."""
+    return f"{what} was pickled when words had {_OLD} lanes: make it anew, or save models as model files"
+
+
 def advice(lanes: int) -> str:
     """What to do where words of so many lanes were given."""
     return _OLD_ADVICE if lanes == _OLD else ""

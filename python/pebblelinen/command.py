@@ -29,9 +29,9 @@ _SHOWN = 40
 _ABOUT = """\
 How noise moves an observable of a quantum device: the adjoint Lindblad generator on Pauli words.
 
-  pebblelinen demo                            a chain of 128 qubits, in a few seconds
+  pebblelinen demo                            a chain of 256 qubits, in a few seconds
   pebblelinen demo --model > chain.toml       the same device as a model file, to change
-  pebblelinen action chain.toml "Z64"         what the device does to Z on qubit 64
+  pebblelinen action chain.toml "Z128"        what the device does to Z on qubit 128
   pebblelinen leakage chain.toml --max-basis 100
   pebblelinen generator chain.toml
   pebblelinen degree chain.toml --dt 0.1
@@ -128,8 +128,8 @@ def _parser() -> argparse.ArgumentParser:
     made = command(
         "demo",
         _demo,
-        "a chain of 128 qubits: an action, a growing basis, a degree",
-        "Shows what the library does on a chain of 128 qubits with couplings, fields, decay and\n"
+        "a chain of 256 qubits: an action, a growing basis, a degree",
+        "Shows what the library does on a chain of 256 qubits with couplings, fields, decay and\n"
         "dephasing: the action on an observable; rounds in which the words that leak out of a basis are\n"
         "admitted to it and its coefficients move on by a time step; at the end the norm and degree of\n"
         "the generator.",

@@ -10,7 +10,7 @@ from numpy.typing import NDArray
 
 from . import _building, _given, _library, items, kossakowski, matrix
 from ._building import AnyMatrix, AnyOperator
-from ._lanes import WORD_LANES
+from ._lanes import WORD_LANES, pickled_before
 from ._sealed import Sealed
 from ._showing import Shown, Table
 from ._tables import MOST_TOUCHED, work_tables
@@ -246,6 +246,14 @@ class Model(Shown, Sealed):
 
     def __hash__(self) -> int:
         return hash(self._counts)
+
+    def __setstate__(self, state: dict[str, Any]) -> None:
+        """What was pickled."""
+        _, hamiltonian, _, terms = state["_counts"]
+        lanes = [len(state["_tables"][name]) for name in ("h_words", "t_words")]
+        if lanes != [WORD_LANES * hamiltonian, WORD_LANES * terms]:
+            raise InputError(pickled_before("the model"))
+        self.__dict__.update(state)
 
     def _check(self, basis: Basis) -> None:
         if not isinstance(basis, Basis):

@@ -8,7 +8,7 @@ import numpy as np
 from numpy.typing import NDArray
 
 from . import _given, combining
-from ._lanes import WORD_LANES
+from ._lanes import WORD_LANES, pickled_before
 from ._sealed import Sealed, read_only
 from ._showing import Shown, Table
 from ._types import LaneTable, NumberTable
@@ -42,6 +42,12 @@ class Terms(Shown, Sealed):
         self.lanes = read_only(_given.lanes(words, "words"))
         self.values = read_only(_given.numbers(values, "values"))
         self._sealed = True
+
+    def __setstate__(self, state: dict[str, Any]) -> None:
+        """What was pickled."""
+        if 0 < WORD_LANES * len(state["values"]) == 2 * len(state["lanes"]):
+            raise InputError(pickled_before("what is listed"))
+        self.__dict__.update(state)
 
     @classmethod
     def of(cls, given: "AnyTerms", *, n: int) -> "Terms":

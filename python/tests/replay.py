@@ -147,16 +147,16 @@ class Case:
             if isinstance(answer, _library.Status):
                 self._same(self.status, bits(answer))
             elif isinstance(answer, _library.Word):
-                self._same(lambda: self.widened(2 * self.lanes), bits(answer))
+                self._same(partial(self.widened, 2 * self.lanes), bits(answer))
             elif isinstance(answer, ctypes.Structure):
                 self.agree(*(getattr(answer, field[0]) for field in answer._fields_))
             else:
                 own = bits(answer)
-                self._same(lambda own=own: self.take(len(own)), own)
+                self._same(partial(self.take, len(own)), own)
 
     def agree_lanes(self, table: Table, recorded: int) -> None:
         """Compares the next so many lanes with a table."""
-        self._same(lambda: self.widened(recorded), bits(table))
+        self._same(partial(self.widened, recorded), bits(table))
 
     def _same(self, recorded: Callable[[], list[int]], own: list[int]) -> None:
         place, expected = self.at, recorded()

@@ -7,12 +7,31 @@ import unittest
 
 import numpy as np
 
-from pebblelinen import Basis, Model, Position, Qubit, Terms, row
+from pebblelinen import Basis, InputError, Model, Position, Qubit, Terms, Word, basis, row, words
 
 # X0, Y1 and Z0 Z1: the lanes of x, then those of z.
 LANES = np.zeros((3, 8), np.uint64)
 LANES[:, [0, 4]] = [[1, 0], [2, 2], [0, 3]]
 NUMBERS = np.array([1.0, -2.0, 0.5])
+
+
+class Pickles(unittest.TestCase):
+    def test_of_words_of_two_lanes(self):
+        """Of before registers had 256 qubits: they are not taken for others."""
+        before = "was pickled when words had 4 lanes"
+        terms, model = Terms(2, LANES, NUMBERS), Model(2, {"XX": 1.0}, [(1.0, "Z0")])
+        narrow = {**terms.__dict__, "lanes": np.zeros(12, np.uint64)}
+        with self.assertRaisesRegex(InputError, before):
+            copy.copy(terms).__setstate__(narrow)
+        tables = {**model._tables, "h_words": model._tables["h_words"][:4]}
+        with self.assertRaisesRegex(InputError, before):
+            copy.copy(model).__setstate__({**model.__dict__, "_tables": tables})
+        with self.assertRaisesRegex(InputError, "4 lanes: a word has 8"):
+            words.made((1, 0, 0, 0), 2)
+        with self.assertRaisesRegex(InputError, "shape"):
+            basis._copied(2, LANES[:, :4], NUMBERS)
+        for thing in terms, model, Basis(2, terms), Word("XZ", n=2):
+            self.assertEqual(repr(pickle.loads(pickle.dumps(thing))), repr(thing))
 
 
 class Arrays(unittest.TestCase):
