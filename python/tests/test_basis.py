@@ -173,7 +173,7 @@ class Bases(unittest.TestCase):
         self.assertEqual(model.action("X").by_site(), {"Y0": -1.0})
 
     def test_terms(self):
-        terms = Terms(2, [[1, 0, 0, 0], [2, 0, 2, 0]], [1.0, -2.0])
+        terms = Terms(2, [[1, 0, 0, 0, 0, 0, 0, 0], [2, 0, 0, 0, 2, 0, 0, 0]], [1.0, -2.0])
         self.assertEqual(str(terms), "X0   1.0\nY1  -2.0")
         self.assertEqual(terms.largest(), 2.0)
         self.assertEqual(dict(terms)[Word("Y1", n=2)], -2.0)

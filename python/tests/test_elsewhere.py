@@ -80,7 +80,7 @@ class Elsewhere(unittest.TestCase):
             self.assertEqual((caught.exception.number, caught.exception.values["qubit"]), (2, Qubit(3)))
         for call in Word.from_qiskit, Word.from_stim:
             with self.assertRaises(Refusal) as caught:
-                call("X" * 129)
+                call("X" * 257)
             self.assertEqual(caught.exception.number, 1)
 
 

@@ -81,7 +81,7 @@ class Limits(Case):
                 self.told(InputError, f"{name} is {given}: from 0 to 65536 is needed", call)
             for call in (lambda: Model(given)), (lambda: Basis(given)), (lambda: Word("X", n=given)):
                 self.told(InputError, f"the number of qubits, is {given}: from 0 to 256 is needed", call)
-            self.told(InputError, f"a qubit is {given}: from 0 to 127 is needed", lambda: Qubit(given))
+            self.told(InputError, f"a qubit is {given}: from 0 to 255 is needed", lambda: Qubit(given))
             self.told(InputError, f"a position is {given}: from 0 to 65535 is needed", lambda: Position(given))
         self.told(Refusal, "max_basis is 65537: at most 65536", lambda: model.leakage(basis, max_basis=65_537))
         self.told(Refusal, "limit is 65537: at most 65536", lambda: basis.cap(limit=65_537))

@@ -42,6 +42,33 @@ CASES = {
     "generators, norms and products without the Rust": 70,
 }
 
+WIDE = {
+    "texts": 100,
+    "codes read": 100,
+    "codes written": 100,
+    "products": 100,
+    "models": 25,
+    "models refused": 25,
+    "matrices": 7,
+    "matrices refused": 7,
+    "actions": 12,
+    "actions of matrices": 12,
+    "actions refused": 12,
+    "prunes": 6,
+    "caps": 6,
+    "admissions": 6,
+    "bases without the Rust": 6,
+    "leakage": 6,
+    "leakage of matrices": 6,
+    "leakage without the Rust": 6,
+    "generators": 4,
+    "matrices by rows": 4,
+    "norms and degrees": 4,
+    "generators, norms and products without the Rust": 6,
+}
+# Cases of 129 to 256 qubits in the first, which were refused when it was recorded.
+LEFT_OUT = 51
+
 # How many tables, the last of its parameters, each function writes to: all of them are compared, to their ends. Prune,
 # cap and admission change their basis too, and what a model's own tables hold is not recorded.
 WRITTEN = {
