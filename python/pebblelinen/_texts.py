@@ -14,7 +14,7 @@ import numpy as np
 from numpy.typing import NDArray
 
 from . import words
-from ._lanes import LANES, WORD_LANES
+from ._lanes import LANES, MAX_QUBITS, WORD_LANES
 from ._lanes import joined as joined_lanes
 from ._tables import WorkTables
 from ._types import ByteTable, ItemPath, LaneTable
@@ -46,7 +46,7 @@ def joined(lists: Sequence[Items], n: int, work: WorkTables) -> tuple[ByteTable,
     """The bytes of the texts of all words in some lists, one after another, and the length of each. They may
     stand in a work table."""
     given = list(itertools.chain.from_iterable(items.words for items in lists))
-    if n <= words.MAX_QUBITS:
+    if n <= MAX_QUBITS:
         # A table that is kept: fresh memory would cost more than the letters.
         table: ByteTable = work.table("texts", n * len(given))
         if _write(given, table.reshape(len(given), n)):

@@ -9,7 +9,7 @@ import numpy as np
 from numpy.typing import NDArray
 
 from . import _given, _library
-from ._lanes import LANES, WORD_LANES, advice
+from ._lanes import LANES, MAX_QUBITS, WORD_LANES, advice
 from ._sealed import Sealed, read_only
 from ._showing import SHOWN, Shown, Table
 from ._tables import work_tables, zeros
@@ -17,7 +17,6 @@ from ._types import LaneTable, NumberTable
 from .errors import InputError, Refusal
 from .terms import AnyTerms, Terms
 from .words import (
-    MAX_QUBITS,
     MAX_WORDS,
     AnyWord,
     Position,

@@ -14,10 +14,10 @@ import numpy as np
 from numpy.typing import NDArray
 
 from . import _given
-from ._lanes import LANES, split
+from ._lanes import LANES, MAX_QUBITS, split
 from ._types import LaneTable, NumberTable
 from .errors import InputError
-from .words import MAX_QUBITS, qubits, site_text
+from .words import qubits, site_text
 
 # The letter whose eigenstate each is, and whether its number is -1.
 _STATES = {"0": ("Z", 0), "1": ("Z", 1), "+": ("X", 0), "-": ("X", 1), "r": ("Y", 0), "l": ("Y", 1)}
@@ -76,7 +76,7 @@ def _masks(n: int, state: str) -> dict[str, LaneTable]:
 
 def _odd(lanes: LaneTable) -> NDArray[np.int64]:
     """1 where the lanes of a row together have an odd number of bits."""
-    bits = np.bitwise_xor.reduce(lanes, axis=1)
+    bits: LaneTable = np.bitwise_xor.reduce(lanes, axis=1)
     for half in 32, 16, 8, 4, 2, 1:
         bits = bits ^ bits >> np.uint64(half)
     return (bits & np.uint64(1)).astype(np.int64)

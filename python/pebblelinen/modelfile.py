@@ -35,6 +35,7 @@ from collections.abc import Iterable, Mapping, Sequence
 from typing import Any, NamedTuple
 
 from . import _given, words
+from ._lanes import MAX_QUBITS
 from ._types import ItemPath
 from .basis import Basis
 from .errors import InputError, Refusal
@@ -75,7 +76,7 @@ def _read(name: str) -> dict[str, Any]:
 
 def _made(data: dict[str, Any]) -> ModelFile:
     _keys(data, _KEYS, ["qubits"], ())
-    n = _given.whole(data["qubits"], "the number of qubits", ("qubits",), words.MAX_QUBITS)
+    n = _given.whole(data["qubits"], "the number of qubits", ("qubits",), MAX_QUBITS)
     model = Model(
         n,
         data.get("hamiltonian", {}),

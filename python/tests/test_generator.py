@@ -173,7 +173,7 @@ class Refusals(test_refusals.Case):
             lambda basis: model.degree(basis, dt=1),
         ]
         many = Basis.from_arrays(3, np.zeros((65_537, 8), np.uint64))
-        outside = Basis.from_arrays(3, np.array([[1, 0, 0, 0], [8, 0, 0, 0]], np.uint64))
+        outside = Basis.from_arrays(3, np.array([[1, *7 * [0]], [8, *7 * [0]]], np.uint64))
         for call in calls:
             said = "the basis has 65537 entries: at most 65536"
             self.refused(8, {"count": 65_537, "limit": 65_536}, said, lambda: call(many))
