@@ -4,7 +4,8 @@
 
 Qubit q is bit q % 64 of lane q / 64. A word has LANES lanes of x bits and as many of z bits; in a table it has
 its x lanes, then its z lanes."""
-from collections.abc import Iterable, Sequence
+import struct
+from collections.abc import Sequence
 
 LANES = 4
 WORD_LANES = 2 * LANES
@@ -20,7 +21,11 @@ _OLD_ADVICE = (
     " numpy.insert(words, [2, 2, 4, 4], 0, axis=1)"
 )
 
+# The lanes of a word as they stand in a table: x86-64 has the lowest byte first.
+PACKED = struct.Struct(f"<{WORD_LANES}Q")
+
 _LANE = (1 << 64) - 1
+_HALF = 8 * LANES
 
 
 def split(bits: int) -> list[int]:
@@ -30,11 +35,8 @@ def split(bits: int) -> list[int]:
 
 def joined(lanes: Sequence[int]) -> tuple[int, int]:
     """The x bits and the z bits of a word of these lanes, each as one number."""
-    return _number(lanes[:LANES]), _number(lanes[LANES:])
-
-
-def _number(lanes: Iterable[int]) -> int:
-    return sum(lane << 64 * i for i, lane in enumerate(lanes))
+    packed = PACKED.pack(*lanes)
+    return int.from_bytes(packed[:_HALF], "little"), int.from_bytes(packed[_HALF:], "little")
 
 
 def pickled_before(what: str) -> str:

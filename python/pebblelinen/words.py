@@ -20,7 +20,7 @@ import numpy as np
 from numpy.typing import NDArray
 
 from . import _given, _lanes, _library
-from ._lanes import LANES, MAX_QUBITS, WORD_LANES
+from ._lanes import LANES, MAX_QUBITS, PACKED, WORD_LANES
 from ._types import ByteTable, ItemPath, LaneTable, WordLanes
 from .errors import InputError, Refusal
 
@@ -29,7 +29,6 @@ MAX_WORDS = 65_536
 LETTERS = "IXZY"  # by code
 _CODES = "I is 0, X 1, Z 2, Y 3"
 _NO_SIGN = "a word has no sign or phase: give it to the word's number"
-_PACKED = struct.Struct(f"={WORD_LANES}Q")
 _SITE = re.compile(r"([^\s0-9])0*([0-9]+)")
 
 
@@ -302,7 +301,7 @@ _OfRegister = TypeVar("_OfRegister", bound=OfRegister)
 def _set(word: Word, n: int, lanes: Sequence[int]) -> None:
     object.__setattr__(word, "n", n)
     object.__setattr__(word, "lanes", lanes)
-    object.__setattr__(word, "packed", _PACKED.pack(*lanes))
+    object.__setattr__(word, "packed", PACKED.pack(*lanes))
 
 
 def made(lanes: Iterable[int], n: int) -> Word:
