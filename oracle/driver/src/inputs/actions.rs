@@ -7,7 +7,7 @@ use super::matrices::{Matrix, set};
 use super::models::{Items, number};
 use super::{EDGES, LANE_ENDS, Rng, letters, neighbour, word};
 use crate::port::actions::{CountRoom, Room};
-use crate::port::{WORD_LANES, Word};
+use crate::port::{LANES, WORD_LANES, Word};
 use crate::rules::actions::ROW_LANES;
 use crate::rules::models::{Complex, MAX_TERMS};
 use crate::rules::{MAX_QUBITS, letters_of, word_of};
@@ -79,7 +79,8 @@ impl Style {
         let n_qubits = match rng.below(5) {
             0 => rng.pick(&EDGES).min(MAX_QUBITS),
             1 => rng.below(MAX_QUBITS + 1),
-            2 => 60 + rng.below(10),
+            // About the end of a lane.
+            2 => 64 * (1 + rng.below(LANES - 1)) - 4 + rng.below(10),
             _ => rng.below(6),
         };
         Self {
