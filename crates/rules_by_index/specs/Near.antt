@@ -9,7 +9,7 @@ use lib.ListN.{getD, take, drop}
 use Rattle.word.specs.Word.{identity}
 use Rattle.word.specs.Flat.{words}
 use Rattle.word.specs.declared.word.Word.{Word}
-use Rattle.index.specs.Index.{Indexed}
+use Rattle.index.specs.Index.{rowLanes, Indexed}
 use Rattle.model.specs.Stored.{ModelTables, jumpAt}
 use Rattle.model.specs.Tested.{width}
 use Rattle.model.specs.declared.stored.Model.{Model}
@@ -35,7 +35,7 @@ realItems hWords count = map (λ i. getD (words hWords) i identity ∷ []) (upTo
 abbrev pub jumpItems : List ℕ → List Float → List ℕ → ℕ → List (List Word)
 jumpItems jumps rates tWords count = map (λ j. jumpWords tWords (jumpAt jumps rates j)) (upTo 0 count)
 
--- an index of the Hamiltonian terms, and one of the jumps and pairs
+-- an index of the Hamiltonian terms, and one of the jumps and pairs, each in rows of as many lanes as it needs
 pub record ModelIndexed (m : Model) (t : ModelTables) (hIndex jIndex : List ℕ) : Type 0 where
-  pub reals : Indexed (m .qubits) (realItems (t .hWords) (m .hamiltonian)) hIndex
-  pub jumps : Indexed (m .qubits) (jumpItems (t .jumps) (t .rates) (t .tWords) (m .jumps)) jIndex
+  pub reals : Indexed (rowLanes (m .hamiltonian)) (m .qubits) (realItems (t .hWords) (m .hamiltonian)) hIndex
+  pub jumps : Indexed (rowLanes (m .jumps)) (m .qubits) (jumpItems (t .jumps) (t .rates) (t .tWords) (m .jumps)) jIndex

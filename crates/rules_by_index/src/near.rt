@@ -22,6 +22,7 @@ ghost use Rattle.rule_terms.specs.Adds.{realAt, jumpAdds, pairAdds, gatherJumps
 ghost use Rattle.rules_by_index.specs.Near.{ModelIndexed};
 ghost use Rattle.rule_terms.specs.Sums.{SumsRoom, PutsAll};
 use index::Next;
+use index::row_lanes;
 use index::start;
 use index::step;
 use index::union_rows;
@@ -44,15 +45,16 @@ fn put_reals_near(
     h_coeffs: &[f64],
     count: usize,
     mask: &[u64],
+    row: usize,
     p: Word,
 ) -> Added
-    requires { ⌜ SumsRoom room 0 (now lanes) (now sums) × (wordLanes * count ≤ length (now «h_words»)) × (count ≤ length (now «h_coeffs»)) × (64 ≤ length (now mask)) × AllBelow count (flagged (now mask) 0) ⌝ }
-    ensures { λ r. ⌜ ((t : ModelTables) → (t .hWords ≡ now («h_words» .entry)) → (t .hCoeffs ≡ now («h_coeffs» .entry)) → PutsAll room 0 (termsOver floats pauli (map (realAt t) (flagged (now (mask .entry)) 0)) p) (now (lanes .entry)) (now (sums .entry)) (now (lanes .exit)) (now (sums .exit)) r) ⌝ }
+    requires { ⌜ SumsRoom room 0 (now lanes) (now sums) × (wordLanes * count ≤ length (now «h_words»)) × (count ≤ length (now «h_coeffs»)) × (64 ≤ length (now mask)) × (0 < row) × (row ≤ 64) × AllBelow count (flagged row (now mask) 0) ⌝ }
+    ensures { λ r. ⌜ ((t : ModelTables) → (t .hWords ≡ now («h_words» .entry)) → (t .hCoeffs ≡ now («h_coeffs» .entry)) → PutsAll room 0 (termsOver floats pauli (map (realAt t) (flagged row (now (mask .entry)) 0)) p) (now (lanes .entry)) (now (sums .entry)) (now (lanes .exit)) (now (sums .exit)) r) ⌝ }
 {
     let mut held = 0;
-    let mut c = start(mask);
+    let mut c = start(mask, row);
     loop {
-        let s = step(mask, c);
+        let s = step(mask, row, c);
         let Next::Item(i, d) = s else {
             return Added::Held(held);
         };
@@ -80,15 +82,16 @@ fn put_jumps_near(
     t_numbers: &[f64],
     places: usize,
     mask: &[u64],
+    row: usize,
     p: Word,
 ) -> Added
-    requires { ⌜ SumsRoom room len (now lanes) (now sums) × (8 * count ≤ length (now jumps)) × (count ≤ length (now rates)) × (wordLanes * places ≤ length (now «t_words»)) × (2 * places ≤ length (now «t_numbers»)) × ((j : ℕ) → j < count → badJump places (jumpAt (now jumps) (now rates) j) ≡ false) × (64 ≤ length (now mask)) × AllBelow count (flagged (now mask) 0) ⌝ }
-    ensures { λ r. ⌜ ((t : ModelTables) → (t .tWords ≡ now («t_words» .entry)) → (t .tNumbers ≡ now («t_numbers» .entry)) → PutsAll room len (gatherJumps (jumpAdds p t) (map (jumpAt (now (jumps .entry)) (now (rates .entry))) (flagged (now (mask .entry)) 0))) (now (lanes .entry)) (now (sums .entry)) (now (lanes .exit)) (now (sums .exit)) r) ⌝ }
+    requires { ⌜ SumsRoom room len (now lanes) (now sums) × (8 * count ≤ length (now jumps)) × (count ≤ length (now rates)) × (wordLanes * places ≤ length (now «t_words»)) × (2 * places ≤ length (now «t_numbers»)) × ((j : ℕ) → j < count → badJump places (jumpAt (now jumps) (now rates) j) ≡ false) × (64 ≤ length (now mask)) × (0 < row) × (row ≤ 64) × AllBelow count (flagged row (now mask) 0) ⌝ }
+    ensures { λ r. ⌜ ((t : ModelTables) → (t .tWords ≡ now («t_words» .entry)) → (t .tNumbers ≡ now («t_numbers» .entry)) → PutsAll room len (gatherJumps (jumpAdds p t) (map (jumpAt (now (jumps .entry)) (now (rates .entry))) (flagged row (now (mask .entry)) 0))) (now (lanes .entry)) (now (sums .entry)) (now (lanes .exit)) (now (sums .exit)) r) ⌝ }
 {
     let mut held = len;
-    let mut c = start(mask);
+    let mut c = start(mask, row);
     loop {
-        let s = step(mask, c);
+        let s = step(mask, row, c);
         let Next::Item(j, d) = s else {
             return Added::Held(held);
         };
@@ -115,15 +118,16 @@ fn put_pairs_near(
     t_numbers: &[f64],
     places: usize,
     mask: &[u64],
+    row: usize,
     p: Word,
 ) -> Added
-    requires { ⌜ SumsRoom room len (now lanes) (now sums) × (8 * count ≤ length (now jumps)) × (count ≤ length (now rates)) × (wordLanes * places ≤ length (now «t_words»)) × (2 * places ≤ length (now «t_numbers»)) × ((j : ℕ) → j < count → badJump places (jumpAt (now jumps) (now rates) j) ≡ false) × (64 ≤ length (now mask)) × AllBelow count (flagged (now mask) 0) ⌝ }
-    ensures { λ r. ⌜ ((t : ModelTables) → (t .tWords ≡ now («t_words» .entry)) → (t .tNumbers ≡ now («t_numbers» .entry)) → PutsAll room len (gatherJumps (pairAdds p t) (map (jumpAt (now (jumps .entry)) (now (rates .entry))) (flagged (now (mask .entry)) 0))) (now (lanes .entry)) (now (sums .entry)) (now (lanes .exit)) (now (sums .exit)) r) ⌝ }
+    requires { ⌜ SumsRoom room len (now lanes) (now sums) × (8 * count ≤ length (now jumps)) × (count ≤ length (now rates)) × (wordLanes * places ≤ length (now «t_words»)) × (2 * places ≤ length (now «t_numbers»)) × ((j : ℕ) → j < count → badJump places (jumpAt (now jumps) (now rates) j) ≡ false) × (64 ≤ length (now mask)) × (0 < row) × (row ≤ 64) × AllBelow count (flagged row (now mask) 0) ⌝ }
+    ensures { λ r. ⌜ ((t : ModelTables) → (t .tWords ≡ now («t_words» .entry)) → (t .tNumbers ≡ now («t_numbers» .entry)) → PutsAll room len (gatherJumps (pairAdds p t) (map (jumpAt (now (jumps .entry)) (now (rates .entry))) (flagged row (now (mask .entry)) 0))) (now (lanes .entry)) (now (sums .entry)) (now (lanes .exit)) (now (sums .exit)) r) ⌝ }
 {
     let mut held = len;
-    let mut c = start(mask);
+    let mut c = start(mask, row);
     loop {
-        let s = step(mask, c);
+        let s = step(mask, row, c);
         let Next::Item(j, d) = s else {
             return Added::Held(held);
         };
@@ -160,12 +164,14 @@ pub fn put_rules_near(
     let reals = m.hamiltonian;
     let count = m.jumps;
     let places = m.terms;
-    union_rows(p, n, h_index, mask);
-    let first = put_reals_near(lanes, sums, room, h_words, h_coeffs, reals, mask, p);
+    let h_row = row_lanes(reals);
+    let j_row = row_lanes(count);
+    union_rows(p, h_row, n, h_index, mask);
+    let first = put_reals_near(lanes, sums, room, h_words, h_coeffs, reals, mask, h_row, p);
     let Added::Held(held) = first else {
         return Added::Full;
     };
-    union_rows(p, n, j_index, mask);
+    union_rows(p, j_row, n, j_index, mask);
     let second = put_jumps_near(
         lanes,
         sums,
@@ -178,6 +184,7 @@ pub fn put_rules_near(
         t_numbers,
         places,
         mask,
+        j_row,
         p,
     );
     let Added::Held(more) = second else {
@@ -195,6 +202,7 @@ pub fn put_rules_near(
         t_numbers,
         places,
         mask,
+        j_row,
         p,
     )
 }
