@@ -3,7 +3,7 @@
 
 -- Items that share no qubit with p add nothing: what the visited items add is what all items add. Assumes nothing.
 use mathlib.Core.Path.{_≡_, refl, sym, ap, ap₂, _∙_, subst}
-use mathlib.Core.Bool.{Bool, true, false, cond, _&&_, _||_}
+use mathlib.Core.Bool.{Bool, true, false, cond, _&&_, _||_, false≢true}
 use mathlib.Core.List.{List, [], _∷_, _++_, map}
 use Prim.Native.Nat.{ℕ, zero, suc, _+_, _*_, _≤_, _<_}
 use native.Mathlib.Omega.{arith}
@@ -35,7 +35,7 @@ use Rattle.model.specs.declared.stored.Range.{Range}
 use Rattle.model.specs.declared.stored.Jump.{Jump}
 use Rattle.model.specs.declared.stored.Jump.the-variants.{Pauli, General, Pair}
 use Rattle.rule_terms.specs.Adds.{realAt, realsIn, jumpsIn, op, jumpAdds, pairAdds, gatherJumps}
-use Rattle.rules_by_index.specs.Near.{wordsOf, jumpWords, ModelIndexed}
+use Rattle.rules_by_index.specs.Near.{wordsOf, jumpWords, pairMet, ModelIndexed}
 use Rattle.rule_terms.specs.Sums.{PutsAll}
 use Rattle.rules_by_scan.proofs.ItemLaws.{each, realAdds, reals-each, jumps-each}
 use Rattle.word.specs.Count.{upTo}
@@ -124,6 +124,13 @@ module _ (p : Word) where
         same true = refl
         same false = refl
 
+-- ---- an entry before which and at which no pair is met
+pub no-pair : (p : Word) (t : ModelTables) (met : Bool) (jump : Jump) → pairMet met jump ≡ false → (met ≡ false) × (pairAdds p t jump ≡ [])
+unfolding pairAdds
+no-pair p t met (Pauli rate term) e = (e, refl)
+no-pair p t met (General rate terms product) e = (e, refl)
+no-pair p t met (Pair left right factors product) e = absurd (false≢true (sym e))
+
 -- ---- a model that stands, with its index
 puts-as : {room len : ℕ} {lanes : List ℕ} {sums : List Float} {lanes′ : List ℕ} {sums′ : List Float} {r : Added} → {A B : List Term} → A ≡ B → PutsAll room len A lanes sums lanes′ sums′ r → PutsAll room len B lanes sums lanes′ sums′ r
 puts-as {room} {len} {lanes} {sums} {lanes′} {sums′} {r} e g = subst (λ (T : List Term). PutsAll room len T lanes sums lanes′ sums′ r) e g
@@ -160,10 +167,7 @@ module _ (m : Model) (t : ModelTables) (p : Word) (hIndex jIndex : List ℕ) (s 
         ∙ items-near row (m .qubits) (m .jumps) p entryWords jIndex mask (s .qubits) low (omega (arith, e)) (rw e (x .jumps)) u (λ k. f (jumpAt (t .jumps) (t .rates) k)) (λ j e. h (jumpAt (t .jumps) (t .rates) j) e)
         ∙ jumps-each f f (λ j. refl) (t .jumps) (t .rates) (upTo 0 (m .jumps))
 
-    pub near-jumps : {room len : ℕ} {lanes : List ℕ} {sums : List Float} {lanes′ : List ℕ} {sums′ : List Float} {r : Added} → PutsAll room len (gatherJumps (jumpAdds p t) (map (jumpAt (t .jumps) (t .rates)) (flagged row mask 0))) lanes sums lanes′ sums′ r
-        → PutsAll room len (gatherJumps (jumpAdds p t) (jumpsIn m t)) lanes sums lanes′ sums′ r
-    near-jumps g = puts-as (entries-near (jumpAdds p t) (jump-apart p t)) g
-
-    pub near-pairs : {room len : ℕ} {lanes : List ℕ} {sums : List Float} {lanes′ : List ℕ} {sums′ : List Float} {r : Added} → PutsAll room len (gatherJumps (pairAdds p t) (map (jumpAt (t .jumps) (t .rates)) (flagged row mask 0))) lanes sums lanes′ sums′ r
-        → PutsAll room len (gatherJumps (pairAdds p t) (jumpsIn m t)) lanes sums lanes′ sums′ r
-    near-pairs g = puts-as (entries-near (pairAdds p t) (pair-apart p t)) g
+    pub near-entries : {room len : ℕ} {lanes : List ℕ} {sums : List Float} {lanes′ : List ℕ} {sums′ : List Float} {r : Added}
+        → PutsAll room len (gatherJumps (jumpAdds p t) (map (jumpAt (t .jumps) (t .rates)) (flagged row mask 0)) ++ gatherJumps (pairAdds p t) (map (jumpAt (t .jumps) (t .rates)) (flagged row mask 0))) lanes sums lanes′ sums′ r
+        → PutsAll room len (gatherJumps (jumpAdds p t) (jumpsIn m t) ++ gatherJumps (pairAdds p t) (jumpsIn m t)) lanes sums lanes′ sums′ r
+    near-entries g = puts-as (ap₂ (λ (A B : List Term). A ++ B) (entries-near (jumpAdds p t) (jump-apart p t)) (entries-near (pairAdds p t) (pair-apart p t))) g

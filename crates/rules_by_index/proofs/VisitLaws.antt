@@ -3,6 +3,7 @@
 
 -- The items at the set bits of a mask taken one after another, each with what is put to the sums for it. Assumes nothing.
 use mathlib.Core.Path.{_≡_, refl, sym, ap, _∙_, subst}
+use mathlib.Core.Bool.{Bool, false}
 use mathlib.Core.List.{List, [], _∷_, _++_, append-nil, append-assoc}
 use Prim.Native.Nat.{ℕ, _<_}
 use native.Mathlib.Omega.{arith}
@@ -100,3 +101,21 @@ module _ (g : ℕ → List Term) (all room len row : ℕ) (mask : List ℕ) (lan
               let B : List Term = each g (left row mask d) in
               puts-same room len lanes₀ sums₀ s lanes″ sums″ (each g K ++ B) (each g (flagged row mask 0)) Full (sym (each-append g K (left row mask d)) ∙ ap (each g) more)
               (puts-full room len lanes₀ sums₀ s lanes″ sums″ (each g K) B r next-puts h)
+
+-- ---- while no pair is met, the visits that are left add what all do
+abbrev pub Quiet : (ℕ → List Term) → ℕ → List ℕ → Bool → Cursor → Type 0
+Quiet h row mask met c = met ≡ false → each h (left row mask c) ≡ each h (flagged row mask 0)
+
+module _ (h : ℕ → List Term) (row : ℕ) (mask : List ℕ) where
+  pub quiet-start : (c : Cursor) → left row mask c ≡ flagged row mask 0 → Quiet h row mask false c
+  quiet-start c e _ = ap (each h) e
+
+  pub quiet-next : (met after : Bool) (c : Cursor) (n : Next) → Steps row mask c n → (j : ℕ) (d : Cursor) → n ≡ Item j d → Quiet h row mask met c → (after ≡ false → (met ≡ false) × (h j ≡ [])) → Quiet h row mask after d
+  unfolding each
+  quiet-next met after c n v j d e q f g =
+      let k = f g in
+      ap (λ (l : List Term). l ++ each h (left row mask d)) (sym (k .1)) ∙ ap (each h) (sym (stepped row mask c n j d e v .0)) ∙ q (k .0)
+
+  pub quiet-done : (met : Bool) (c : Cursor) (n : Next) → Steps row mask c n → n ≡ Done → Quiet h row mask met c → met ≡ false → each h (flagged row mask 0) ≡ []
+  unfolding each
+  quiet-done met c n v e q g = sym (q g) ∙ ap (each h) (ended row mask c n e v)

@@ -2,6 +2,7 @@
 -- SPDX-License-Identifier: Apache-2.0
 
 -- Contracts between functions: the index of a model, the words of its items, by which those that share a qubit with a word are found.
+use mathlib.Core.Bool.{Bool, true}
 use mathlib.Core.List.{List, [], _∷_, _++_, map}
 use Prim.Native.Nat.{ℕ}
 use lib.Ieee.{Float}
@@ -27,6 +28,12 @@ unfoldable pub jumpWords : List ℕ → Jump → List Word
 jumpWords lanes (Pauli rate term) = getD (words lanes) term identity ∷ []
 jumpWords lanes (General rate terms product) = wordsOf lanes terms
 jumpWords lanes (Pair left right factors product) = wordsOf lanes left ++ wordsOf lanes right
+
+-- whether a pair was met, after one more entry
+abbrev pub pairMet : Bool → Jump → Bool
+pairMet met (Pauli rate term) = met
+pairMet met (General rate terms product) = met
+pairMet met (Pair left right factors product) = true
 
 -- the words of each Hamiltonian term, and of each entry of the table of jumps and pairs
 abbrev pub realItems : List ℕ → ℕ → List (List Word)
