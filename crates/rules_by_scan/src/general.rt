@@ -109,7 +109,19 @@ fn put_sandwiches(
     let mut i = range.start;
     while i < end {
         let a = term_at(words, numbers, i);
-        let added = put_sandwich_row(lanes, sums, room, count, at, words, numbers, range, a, rate, p);
+        let added = put_sandwich_row(
+            lanes,
+            sums,
+            room,
+            count,
+            at,
+            words,
+            numbers,
+            range,
+            a,
+            rate,
+            p,
+        );
         let Added::Held(m) = added else {
             return Added::Full;
         };

@@ -123,7 +123,18 @@ pub fn put_jumps(
     let mut j = 0;
     while j < count {
         let jump = jump_at(jumps, rates, j);
-        let added = put_jump(lanes, sums, room, held, 0, jump, t_words, t_numbers, places, p);
+        let added = put_jump(
+            lanes,
+            sums,
+            room,
+            held,
+            0,
+            jump,
+            t_words,
+            t_numbers,
+            places,
+            p,
+        );
         let Added::Held(m) = added else {
             return Added::Full;
         };
