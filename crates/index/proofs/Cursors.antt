@@ -22,9 +22,9 @@ use Rattle.index.proofs.Kept.{skip, hit, keep-cong, keep-cat, keep-none
 abbrev pub cursor : ℕ → ℕ → Cursor
 cursor i m = record { lane = i; rest = m }
 
-flagged-end : (mask : List ℕ) (k : ℕ) → 4096 ≤ k → flagged mask k ≡ []
+flagged-end : (row : ℕ) (mask : List ℕ) (k : ℕ) → row * 64 ≤ k → flagged row mask k ≡ []
 unfolding flagged keep upFrom
-flagged-end mask k l = let a : 4096 - k ≡ 0 = omega arith in rw a
+flagged-end row mask k l = let a : row * 64 - k ≡ 0 = omega arith in rw a
 
 back : (b i : ℕ) → b + i - b ≡ i
 back b i = omega arith
@@ -37,24 +37,24 @@ same-flag mask i j l k =
     rw (a, b)
 
 -- a whole lane
-pub left-whole : (mask : List ℕ) (i : ℕ) → i < 64 → left mask (cursor i (getD mask i 0)) ≡ flagged mask (i * 64)
+pub left-whole : (row : ℕ) (mask : List ℕ) (i : ℕ) → i < row → left row mask (cursor i (getD mask i 0)) ≡ flagged row mask (i * 64)
 unfolding left flagged
-left-whole mask i h =
-    let a : 4096 - i * 64 ≡ 64 + (4096 - (i * 64 + 64)) = omega arith in
+left-whole row mask i h =
+    let a : row * 64 - i * 64 ≡ 64 + (row * 64 - (i * 64 + 64)) = omega arith in
     rw a
-    (ap (λ (l : List ℕ). l ++ keep (flag mask) (upFrom (4096 - (i * 64 + 64)) (i * 64 + 64)))
+    (ap (λ (l : List ℕ). l ++ keep (flag mask) (upFrom (row * 64 - (i * 64 + 64)) (i * 64 + 64)))
     (keep-cong (λ j. bit (getD mask i 0) (j - i * 64)) (flag mask) 64 (i * 64) (same-flag mask i))
-    ∙ sym (keep-cat (flag mask) 64 (4096 - (i * 64 + 64)) (i * 64)))
+    ∙ sym (keep-cat (flag mask) 64 (row * 64 - (i * 64 + 64)) (i * 64)))
 
 -- nothing left of a lane
-left-none : (mask : List ℕ) (i : ℕ) → left mask (cursor i 0) ≡ flagged mask ((i + 1) * 64)
+left-none : (row : ℕ) (mask : List ℕ) (i : ℕ) → left row mask (cursor i 0) ≡ flagged row mask ((i + 1) * 64)
 unfolding left
-left-none mask i =
+left-none row mask i =
     let a : (i + 1) * 64 ≡ i * 64 + 64 = omega arith in
     rw (a, keep-none (λ j. bit 0 (j - i * 64)) 64 (i * 64) (λ j l k. zero-bit (j - i * 64)))
 
 -- the lowest set bit, and the rest of the lane
-module _ (mask : List ℕ) (i m t : ℕ) (l : Lowest 64 m t) where
+module _ (row : ℕ) (mask : List ℕ) (i m t : ℕ) (l : Lowest 64 m t) where
   t-keep : keep (λ j. bit m (j - i * 64)) (upFrom 64 (i * 64)) ≡ (i * 64 + t) ∷ keep (λ j. bit m (j - i * 64)) (upFrom (64 - suc t) (suc (i * 64 + t)))
   t-keep =
       let a : 64 ≡ t + suc (64 - suc t) = omega (arith, l .inside) in
@@ -78,26 +78,26 @@ module _ (mask : List ℕ) (i m t : ℕ) (l : Lowest 64 m t) where
       ∙ ap (λ (d : ℕ). keep (λ j. bit (bitAnd m (m - 1)) (j - i * 64)) (upFrom (64 - suc t) d)) b
       ∙ keep-cong (λ j. bit (bitAnd m (m - 1)) (j - i * 64)) (λ j. bit m (j - i * 64)) (64 - suc t) (suc (i * 64 + t)) (λ j h k. l .others (j - i * 64) (λ e. omega arith))
 
-  left-next : left mask (cursor i m) ≡ (i * 64 + t) ∷ left mask (cursor i (bitAnd m (m - 1)))
+  left-next : left row mask (cursor i m) ≡ (i * 64 + t) ∷ left row mask (cursor i (bitAnd m (m - 1)))
   unfolding left
   left-next = ap₂ (λ (x y : List ℕ). x ++ y) (t-keep ∙ ap (λ (x : List ℕ). (i * 64 + t) ∷ x) (sym rest-keep)) refl
 
 -- ---- the turns of `step`
 
-module _ (mask : List ℕ) (c : Cursor) (i m : ℕ) (inv : left mask c ≡ left mask (cursor i m)) where
-  pub step-turn : m ≡ 0 → i + 1 < 64 → left mask c ≡ left mask (cursor (i + 1) (getD mask (i + 1) 0))
-  step-turn z h = inv ∙ ap (λ (x : ℕ). left mask (cursor i x)) z ∙ left-none mask i ∙ sym (left-whole mask (i + 1) h)
+module _ (row : ℕ) (mask : List ℕ) (c : Cursor) (i m : ℕ) (inv : left row mask c ≡ left row mask (cursor i m)) where
+  pub step-turn : m ≡ 0 → i + 1 < row → left row mask c ≡ left row mask (cursor (i + 1) (getD mask (i + 1) 0))
+  step-turn z h = inv ∙ ap (λ (x : ℕ). left row mask (cursor i x)) z ∙ left-none row mask i ∙ sym (left-whole row mask (i + 1) h)
 
-  pub step-done : m ≡ 0 → 64 ≤ i + 1 → left mask c ≡ []
-  step-done z h = inv ∙ ap (λ (x : ℕ). left mask (cursor i x)) z ∙ left-none mask i ∙ flagged-end mask ((i + 1) * 64) (omega arith)
+  pub step-done : m ≡ 0 → row ≤ i + 1 → left row mask c ≡ []
+  step-done z h = inv ∙ ap (λ (x : ℕ). left row mask (cursor i x)) z ∙ left-none row mask i ∙ flagged-end row mask ((i + 1) * 64) (omega arith)
 
-  pub step-item : (t : ℕ) → Lowest 64 m t → i < 64 → Steps mask c (Item (i * 64 + t) (cursor i (bitAnd m (m - 1))))
-  step-item t l h = (inv ∙ left-next mask i m t l, omega (arith, l .inside), h)
+  pub step-item : (t : ℕ) → Lowest 64 m t → i < row → Steps row mask c (Item (i * 64 + t) (cursor i (bitAnd m (m - 1))))
+  step-item t l h = (inv ∙ left-next row mask i m t l, omega (arith, l .inside), h)
 
 -- ---- what a caller's loop uses
 
-pub stepped : (mask : List ℕ) (c : Cursor) (r : Next) (j : ℕ) (d : Cursor) → r ≡ Item j d → Steps mask c r → (left mask c ≡ j ∷ left mask d) × (j < 4096) × (d .lane < 64)
-stepped mask c r j d e s = rw e at s
+pub stepped : (row : ℕ) (mask : List ℕ) (c : Cursor) (r : Next) (j : ℕ) (d : Cursor) → r ≡ Item j d → Steps row mask c r → (left row mask c ≡ j ∷ left row mask d) × (j < row * 64) × (d .lane < row)
+stepped row mask c r j d e s = rw e at s
 
-pub ended : (mask : List ℕ) (c : Cursor) (r : Next) → r ≡ Done → Steps mask c r → left mask c ≡ []
-ended mask c r e s = rw e at s
+pub ended : (row : ℕ) (mask : List ℕ) (c : Cursor) (r : Next) → r ≡ Done → Steps row mask c r → left row mask c ≡ []
+ended row mask c r e s = rw e at s

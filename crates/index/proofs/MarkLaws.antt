@@ -8,6 +8,7 @@ use mathlib.Core.List.{List, [], _∷_, _++_}
 use Prim.Native.Nat.{ℕ, _+_, _*_, _/_, _%_, _^_, _<_, _≤_, min, max}
 use native.Mathlib.Omega.{arith}
 use native.Mathlib.Decide.{ℕ-discrete, decLt}
+use native.Mathlib.Nat.{mul-le-mul-left, mul-le-mul-right}
 use borrow.Author.Tests.{eq-eqb, ne-eqb}
 use lib.Bits.{bitOr}
 use lib.Dec.{eqb}
@@ -22,9 +23,27 @@ use Rattle.word.proofs.Digits.{zero-bit, bit-lt, bit-or, shift-same, shift-othe
 use Rattle.index.specs.Index.{mark, acts, actsAny, Indexed, Marks}
 use Rattle.index.proofs.Walk.{actsBefore, Stands, none-before, passed, elsewhere, all-before}
 
-pub mark-lt : (index : List ℕ) (q j : ℕ) → mark index q j < 2
+pub mark-lt : (row : ℕ) (index : List ℕ) (q j : ℕ) → mark row index q j < 2
 unfolding mark
-mark-lt index q j = bit-lt _ _
+mark-lt row index q j = bit-lt _ _
+
+-- ---- where a row's lanes lie
+
+-- inside a table of 64 lanes a row
+pub row-inside : (row n q length : ℕ) → q < n → row ≤ 64 → 64 * n ≤ length → q * row + row ≤ length
+row-inside row n q length h few long = omega (arith, mul-le-mul-left q few)
+
+-- a lane is of one row, at one place
+below : (row q r a b : ℕ) → a < row → q < r → q * row + a < r * row + b
+below row q r a b h l = omega (arith, mul-le-mul-right row l)
+
+row-apart : (row q r a b : ℕ) → a < row → b < row → q * row + a ≡ r * row + b → (q ≡ r) × (a ≡ b)
+row-apart row q r a b ha hb e = go (ℕ-discrete q r) (decLt q r)
+  where
+    go : Dec (q ≡ r) → Dec (q < r) → (q ≡ r) × (a ≡ b)
+    go (yes f) l = let g : q * row ≡ r * row = ap (λ (k : ℕ). k * row) f in (f, omega (arith, e, g))
+    go (no f) (yes l) = absurd (omega (arith, e, below row q r a b ha l))
+    go (no f) (no l) = absurd (omega (arith, e, below row r q b a hb (omega arith)))
 
 -- ---- one digit set
 
@@ -45,76 +64,76 @@ module _ (x k : ℕ) (h : k < 64) where
 
 -- ---- one mark set
 
-abbrev pub marked : List ℕ → ℕ → ℕ → List ℕ
-marked index q j = set index (q * 64 + j / 64) (withBit (getD index (q * 64 + j / 64) 0) (j % 64))
+abbrev pub marked : ℕ → List ℕ → ℕ → ℕ → List ℕ
+marked row index q j = set index (q * row + j / 64) (withBit (getD index (q * row + j / 64) 0) (j % 64))
 
-module _ (index : List ℕ) (q j : ℕ) (h : q * 64 + j / 64 < length index) (hj : j < 4096) where
-  marked-there : mark (marked index q j) q j ≡ 1
+module _ (row : ℕ) (index : List ℕ) (q j : ℕ) (h : q * row + j / 64 < length index) (hj : j < row * 64) where
+  marked-there : mark row (marked row index q j) q j ≡ 1
   unfolding mark
-  marked-there = rw (getD-set-same index (q * 64 + j / 64) (withBit (getD index (q * 64 + j / 64) 0) (j % 64)) 0 h) (with-same (getD index (q * 64 + j / 64) 0) (j % 64) (omega arith))
+  marked-there = rw (getD-set-same index (q * row + j / 64) (withBit (getD index (q * row + j / 64) 0) (j % 64)) 0 h) (with-same (getD index (q * row + j / 64) 0) (j % 64) (omega arith))
 
-  other-lane : (r i : ℕ) → (r * 64 + i / 64 ≡ q * 64 + j / 64 → ⊥) → mark (marked index q j) r i ≡ mark index r i
+  other-lane : (r i : ℕ) → (r * row + i / 64 ≡ q * row + j / 64 → ⊥) → mark row (marked row index q j) r i ≡ mark row index r i
   unfolding mark
-  other-lane r i d = rw (getD-set-other index (q * 64 + j / 64) (r * 64 + i / 64) (withBit (getD index (q * 64 + j / 64) 0) (j % 64)) 0 d)
+  other-lane r i d = rw (getD-set-other index (q * row + j / 64) (r * row + i / 64) (withBit (getD index (q * row + j / 64) 0) (j % 64)) 0 d)
 
-  same-lane : (r i : ℕ) → r * 64 + i / 64 ≡ q * 64 + j / 64 → (i % 64 ≡ j % 64 → ⊥) → mark (marked index q j) r i ≡ mark index r i
+  same-lane : (r i : ℕ) → r * row + i / 64 ≡ q * row + j / 64 → (i % 64 ≡ j % 64 → ⊥) → mark row (marked row index q j) r i ≡ mark row index r i
   unfolding mark
   same-lane r i e d =
-      rw (e, getD-set-same index (q * 64 + j / 64) (withBit (getD index (q * 64 + j / 64) 0) (j % 64)) 0 h)
-      (with-other (getD index (q * 64 + j / 64) 0) (j % 64) (omega arith) (i % 64) d)
+      rw (e, getD-set-same index (q * row + j / 64) (withBit (getD index (q * row + j / 64) 0) (j % 64)) 0 h)
+      (with-other (getD index (q * row + j / 64) 0) (j % 64) (omega arith) (i % 64) d)
 
-  marked-other : (r i : ℕ) → i < 4096 → (r ≡ q → i ≡ j → ⊥) → mark (marked index q j) r i ≡ mark index r i
-  marked-other r i hi d = go (ℕ-discrete (r * 64 + i / 64) (q * 64 + j / 64))
+  marked-other : (r i : ℕ) → i < row * 64 → (r ≡ q → i ≡ j → ⊥) → mark row (marked row index q j) r i ≡ mark row index r i
+  marked-other r i hi d = go (ℕ-discrete (r * row + i / 64) (q * row + j / 64))
     where
-      go : Dec (r * 64 + i / 64 ≡ q * 64 + j / 64) → mark (marked index q j) r i ≡ mark index r i
-      go (yes e) = same-lane r i e (λ f. d (omega arith) (omega arith))
+      go : Dec (r * row + i / 64 ≡ q * row + j / 64) → mark row (marked row index q j) r i ≡ mark row index r i
+      go (yes e) = let a = row-apart row r q (i / 64) (j / 64) (omega arith) (omega arith) e in same-lane r i e (λ f. d (a .0) (omega (arith, a .1, f)))
       go (no n) = other-lane r i n
 
 -- ---- the turns of `mark_word`: the qubits before q are marked
-abbrev pub Marking : ℕ → Word → List ℕ → List ℕ → ℕ → Type 0
-Marking j w index₀ index q = (r i : ℕ) → i < 4096 → mark index r i ≡ max (mark index₀ r i) (cond (eqb i j) (actsBefore w q r) 0)
+abbrev pub Marking : ℕ → ℕ → Word → List ℕ → List ℕ → ℕ → Type 0
+Marking row j w index₀ index q = (r i : ℕ) → i < row * 64 → mark row index r i ≡ max (mark row index₀ r i) (cond (eqb i j) (actsBefore w q r) 0)
 
 drop-zero : (b : Bool) (a c : ℕ) → c ≡ 0 → max a (cond b c 0) ≡ a
 drop-zero true a c e = omega arith
 drop-zero false a c e = omega arith
 
-pub marking-start : (j : ℕ) (w : Word) (index : List ℕ) (q : ℕ) → NextQubit w 0 q → Marking j w index index q
-marking-start j w index q n r i h = sym (drop-zero (eqb i j) (mark index r i) (actsBefore w q r) (none-before w q n r))
+pub marking-start : (row j : ℕ) (w : Word) (index : List ℕ) (q : ℕ) → NextQubit w 0 q → Marking row j w index index q
+marking-start row j w index q n r i h = sym (drop-zero (eqb i j) (mark row index r i) (actsBefore w q r) (none-before w q n r))
 
-module _ (j : ℕ) (w : Word) (index₀ index : List ℕ) (q : ℕ) (hj : j < 4096) (s : Stands w q) (inv : Marking j w index₀ index q) where
-  pub marking-turn : (q′ : ℕ) → q < maxQubits → NextQubit w (q + 1) q′ → q * 64 + j / 64 < length index → Marking j w index₀ (marked index q j) q′
+module _ (row j : ℕ) (w : Word) (index₀ index : List ℕ) (q : ℕ) (hj : j < row * 64) (s : Stands w q) (inv : Marking row j w index₀ index q) where
+  pub marking-turn : (q′ : ℕ) → q < maxQubits → NextQubit w (q + 1) q′ → q * row + j / 64 < length index → Marking row j w index₀ (marked row index q j) q′
   marking-turn q′ l n k r i hi = go (ℕ-discrete i j) (ℕ-discrete r q)
     where
-      go : Dec (i ≡ j) → Dec (r ≡ q) → mark (marked index q j) r i ≡ max (mark index₀ r i) (cond (eqb i j) (actsBefore w q′ r) 0)
+      go : Dec (i ≡ j) → Dec (r ≡ q) → mark row (marked row index q j) r i ≡ max (mark row index₀ r i) (cond (eqb i j) (actsBefore w q′ r) 0)
       go (yes e) (yes d) =
-          rw (eq-eqb i j e, e, d) (omega (arith, marked-there index q j k hj, passed w q q′ s l n, mark-lt index₀ q j))
+          rw (eq-eqb i j e, e, d) (omega (arith, marked-there row index q j k hj, passed w q q′ s l n, mark-lt row index₀ q j))
       go (yes e) (no d) =
-          marked-other index q j k hj r i hi (λ x y. d x) ∙ inv r i hi
-          ∙ ap (λ (x : ℕ). max (mark index₀ r i) (cond (eqb i j) x 0)) (elsewhere w q q′ s l n r d)
+          marked-other row index q j k hj r i hi (λ x y. d x) ∙ inv r i hi
+          ∙ ap (λ (x : ℕ). max (mark row index₀ r i) (cond (eqb i j) x 0)) (elsewhere w q q′ s l n r d)
       go (no e) d =
-          marked-other index q j k hj r i hi (λ x y. e y) ∙ inv r i hi
+          marked-other row index q j k hj r i hi (λ x y. e y) ∙ inv r i hi
           ∙ rw (ne-eqb i j e)
 
-  pub marking-done : (n : ℕ) → min n maxQubits ≤ q → Marks n j (w ∷ []) index₀ index
+  pub marking-done : (n : ℕ) → min n maxQubits ≤ q → Marks row n j (w ∷ []) index₀ index
   unfolding actsAny
-  marking-done n h = record { marks = λ r i l k. inv r i k ∙ ap (λ (x : ℕ). max (mark index₀ r i) (cond (eqb i j) x 0)) (all-before w n q s h r l ∙ sym (max-zero (acts w r))) }
+  marking-done n h = record { marks = λ r i l k. inv r i k ∙ ap (λ (x : ℕ). max (mark row index₀ r i) (cond (eqb i j) x 0)) (all-before w n q s h r l ∙ sym (max-zero (acts w r))) }
     where
       max-zero : (a : ℕ) → max a 0 ≡ a
       max-zero a = omega arith
 
 -- ---- words marked one after another
-pub none-marked : (n j : ℕ) (index : List ℕ) → Marks n j [] index index
+pub none-marked : (row n j : ℕ) (index : List ℕ) → Marks row n j [] index index
 unfolding actsAny
-none-marked n j index = record { marks = λ q i h k. sym (drop-zero (eqb i j) (mark index q i) 0 refl) }
+none-marked row n j index = record { marks = λ q i h k. sym (drop-zero (eqb i j) (mark row index q i) 0 refl) }
 
 acts-append : (W X : List Word) (q : ℕ) → actsAny (W ++ X) q ≡ max (actsAny W q) (actsAny X q)
 unfolding actsAny
 acts-append [] X q = omega arith
 acts-append (w ∷ W) X q = omega (arith, acts-append W X q)
 
-pub more-marked : (n j : ℕ) (W X : List Word) (index index′ index″ : List ℕ) → Marks n j W index index′ → Marks n j X index′ index″ → Marks n j (W ++ X) index index″
-more-marked n j W X index index′ index″ a b = record {
-  marks = λ q i h k. b .marks q i h k ∙ rw (a .marks q i h k, acts-append W X q) (go (eqb i j) (mark index q i) (actsAny W q) (actsAny X q));
+pub more-marked : (row n j : ℕ) (W X : List Word) (index index′ index″ : List ℕ) → Marks row n j W index index′ → Marks row n j X index′ index″ → Marks row n j (W ++ X) index index″
+more-marked row n j W X index index′ index″ a b = record {
+  marks = λ q i h k. b .marks q i h k ∙ rw (a .marks q i h k, acts-append W X q) (go (eqb i j) (mark row index q i) (actsAny W q) (actsAny X q));
 }
   where
     go : (b : Bool) (m x y : ℕ) → max (max m (cond b x 0)) (cond b y 0) ≡ max m (cond b (max x y) 0)
@@ -122,9 +141,9 @@ more-marked n j W X index index′ index″ a b = record {
     go false m x y = omega arith
 
 -- ---- a clear table indexes no items
-pub none-indexed : (n l : ℕ) → Indexed n [] (replicate l 0)
+pub none-indexed : (row n l : ℕ) → Indexed row n [] (replicate l 0)
 unfolding mark actsAny
-none-indexed n l = record { marks = λ q j h k. rw (zeros-at l (q * 64 + j / 64)) (zero-bit (j % 64)) }
+none-indexed row n l = record { marks = λ q j h k. rw (zeros-at l (q * row + j / 64)) (zero-bit (j % 64)) }
 
 -- ---- one more item
 module _ {A : Type 0} (l : List A) (x d : A) where
@@ -140,10 +159,10 @@ module _ {A : Type 0} (l : List A) (x d : A) where
           List·getD-eq-default (l ++ (x ∷ [])) d (rw (length-append l (x ∷ [])) (omega arith))
           ∙ sym (List·getD-eq-default l d (omega arith))
 
-pub more-indexed : (n : ℕ) (items : List (List Word)) (W : List Word) (index index′ : List ℕ) (j : ℕ) → j ≡ length items
-    → Indexed n items index → Marks n j W index index′ → Indexed n (items ++ (W ∷ [])) index′
+pub more-indexed : (row n : ℕ) (items : List (List Word)) (W : List Word) (index index′ : List ℕ) (j : ℕ) → j ≡ length items
+    → Indexed row n items index → Marks row n j W index index′ → Indexed row n (items ++ (W ∷ [])) index′
 unfolding actsAny
-more-indexed n items W index index′ j e x m = record {
+more-indexed row n items W index index′ j e x m = record {
   marks = λ q i h k. m .marks q i h k ∙ rw (x .marks q i h k) (go q i (ℕ-discrete i j));
 }
   where

@@ -5,7 +5,7 @@
 use mathlib.Core.Path.{_≡_, refl, sym, ap, ap₂, _∙_}
 use mathlib.Core.Bool.{Bool, true, false, _&&_, _||_, or-false, and-false}
 use mathlib.Core.List.{List, [], _∷_}
-use Prim.Native.Nat.{ℕ, zero, suc, _+_, _-_, _<_, _≤_, min, max}
+use Prim.Native.Nat.{ℕ, zero, suc, _+_, _-_, _*_, _<_, _≤_, min, max}
 use native.Mathlib.Omega.{arith}
 use borrow.Author.Tests.{le-leb}
 use lib.Dec.{leb}
@@ -72,12 +72,12 @@ unfolding meets anyTo
 meets-none [] p = refl
 meets-none (w ∷ W) p = meets-none W p
 
-unites-meets : (n : ℕ) (p : Word) (items : List (List Word)) (index : List ℕ) (j : ℕ) → Indexed n items index → j < 4096
-    → (k : ℕ) → k ≤ n → unites (acts p) k index j ≡ digit (meets k (getD items j []) p)
+unites-meets : (row n : ℕ) (p : Word) (items : List (List Word)) (index : List ℕ) (j : ℕ) → Indexed row n items index → j < row * 64
+    → (k : ℕ) → k ≤ n → unites row (acts p) k index j ≡ digit (meets k (getD items j []) p)
 unfolding unites
-unites-meets n p items index j x h zero l = sym (ap digit (meets-none (getD items j []) p))
-unites-meets n p items index j x h (suc k) l =
-    ap₂ (λ (a b : ℕ). max a (min (acts p k) b)) (unites-meets n p items index j x h k (omega arith)) (x .marks k j (omega arith) h)
+unites-meets row n p items index j x h zero l = sym (ap digit (meets-none (getD items j []) p))
+unites-meets row n p items index j x h (suc k) l =
+    ap₂ (λ (a b : ℕ). max a (min (acts p k) b)) (unites-meets row n p items index j x h k (omega arith)) (x .marks k j (omega arith) h)
     ∙ sym (meets-more k (getD items j []) p)
 
 -- ---- where p does not reach beyond n, sharing a qubit is sharing one below n
@@ -106,25 +106,25 @@ module _ (n : ℕ) (p : Word) (few : n ≤ maxQubits) (low : reaches p n ≡ fal
   meets-shares (w ∷ W) = ap₂ _||_ (shares-below w) (meets-shares W)
 
   -- bit j of the mask is set exactly if one of the words of item j shares a qubit with p
-  module _ (items : List (List Word)) (index mask : List ℕ) (x : Indexed n items index) (u : United n p index mask) where
-    pub united-shares : (j : ℕ) → j < 4096 → flag mask j ≡ digit (sharesAny (getD items j []) p)
-    united-shares j h = u .flags j h ∙ unites-meets n p items index j x h n (omega arith) ∙ ap digit (meets-shares (getD items j []))
+  module _ (row : ℕ) (items : List (List Word)) (index mask : List ℕ) (x : Indexed row n items index) (u : United row n p index mask) where
+    pub united-shares : (j : ℕ) → j < row * 64 → flag mask j ≡ digit (sharesAny (getD items j []) p)
+    united-shares j h = u .flags j h ∙ unites-meets row n p items index j x h n (omega arith) ∙ ap digit (meets-shares (getD items j []))
 
-    past-items : (j : ℕ) → length items ≤ j → j < 4096 → flag mask j ≡ 0
+    past-items : (j : ℕ) → length items ≤ j → j < row * 64 → flag mask j ≡ 0
     unfolding sharesAny
     past-items j h l = united-shares j l ∙ ap (λ (W : List Word). digit (sharesAny W p)) (List·getD-eq-default items [] h)
 
     -- so the places visited are those of the items, in rising order, without those whose bit is not set
-    pub flagged-items : length items ≤ 4096 → flagged mask 0 ≡ keep (flag mask) (upFrom (length items) 0)
+    pub flagged-items : length items ≤ row * 64 → flagged row mask 0 ≡ keep (flag mask) (upFrom (length items) 0)
     unfolding flagged
     flagged-items h =
-        let a : 4096 - 0 ≡ length items + (4096 - length items) = omega arith in
-        rw a (keep-short (flag mask) (4096 - length items) (length items) 0 (λ j l k. past-items j (omega arith) (omega arith)))
+        let a : row * 64 - 0 ≡ length items + (row * 64 - length items) = omega arith in
+        rw a (keep-short (flag mask) (row * 64 - length items) (length items) 0 (λ j l k. past-items j (omega arith) (omega arith)))
 
-    pub flagged-below : length items ≤ 4096 → AllBelow (length items) (flagged mask 0)
+    pub flagged-below : length items ≤ row * 64 → AllBelow (length items) (flagged row mask 0)
     flagged-below h = rw (flagged-items h) (keep-below (flag mask) (length items) (length items) 0 (omega arith))
 
 -- ---- each visit is below what all were
-pub step-below : (mask : List ℕ) (c : Cursor) (r : Next) → Steps mask c r → (n j : ℕ) (d : Cursor) → r ≡ Item j d → AllBelow n (left mask c) → (j < n) × AllBelow n (left mask d)
+pub step-below : (row : ℕ) (mask : List ℕ) (c : Cursor) (r : Next) → Steps row mask c r → (n j : ℕ) (d : Cursor) → r ≡ Item j d → AllBelow n (left row mask c) → (j < n) × AllBelow n (left row mask d)
 unfolding AllBelow
-step-below mask c r s n j d e a = rw (stepped mask c r j d e s .0) at a
+step-below row mask c r s n j d e a = rw (stepped row mask c r j d e s .0) at a

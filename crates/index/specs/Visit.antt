@@ -1,7 +1,7 @@
 -- SPDX-FileCopyrightText: 2026 The PPVM Authors
 -- SPDX-License-Identifier: Apache-2.0
 
--- Contracts between functions: the order of visits, the set bits of a mask of 4,096 from low to high.
+-- Contracts between functions: the order of visits, the set bits of a mask of so many lanes from low to high.
 use mathlib.Core.Bool.{cond}
 use mathlib.Core.List.{List, [], _∷_, _++_}
 use mathlib.Core.Path.{_≡_}
@@ -24,17 +24,17 @@ keep t [] = []
 keep t (j ∷ js) = cond (eqb (t j) 1) (j ∷ keep t js) (keep t js)
 
 -- the set bits of a mask at or above j
-unfoldable pub flagged : List ℕ → ℕ → List ℕ
-flagged mask j = keep (flag mask) (upFrom (4096 - j) j)
+unfoldable pub flagged : ℕ → List ℕ → ℕ → List ℕ
+flagged row mask j = keep (flag mask) (upFrom (row * 64 - j) j)
 
 -- the set bits that a cursor leaves to visit
-unfoldable pub left : List ℕ → Cursor → List ℕ
-left mask c = keep (λ j. bit (c .rest) (j - c .lane * 64)) (upFrom 64 (c .lane * 64)) ++ flagged mask (c .lane * 64 + 64)
+unfoldable pub left : ℕ → List ℕ → Cursor → List ℕ
+left row mask c = keep (λ j. bit (c .rest) (j - c .lane * 64)) (upFrom 64 (c .lane * 64)) ++ flagged row mask (c .lane * 64 + 64)
 
 -- a step: the first of those left, and a cursor that leaves the others
-abbrev pub Steps : List ℕ → Cursor → Next → Type 0
-Steps mask c (Item j d) = (left mask c ≡ j ∷ left mask d) × (j < 4096) × (d .lane < 64)
-Steps mask c Done = left mask c ≡ []
+abbrev pub Steps : ℕ → List ℕ → Cursor → Next → Type 0
+Steps row mask c (Item j d) = (left row mask c ≡ j ∷ left row mask d) × (j < row * 64) × (d .lane < row)
+Steps row mask c Done = left row mask c ≡ []
 
 -- each of a list is below n
 unfoldable pub AllBelow : ℕ → List ℕ → Type 0

@@ -49,7 +49,7 @@ module _ (h : Word) (x : Float) (p : Word) where
   phase-own : phase h p % 4 ≡ phase h p
   phase-own = omega (arith, phase-lt h p)
 
-  pub hamiltonian-apart : share h p ≡ false → own ≡ []
+  hamiltonian-apart : share h p ≡ false → own ≡ []
   unfolding termsOver
   hamiltonian-apart e = rw e
 
@@ -57,11 +57,39 @@ module _ (h : Word) (x : Float) (p : Word) where
   unfolding termsOver
   hamiltonian-meets e = rw (e, phase-own) (append-nil (factored floats pauli (phase h p) x (Words.mul h p)))
 
-  pub hamiltonian-none : share h p ≡ true → eq (factor (phase h p)) float0 ≡ true → own ≡ []
-  hamiltonian-none e f = hamiltonian-meets e ∙ factored-none x (Words.mul h p) (phase h p) f
+  -- words that commute, and so those that share no qubit
+  even-none : (n : ℕ) → n < 4 → eqb (n % 2) 1 ≡ false → eq (factor n) float0 ≡ true
+  unfolding eq neg ofBits
+  even-none zero l e = refl
+  even-none (suc zero) l e = absurd (false-true (sym e))
+  even-none (suc (suc zero)) l e = refl
+  even-none (suc (suc (suc zero))) l e = absurd (false-true (sym e))
+  even-none (suc (suc (suc (suc n)))) l e = absurd (omega arith)
 
-  pub hamiltonian-one : share h p ≡ true → eq (factor (phase h p)) float0 ≡ false → own ≡ record { num = realC floats (mul binary64 x (factor (phase h p))); word = Words.mul h p } ∷ []
-  hamiltonian-one e f = hamiltonian-meets e ∙ factored-one x (Words.mul h p) (phase h p) f
+  pub hamiltonian-none : antiCommute h p ≡ false → own ≡ []
+  unfolding antiCommute
+  hamiltonian-none e = go (share h p) refl
+    where
+      go : (s : Bool) → share h p ≡ s → own ≡ []
+      go false f = hamiltonian-apart f
+      go true f = hamiltonian-meets f ∙ factored-none x (Words.mul h p) (phase h p) (even-none (phase h p) (phase-lt h p) e)
+
+  -- those that do not
+  odd-one : (n : ℕ) → n < 4 → eqb (n % 2) 1 ≡ true → eq (factor n) float0 ≡ false
+  unfolding eq neg ofBits
+  odd-one zero l e = absurd (false-true e)
+  odd-one (suc zero) l e = refl
+  odd-one (suc (suc zero)) l e = absurd (false-true e)
+  odd-one (suc (suc (suc zero))) l e = refl
+  odd-one (suc (suc (suc (suc n)))) l e = absurd (omega arith)
+
+  pub hamiltonian-one : antiCommute h p ≡ true → own ≡ record { num = realC floats (mul binary64 x (factor (phase h p))); word = Words.mul h p } ∷ []
+  unfolding antiCommute
+  hamiltonian-one e = go (share h p) refl
+    where
+      go : (s : Bool) → share h p ≡ s → own ≡ record { num = realC floats (mul binary64 x (factor (phase h p))); word = Words.mul h p } ∷ []
+      go false f = absurd (false-true (sym (ap (λ (n : ℕ). eqb (n % 2) 1) (apart-phase h p f)) ∙ e))
+      go true f = hamiltonian-meets f ∙ factored-one x (Words.mul h p) (phase h p) (odd-one (phase h p) (phase-lt h p) e)
 
   -- the number that is put for it
   pub hamiltonian-number : (k : CommProduct) (z : Complex) → k ≡ commutator h p → cx z ≡ realC floats (mul binary64 x (k .eps))

@@ -15,10 +15,10 @@ ghost use Rattle.rule_terms.specs.Sums.{SumsRoom, PutsAll};
 use number::scalar::real;
 use sums::sums::Added;
 use sums::sums::put;
+use sums::sums::put_at;
 use word::algebra::anti_commutes;
 use word::algebra::comm_product;
 use word::word::Word;
-use word::word::shares_qubit;
 
 // A Hamiltonian term of word h and number x: x × factor onto h·p, where they share a qubit.
 pub fn put_hamiltonian(
@@ -33,23 +33,23 @@ pub fn put_hamiltonian(
     requires { ⌜ SumsRoom room len (now lanes) (now sums) ⌝ }
     ensures { λ r. ⌜ PutsAll room len (termsOver floats pauli (record { num = x; word = h } ∷ []) p) (now (lanes .entry)) (now (sums .entry)) (now (lanes .exit)) (now (sums .exit)) r ⌝ }
 {
-    if !shares_qubit(h, p) {
+    // Words that share no qubit commute.
+    if !anti_commutes(h, p) {
         return Added::Held(len);
     }
     let c = comm_product(h, p);
-    if c.eps == 0.0 {
-        return Added::Held(len);
-    }
     let w = c.word;
     put(lanes, sums, room, len, w, real(x * c.eps))
 }
 
-// One real term of word w, stored with its rate: −2 × rate onto p where they anticommute.
+// One real term of word w, stored with its rate: −2 × rate onto p where they anticommute. p may stand at
+// `at`.
 pub fn put_pauli(
     lanes: &mut [u64],
     sums: &mut [f64],
     room: usize,
     len: usize,
+    at: usize,
     w: Word,
     rate: f64,
     p: Word,
@@ -57,9 +57,8 @@ pub fn put_pauli(
     requires { ⌜ SumsRoom room len (now lanes) (now sums) ⌝ }
     ensures { λ r. ⌜ PutsAll room len (cond (share w p) (clashOver floats pauli (phase w p % 2) rate p) []) (now (lanes .entry)) (now (sums .entry)) (now (lanes .exit)) (now (sums .exit)) r ⌝ }
 {
-    // Words that share no qubit commute.
     if !anti_commutes(w, p) {
         return Added::Held(len);
     }
-    put(lanes, sums, room, len, p, real(-2.0 * rate))
+    put_at(lanes, sums, room, len, at, p, real(-2.0 * rate))
 }

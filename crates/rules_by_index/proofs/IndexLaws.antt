@@ -29,29 +29,29 @@ use Rattle.rules_by_index.specs.Near.{wordsOf, jumpWords, ModelIndexed}
 use Rattle.word.proofs.CountLaws.{items-length, items-next}
 
 -- ---- the turns of a loop over the items
-module _ (n : ℕ) (f : ℕ → List Word) where
-  pub items-start : (l : ℕ) → Indexed n (map f (upTo 0 0)) (replicate l 0)
+module _ (row n : ℕ) (f : ℕ → List Word) where
+  pub items-start : (l : ℕ) → Indexed row n (map f (upTo 0 0)) (replicate l 0)
   unfolding upTo
-  items-start l = none-indexed n l
+  items-start l = none-indexed row n l
 
-  pub items-marked : (j : ℕ) (index index′ : List ℕ) (W : List Word) → Indexed n (map f (upTo 0 j)) index → Marks n j W index index′ → W ≡ f j → Indexed n (map f (upTo 0 (j + 1))) index′
+  pub items-marked : (j : ℕ) (index index′ : List ℕ) (W : List Word) → Indexed row n (map f (upTo 0 j)) index → Marks row n j W index index′ → W ≡ f j → Indexed row n (map f (upTo 0 (j + 1))) index′
   items-marked j index index′ W x m e =
-      subst (λ (items : List (List Word)). Indexed n items index′) (ap (λ (w : List Word). map f (upTo 0 j) ++ (w ∷ [])) e ∙ sym (items-next f j))
-      (more-indexed n (map f (upTo 0 j)) W index index′ j (sym (items-length f j)) x m)
+      subst (λ (items : List (List Word)). Indexed row n items index′) (ap (λ (w : List Word). map f (upTo 0 j) ++ (w ∷ [])) e ∙ sym (items-next f j))
+      (more-indexed row n (map f (upTo 0 j)) W index index′ j (sym (items-length f j)) x m)
 
-  pub items-done : (j count : ℕ) (index : List ℕ) → Indexed n (map f (upTo 0 j)) index → j ≡ count → Indexed n (map f (upTo 0 count)) index
-  items-done j count index x e = subst (λ (i : ℕ). Indexed n (map f (upTo 0 i)) index) e x
+  pub items-done : (j count : ℕ) (index : List ℕ) → Indexed row n (map f (upTo 0 j)) index → j ≡ count → Indexed row n (map f (upTo 0 count)) index
+  items-done j count index x e = subst (λ (i : ℕ). Indexed row n (map f (upTo 0 i)) index) e x
 
 -- ---- the words of a range so far
-pub record RangeState (n j : ℕ) (lanes : List ℕ) (start end : ℕ) (index₀ index : List ℕ) (i : ℕ) : Type 0 where
+pub record RangeState (row n j : ℕ) (lanes : List ℕ) (start end : ℕ) (index₀ index : List ℕ) (i : ℕ) : Type 0 where
   pub low : start ≤ i
   pub high : i ≤ end
   pub long : length index ≡ length index₀
-  pub marks : Marks n j (take (i - start) (drop start (words lanes))) index₀ index
+  pub marks : Marks row n j (take (i - start) (drop start (words lanes))) index₀ index
 
-module _ (n j : ℕ) (lanes : List ℕ) (start end : ℕ) (index₀ : List ℕ) (order : start ≤ end) where
+module _ (row n j : ℕ) (lanes : List ℕ) (start end : ℕ) (index₀ : List ℕ) (order : start ≤ end) where
   abbrev State : List ℕ → ℕ → Type 0
-  State index i = RangeState n j lanes start end index₀ index i
+  State index i = RangeState row n j lanes start end index₀ index i
 
   pub range-start : State index₀ start
   range-start =
@@ -60,7 +60,7 @@ module _ (n j : ℕ) (lanes : List ℕ) (start end : ℕ) (index₀ : List ℕ) 
         low = omega arith;
         high = order;
         long = refl;
-        marks = subst (λ (k : ℕ). Marks n j (take k (drop start (words lanes))) index₀ index₀) (sym e) (none-marked n j index₀);
+        marks = subst (λ (k : ℕ). Marks row n j (take k (drop start (words lanes))) index₀ index₀) (sym e) (none-marked row n j index₀);
       }
 
   module _ (index : List ℕ) (i : ℕ) (s : State index i) where
@@ -72,18 +72,18 @@ module _ (n j : ℕ) (lanes : List ℕ) (start end : ℕ) (index₀ : List ℕ) 
         sym (ap (λ (m : ℕ). take m (drop start (words lanes))) e ∙ take-suc (drop start (words lanes)) (i - start) identity k
         ∙ ap (λ (w : Word). take (i - start) (drop start (words lanes)) ++ (w ∷ [])) (getD-drop start (words lanes) (i - start) identity ∙ ap (λ (m : ℕ). getD (words lanes) m identity) f))
 
-    pub range-next : i < end → wordLanes * end ≤ length lanes → (w : Word) → w ≡ getD (words lanes) i identity → (index′ : List ℕ) → length index′ ≡ length index → Marks n j (w ∷ []) index index′ → State index′ (i + 1)
+    pub range-next : i < end → wordLanes * end ≤ length lanes → (w : Word) → w ≡ getD (words lanes) i identity → (index′ : List ℕ) → length index′ ≡ length index → Marks row n j (w ∷ []) index index′ → State index′ (i + 1)
     range-next h long w e index′ l m =
         let W : List Word = take (i - start) (drop start (words lanes)) in
         record {
           low = omega (arith, s .low);
           high = omega arith;
           long = l ∙ s .long;
-          marks = subst (λ (X : List Word). Marks n j X index₀ index′) (ap (λ (v : Word). W ++ (v ∷ [])) e ∙ words-next (omega (arith, words-high lanes))) (more-marked n j W (w ∷ []) index₀ index index′ (s .marks) m);
+          marks = subst (λ (X : List Word). Marks row n j X index₀ index′) (ap (λ (v : Word). W ++ (v ∷ [])) e ∙ words-next (omega (arith, words-high lanes))) (more-marked row n j W (w ∷ []) index₀ index index′ (s .marks) m);
         }
 
-    pub range-done : end ≤ i → Marks n j (take (end - start) (drop start (words lanes))) index₀ index
-    range-done h = let e : i ≡ end = omega (arith, s .high) in subst (λ (k : ℕ). Marks n j (take (k - start) (drop start (words lanes))) index₀ index) e (s .marks)
+    pub range-done : end ≤ i → Marks row n j (take (end - start) (drop start (words lanes))) index₀ index
+    range-done h = let e : i ≡ end = omega (arith, s .high) in subst (λ (k : ℕ). Marks row n j (take (k - start) (drop start (words lanes))) index₀ index) e (s .marks)
 
 -- ---- a jump or a pair
 both : (a : Bool) {b : Bool} → (a && b) ≡ true → (a ≡ true) × (b ≡ true)
@@ -121,23 +121,23 @@ module _ (places : ℕ) (lanes : List ℕ) (long : wordLanes * places ≤ length
         let h : badJump places (Pair left right factors product) ≡ false = ap (badJump places) (sym e) ∙ good in
         range-inside right (both (inside places right) (both (inside places left) (not-false _ h) .1) .0)
 
-module _ (n j : ℕ) (lanes : List ℕ) (jump : Jump) (index : List ℕ) where
-  marks-same : (W : List Word) (J : Jump) (index′ : List ℕ) → W ≡ jumpWords lanes J → jump ≡ J → Marks n j W index index′ → Marks n j (jumpWords lanes jump) index index′
-  marks-same W J index′ e f m = subst (λ (X : List Word). Marks n j X index index′) (e ∙ ap (jumpWords lanes) (sym f)) m
+module _ (row n j : ℕ) (lanes : List ℕ) (jump : Jump) (index : List ℕ) where
+  marks-same : (W : List Word) (J : Jump) (index′ : List ℕ) → W ≡ jumpWords lanes J → jump ≡ J → Marks row n j W index index′ → Marks row n j (jumpWords lanes jump) index index′
+  marks-same W J index′ e f m = subst (λ (X : List Word). Marks row n j X index index′) (e ∙ ap (jumpWords lanes) (sym f)) m
 
-  pub term-marked : (rate : Float) (term : ℕ) → jump ≡ Pauli rate term → (w : Word) → w ≡ getD (words lanes) term identity → (index′ : List ℕ) → Marks n j (w ∷ []) index index′ → Marks n j (jumpWords lanes jump) index index′
+  pub term-marked : (rate : Float) (term : ℕ) → jump ≡ Pauli rate term → (w : Word) → w ≡ getD (words lanes) term identity → (index′ : List ℕ) → Marks row n j (w ∷ []) index index′ → Marks row n j (jumpWords lanes jump) index index′
   unfolding jumpWords
   term-marked rate term e w h index′ m = marks-same (w ∷ []) (Pauli rate term) index′ (ap (λ (v : Word). v ∷ []) h) e m
 
-  pub terms-marked : (rate : Float) (terms product : Range) → jump ≡ General rate terms product → (index′ : List ℕ) → Marks n j (wordsOf lanes terms) index index′ → Marks n j (jumpWords lanes jump) index index′
+  pub terms-marked : (rate : Float) (terms product : Range) → jump ≡ General rate terms product → (index′ : List ℕ) → Marks row n j (wordsOf lanes terms) index index′ → Marks row n j (jumpWords lanes jump) index index′
   unfolding jumpWords
   terms-marked rate terms product e index′ m = marks-same (wordsOf lanes terms) (General rate terms product) index′ refl e m
 
-  pub pair-marked : (left right : Range) (factors : ℕ) (product : Range) → jump ≡ Pair left right factors product → (index′ index″ : List ℕ) → Marks n j (wordsOf lanes left) index index′ → Marks n j (wordsOf lanes right) index′ index″ → Marks n j (jumpWords lanes jump) index index″
+  pub pair-marked : (left right : Range) (factors : ℕ) (product : Range) → jump ≡ Pair left right factors product → (index′ index″ : List ℕ) → Marks row n j (wordsOf lanes left) index index′ → Marks row n j (wordsOf lanes right) index′ index″ → Marks row n j (jumpWords lanes jump) index index″
   unfolding jumpWords
   pair-marked left right factors product e index′ index″ a b =
       marks-same (wordsOf lanes left ++ wordsOf lanes right) (Pair left right factors product) index″ refl e
-      (more-marked n j (wordsOf lanes left) (wordsOf lanes right) index index′ index″ a b)
+      (more-marked row n j (wordsOf lanes left) (wordsOf lanes right) index index′ index″ a b)
 
 -- ---- the whole model, by the four tables that count
 pub model-indexed : (m : Model) (t u : ModelTables) (hIndex jIndex : List ℕ) → t .hWords ≡ u .hWords → t .jumps ≡ u .jumps → t .rates ≡ u .rates → t .tWords ≡ u .tWords → ModelIndexed m u hIndex jIndex → ModelIndexed m t hIndex jIndex

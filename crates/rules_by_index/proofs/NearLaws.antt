@@ -3,9 +3,9 @@
 
 -- Items that share no qubit with p add nothing: what the visited items add is what all items add. Assumes nothing.
 use mathlib.Core.Path.{_≡_, refl, sym, ap, ap₂, _∙_, subst}
-use mathlib.Core.Bool.{Bool, true, false, cond, _&&_, _||_}
+use mathlib.Core.Bool.{Bool, true, false, cond, _&&_, _||_, false≢true}
 use mathlib.Core.List.{List, [], _∷_, _++_, map}
-use Prim.Native.Nat.{ℕ, zero, suc, _+_, _≤_, _<_}
+use Prim.Native.Nat.{ℕ, zero, suc, _+_, _*_, _≤_, _<_}
 use native.Mathlib.Omega.{arith}
 use lib.Dec.{eqb}
 use lib.Ieee.{Float}
@@ -20,7 +20,7 @@ use Rattle.number.specs.Numbers.{Cx}
 use Rattle.number.specs.Floats.{floats}
 use Rattle.gksl.specs.Rules.{overlapsOver, termsOver}
 use Rattle.gksl.specs.Words.{pauli}
-use Rattle.index.specs.Index.{flag, digit, sharesAny, Indexed, United}
+use Rattle.index.specs.Index.{rowLanes, flag, digit, sharesAny, Indexed, United}
 use Rattle.index.specs.Visit.{upFrom, keep, flagged, AllBelow}
 use Rattle.index.proofs.Sharing.{united-shares, flagged-items, flagged-below}
 use Rattle.sums.specs.Numbers.{complexes}
@@ -35,7 +35,7 @@ use Rattle.model.specs.declared.stored.Range.{Range}
 use Rattle.model.specs.declared.stored.Jump.{Jump}
 use Rattle.model.specs.declared.stored.Jump.the-variants.{Pauli, General, Pair}
 use Rattle.rule_terms.specs.Adds.{realAt, realsIn, jumpsIn, op, jumpAdds, pairAdds, gatherJumps}
-use Rattle.rules_by_index.specs.Near.{wordsOf, jumpWords, ModelIndexed}
+use Rattle.rules_by_index.specs.Near.{wordsOf, jumpWords, pairMet, ModelIndexed}
 use Rattle.rule_terms.specs.Sums.{PutsAll}
 use Rattle.rules_by_scan.proofs.ItemLaws.{each, realAdds, reals-each, jumps-each}
 use Rattle.word.specs.Count.{upTo}
@@ -55,23 +55,23 @@ digit-false : (b : Bool) → eqb (digit b) 1 ≡ false → b ≡ false
 digit-false true e = e
 digit-false false e = refl
 
-module _ (n count : ℕ) (p : Word) (f : ℕ → List Word) (index mask : List ℕ) (few : n ≤ maxQubits) (low : reaches p n ≡ false) (limit : count ≤ 4096)
-    (x : Indexed n (map f (upTo 0 count)) index) (u : United n p index mask) where
-  few-items : length (map f (upTo 0 count)) ≤ 4096
+module _ (row n count : ℕ) (p : Word) (f : ℕ → List Word) (index mask : List ℕ) (few : n ≤ maxQubits) (low : reaches p n ≡ false) (limit : count ≤ row * 64)
+    (x : Indexed row n (map f (upTo 0 count)) index) (u : United row n p index mask) where
+  few-items : length (map f (upTo 0 count)) ≤ row * 64
   few-items = rw (items-length f count) limit
 
-  items-below : AllBelow count (flagged mask 0)
-  items-below = subst (λ (k : ℕ). AllBelow k (flagged mask 0)) (items-length f count) (flagged-below n p few low (map f (upTo 0 count)) index mask x u few-items)
+  items-below : AllBelow count (flagged row mask 0)
+  items-below = subst (λ (k : ℕ). AllBelow k (flagged row mask 0)) (items-length f count) (flagged-below n p few low row (map f (upTo 0 count)) index mask x u few-items)
 
-  items-near : (g : ℕ → List Term) → ((j : ℕ) → sharesAny (f j) p ≡ false → g j ≡ []) → each g (flagged mask 0) ≡ each g (upTo 0 count)
+  items-near : (g : ℕ → List Term) → ((j : ℕ) → sharesAny (f j) p ≡ false → g j ≡ []) → each g (flagged row mask 0) ≡ each g (upTo 0 count)
   items-near g h =
-      ap (each g) (flagged-items n p few low (map f (upTo 0 count)) index mask x u few-items ∙ ap (λ (k : ℕ). keep (flag mask) (upFrom k 0)) (items-length f count))
+      ap (each g) (flagged-items n p few low row (map f (upTo 0 count)) index mask x u few-items ∙ ap (λ (k : ℕ). keep (flag mask) (upFrom k 0)) (items-length f count))
       ∙ each-keep g (flag mask) count 0 (λ j a b e. h j (apart j (omega arith) e))
     where
       apart : (j : ℕ) → j < count → eqb (flag mask j) 1 ≡ false → sharesAny (f j) p ≡ false
       apart j l e =
           digit-false (sharesAny (f j) p)
-          (ap (λ (i : ℕ). eqb i 1) (sym (united-shares n p few low (map f (upTo 0 count)) index mask x u j (omega arith) ∙ ap (λ (W : List Word). digit (sharesAny W p)) (items-at f count j [] l))) ∙ e)
+          (ap (λ (i : ℕ). eqb i 1) (sym (united-shares n p few low row (map f (upTo 0 count)) index mask x u j (omega arith) ∙ ap (λ (W : List Word). digit (sharesAny W p)) (items-at f count j [] l))) ∙ e)
 
 -- ---- an item none of whose words shares a qubit with p
 module _ (p : Word) where
@@ -124,6 +124,13 @@ module _ (p : Word) where
         same true = refl
         same false = refl
 
+-- ---- an entry before which and at which no pair is met
+pub no-pair : (p : Word) (t : ModelTables) (met : Bool) (jump : Jump) → pairMet met jump ≡ false → (met ≡ false) × (pairAdds p t jump ≡ [])
+unfolding pairAdds
+no-pair p t met (Pauli rate term) e = (e, refl)
+no-pair p t met (General rate terms product) e = (e, refl)
+no-pair p t met (Pair left right factors product) e = absurd (false≢true (sym e))
+
 -- ---- a model that stands, with its index
 puts-as : {room len : ℕ} {lanes : List ℕ} {sums : List Float} {lanes′ : List ℕ} {sums′ : List Float} {r : Added} → {A B : List Term} → A ≡ B → PutsAll room len A lanes sums lanes′ sums′ r → PutsAll room len B lanes sums lanes′ sums′ r
 puts-as {room} {len} {lanes} {sums} {lanes′} {sums′} {r} e g = subst (λ (T : List Term). PutsAll room len T lanes sums lanes′ sums′ r) e g
@@ -135,35 +142,32 @@ module _ (m : Model) (t : ModelTables) (p : Word) (hIndex jIndex : List ℕ) (s 
   abbrev entryWords : ℕ → List Word
   entryWords j = jumpWords (t .tWords) (jumpAt (t .jumps) (t .rates) j)
 
-  module _ (u : United (m .qubits) p hIndex mask) where
-    pub reals-below : AllBelow (m .hamiltonian) (flagged mask 0)
-    reals-below = items-below (m .qubits) (m .hamiltonian) p realWord hIndex mask (s .qubits) low (s .few-reals) (x .reals) u
+  module _ (row : ℕ) (e : row ≡ rowLanes (m .hamiltonian)) (u : United row (m .qubits) p hIndex mask) where
+    pub reals-below : AllBelow (m .hamiltonian) (flagged row mask 0)
+    reals-below = items-below row (m .qubits) (m .hamiltonian) p realWord hIndex mask (s .qubits) low (omega (arith, e)) (rw e (x .reals)) u
 
-    reals-near : termsOver floats pauli (map (realAt t) (flagged mask 0)) p ≡ termsOver floats pauli (realsIn m t) p
+    reals-near : termsOver floats pauli (map (realAt t) (flagged row mask 0)) p ≡ termsOver floats pauli (realsIn m t) p
     reals-near =
-        sym (reals-each t (t .hWords) (t .hCoeffs) p (flagged mask 0) refl refl)
-        ∙ items-near (m .qubits) (m .hamiltonian) p realWord hIndex mask (s .qubits) low (s .few-reals) (x .reals) u (realAdds (t .hWords) (t .hCoeffs) p) (λ i h. real-apart p (t .hWords) (t .hCoeffs) i h)
+        sym (reals-each t (t .hWords) (t .hCoeffs) p (flagged row mask 0) refl refl)
+        ∙ items-near row (m .qubits) (m .hamiltonian) p realWord hIndex mask (s .qubits) low (omega (arith, e)) (rw e (x .reals)) u (realAdds (t .hWords) (t .hCoeffs) p) (λ i h. real-apart p (t .hWords) (t .hCoeffs) i h)
         ∙ reals-each t (t .hWords) (t .hCoeffs) p (upTo 0 (m .hamiltonian)) refl refl
 
-    pub near-reals : {room len : ℕ} {lanes : List ℕ} {sums : List Float} {lanes′ : List ℕ} {sums′ : List Float} {r : Added} → PutsAll room len (termsOver floats pauli (map (realAt t) (flagged mask 0)) p) lanes sums lanes′ sums′ r
+    pub near-reals : {room len : ℕ} {lanes : List ℕ} {sums : List Float} {lanes′ : List ℕ} {sums′ : List Float} {r : Added} → PutsAll room len (termsOver floats pauli (map (realAt t) (flagged row mask 0)) p) lanes sums lanes′ sums′ r
         → PutsAll room len (termsOver floats pauli (realsIn m t) p) lanes sums lanes′ sums′ r
     near-reals g = puts-as reals-near g
 
-  module _ (u : United (m .qubits) p jIndex mask) where
-    pub jumps-below : AllBelow (m .jumps) (flagged mask 0)
-    jumps-below = items-below (m .qubits) (m .jumps) p entryWords jIndex mask (s .qubits) low (s .few-jumps) (x .jumps) u
+  module _ (row : ℕ) (e : row ≡ rowLanes (m .jumps)) (u : United row (m .qubits) p jIndex mask) where
+    pub jumps-below : AllBelow (m .jumps) (flagged row mask 0)
+    jumps-below = items-below row (m .qubits) (m .jumps) p entryWords jIndex mask (s .qubits) low (omega (arith, e)) (rw e (x .jumps)) u
 
     entries-near : (f : Jump → List Term) → ((j : Jump) → sharesAny (jumpWords (t .tWords) j) p ≡ false → f j ≡ [])
-        → gatherJumps f (map (jumpAt (t .jumps) (t .rates)) (flagged mask 0)) ≡ gatherJumps f (jumpsIn m t)
+        → gatherJumps f (map (jumpAt (t .jumps) (t .rates)) (flagged row mask 0)) ≡ gatherJumps f (jumpsIn m t)
     entries-near f h =
-        sym (jumps-each f f (λ j. refl) (t .jumps) (t .rates) (flagged mask 0))
-        ∙ items-near (m .qubits) (m .jumps) p entryWords jIndex mask (s .qubits) low (s .few-jumps) (x .jumps) u (λ k. f (jumpAt (t .jumps) (t .rates) k)) (λ j e. h (jumpAt (t .jumps) (t .rates) j) e)
+        sym (jumps-each f f (λ j. refl) (t .jumps) (t .rates) (flagged row mask 0))
+        ∙ items-near row (m .qubits) (m .jumps) p entryWords jIndex mask (s .qubits) low (omega (arith, e)) (rw e (x .jumps)) u (λ k. f (jumpAt (t .jumps) (t .rates) k)) (λ j e. h (jumpAt (t .jumps) (t .rates) j) e)
         ∙ jumps-each f f (λ j. refl) (t .jumps) (t .rates) (upTo 0 (m .jumps))
 
-    pub near-jumps : {room len : ℕ} {lanes : List ℕ} {sums : List Float} {lanes′ : List ℕ} {sums′ : List Float} {r : Added} → PutsAll room len (gatherJumps (jumpAdds p t) (map (jumpAt (t .jumps) (t .rates)) (flagged mask 0))) lanes sums lanes′ sums′ r
-        → PutsAll room len (gatherJumps (jumpAdds p t) (jumpsIn m t)) lanes sums lanes′ sums′ r
-    near-jumps g = puts-as (entries-near (jumpAdds p t) (jump-apart p t)) g
-
-    pub near-pairs : {room len : ℕ} {lanes : List ℕ} {sums : List Float} {lanes′ : List ℕ} {sums′ : List Float} {r : Added} → PutsAll room len (gatherJumps (pairAdds p t) (map (jumpAt (t .jumps) (t .rates)) (flagged mask 0))) lanes sums lanes′ sums′ r
-        → PutsAll room len (gatherJumps (pairAdds p t) (jumpsIn m t)) lanes sums lanes′ sums′ r
-    near-pairs g = puts-as (entries-near (pairAdds p t) (pair-apart p t)) g
+    pub near-entries : {room len : ℕ} {lanes : List ℕ} {sums : List Float} {lanes′ : List ℕ} {sums′ : List Float} {r : Added}
+        → PutsAll room len (gatherJumps (jumpAdds p t) (map (jumpAt (t .jumps) (t .rates)) (flagged row mask 0)) ++ gatherJumps (pairAdds p t) (map (jumpAt (t .jumps) (t .rates)) (flagged row mask 0))) lanes sums lanes′ sums′ r
+        → PutsAll room len (gatherJumps (jumpAdds p t) (jumpsIn m t) ++ gatherJumps (pairAdds p t) (jumpsIn m t)) lanes sums lanes′ sums′ r
+    near-entries g = puts-as (ap₂ (λ (A B : List Term). A ++ B) (entries-near (jumpAdds p t) (jump-apart p t)) (entries-near (pairAdds p t) (pair-apart p t))) g

@@ -2,17 +2,19 @@
 // SPDX-License-Identifier: Apache-2.0
 
 // The index of a model that passed its test: which Hamiltonian terms, and which jumps and pairs, have a
-// word that acts on a qubit. Each index has 64 lanes for each qubit.
+// word that acts on a qubit. Each index is lent 64 lanes for each qubit, and its rows have as many as its
+// items need.
 ghost use mathlib.Core.Path.{_≡_};
 ghost use mathlib.Core.Bool.{false};
 ghost use Prim.Native.Nat.{ℕ, _*_, _≤_, _<_};
 ghost use lib.ListN.{length};
 ghost use Rattle.word.specs.Flat.{wordLanes};
-ghost use Rattle.index.specs.Index.{Indexed, Marks};
+ghost use Rattle.index.specs.Index.{rowLanes, Indexed, Marks};
 ghost use Rattle.model.specs.Stored.{ModelTables, jumpAt};
 ghost use Rattle.model.specs.Tested.{badJump};
 ghost use Rattle.rules_by_index.specs.Near.{wordsOf, jumpWords, realItems, jumpItems, ModelIndexed};
 use index::mark_word;
+use index::row_lanes;
 use lent::clear::clear_lanes;
 use model::stored::Jump;
 use model::stored::Model;
@@ -21,35 +23,43 @@ use model::stored::jump_at;
 use word::flat::word_at;
 
 // Adds the words of a range of the terms table to item j.
-fn mark_range(index: &mut [u64], n: usize, j: usize, t_words: &[u64], range: Range)
-    requires { ⌜ (64 * n ≤ length (now index)) × (j < 4096) × (range .start ≤ range .end) × (wordLanes * range .end ≤ length (now «t_words»)) ⌝ }
-    ensures { λ _. ⌜ Marks n j (wordsOf (now («t_words» .entry)) range) (now (index .entry)) (now (index .exit)) ⌝ }
+fn mark_range(index: &mut [u64], row: usize, n: usize, j: usize, t_words: &[u64], range: Range)
+    requires { ⌜ (64 * n ≤ length (now index)) × (row ≤ 64) × (j < row * 64) × (range .start ≤ range .end) × (wordLanes * range .end ≤ length (now «t_words»)) ⌝ }
+    ensures { λ _. ⌜ Marks row n j (wordsOf (now («t_words» .entry)) range) (now (index .entry)) (now (index .exit)) ⌝ }
 {
     let end = range.end;
     let mut i = range.start;
     while i < end {
         let w = word_at(t_words, i);
-        mark_word(index, n, j, w);
+        mark_word(index, row, n, j, w);
         i += 1;
     }
 }
 
 // Adds the words of a jump or a pair, whose ranges lie inside a terms table of so many places.
-fn mark_jump(index: &mut [u64], n: usize, j: usize, jump: Jump, t_words: &[u64], places: usize)
-    requires { ⌜ (64 * n ≤ length (now index)) × (j < 4096) × (badJump places jump ≡ false) × (wordLanes * places ≤ length (now «t_words»)) ⌝ }
-    ensures { λ _. ⌜ Marks n j (jumpWords (now («t_words» .entry)) jump) (now (index .entry)) (now (index .exit)) ⌝ }
+fn mark_jump(
+    index: &mut [u64],
+    row: usize,
+    n: usize,
+    j: usize,
+    jump: Jump,
+    t_words: &[u64],
+    places: usize,
+)
+    requires { ⌜ (64 * n ≤ length (now index)) × (row ≤ 64) × (j < row * 64) × (badJump places jump ≡ false) × (wordLanes * places ≤ length (now «t_words»)) ⌝ }
+    ensures { λ _. ⌜ Marks row n j (jumpWords (now («t_words» .entry)) jump) (now (index .entry)) (now (index .exit)) ⌝ }
 {
     match jump {
         Jump::Pauli { rate: _, term } => {
             let w = word_at(t_words, term);
-            mark_word(index, n, j, w);
+            mark_word(index, row, n, j, w);
         }
         Jump::General {
             rate: _,
             terms,
             product: _,
         } => {
-            mark_range(index, n, j, t_words, terms);
+            mark_range(index, row, n, j, t_words, terms);
         }
         Jump::Pair {
             left,
@@ -57,8 +67,8 @@ fn mark_jump(index: &mut [u64], n: usize, j: usize, jump: Jump, t_words: &[u64],
             factors: _,
             product: _,
         } => {
-            mark_range(index, n, j, t_words, left);
-            mark_range(index, n, j, t_words, right);
+            mark_range(index, row, n, j, t_words, left);
+            mark_range(index, row, n, j, t_words, right);
         }
     }
 }
@@ -66,13 +76,14 @@ fn mark_jump(index: &mut [u64], n: usize, j: usize, jump: Jump, t_words: &[u64],
 // The index of the Hamiltonian terms.
 pub fn index_reals(index: &mut [u64], n: usize, h_words: &[u64], count: usize)
     requires { ⌜ (64 * n ≤ length (now index)) × (count ≤ 4096) × (wordLanes * count ≤ length (now «h_words»)) ⌝ }
-    ensures { λ _. ⌜ Indexed n (realItems (now («h_words» .entry)) count) (now (index .exit)) ⌝ }
+    ensures { λ _. ⌜ Indexed (rowLanes count) n (realItems (now («h_words» .entry)) count) (now (index .exit)) ⌝ }
 {
+    let row = row_lanes(count);
     clear_lanes(index);
     let mut i = 0;
     while i < count {
         let h = word_at(h_words, i);
-        mark_word(index, n, i, h);
+        mark_word(index, row, n, i, h);
         i += 1;
     }
 }
@@ -88,13 +99,14 @@ pub fn index_jumps(
     places: usize,
 )
     requires { ⌜ (64 * n ≤ length (now index)) × (count ≤ 4096) × (8 * count ≤ length (now jumps)) × (count ≤ length (now rates)) × (wordLanes * places ≤ length (now «t_words»)) × ((j : ℕ) → j < count → badJump places (jumpAt (now jumps) (now rates) j) ≡ false) ⌝ }
-    ensures { λ _. ⌜ Indexed n (jumpItems (now (jumps .entry)) (now (rates .entry)) (now («t_words» .entry)) count) (now (index .exit)) ⌝ }
+    ensures { λ _. ⌜ Indexed (rowLanes count) n (jumpItems (now (jumps .entry)) (now (rates .entry)) (now («t_words» .entry)) count) (now (index .exit)) ⌝ }
 {
+    let row = row_lanes(count);
     clear_lanes(index);
     let mut j = 0;
     while j < count {
         let jump = jump_at(jumps, rates, j);
-        mark_jump(index, n, j, jump, t_words, places);
+        mark_jump(index, row, n, j, jump, t_words, places);
         j += 1;
     }
 }

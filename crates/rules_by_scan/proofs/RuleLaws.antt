@@ -46,7 +46,7 @@ module _ (m : Model) (t : ModelTables) (p : Word) (room : ℕ) (lanes₀ : List 
       pub reals-room : SumsRoom room k₁ lanes₁ sums₁
       reals-room = puts-room room 0 lanes₀ sums₀ s lanes₁ sums₁ A k₁ r₁ g₁ e₁ l₁ n₁
 
-      rest-puts : (lanes′ : List ℕ) (sums′ : List Float) (r : Added) → PutsAll room k₁ (B ++ C) lanes₁ sums₁ lanes′ sums′ r → PutsAll room 0 (rulesStored m t p) lanes₀ sums₀ lanes′ sums′ r
+      pub rest-puts : (lanes′ : List ℕ) (sums′ : List Float) (r : Added) → PutsAll room k₁ (B ++ C) lanes₁ sums₁ lanes′ sums′ r → PutsAll room 0 (rulesStored m t p) lanes₀ sums₀ lanes′ sums′ r
       rest-puts lanes′ sums′ r h = all-puts lanes′ sums′ r (puts-more room 0 lanes₀ sums₀ s lanes₁ sums₁ A (B ++ C) k₁ r₁ g₁ e₁ lanes′ sums′ r h)
 
       -- ---- after the jumps

@@ -2,7 +2,8 @@
 // SPDX-License-Identifier: Apache-2.0
 
 // What a general jump adds for a word p, put to the sums of a lent table: the sandwiches of its terms,
-// then the words of L†L. Its terms, and those of L†L, stand in ranges of the terms table.
+// then the words of L†L. Its terms, and those of L†L, stand in ranges of the terms table. Many of these
+// words are p itself, which may stand at `at`, or at the place after it once another word is put in.
 ghost use mathlib.Core.Path.{_≡_};
 ghost use mathlib.Core.List.{List, map};
 ghost use Prim.Native.Nat.{_*_, _≤_, _<_};
@@ -26,7 +27,7 @@ use number::scalar::real;
 use rule_terms::terms::sandwich_term;
 use rule_terms::terms::sign_of;
 use sums::sums::Added;
-use sums::sums::put;
+use sums::sums::put_at;
 use word::algebra::pauli_mul;
 use word::flat::word_at;
 use word::word::Word;
@@ -56,6 +57,7 @@ fn put_sandwich_row(
     sums: &mut [f64],
     room: usize,
     len: usize,
+    at: usize,
     words: &[u64],
     numbers: &[f64],
     range: Range,
@@ -76,7 +78,7 @@ fn put_sandwich_row(
         let t = sandwich_term(a, left, b, rate);
         let w = t.word;
         let z = t.number;
-        let added = put(lanes, sums, room, count, w, z);
+        let added = put_at(lanes, sums, room, count, at, w, z);
         let Added::Held(m) = added else {
             return Added::Full;
         };
@@ -92,6 +94,7 @@ fn put_sandwiches(
     sums: &mut [f64],
     room: usize,
     len: usize,
+    at: usize,
     words: &[u64],
     numbers: &[f64],
     range: Range,
@@ -106,7 +109,19 @@ fn put_sandwiches(
     let mut i = range.start;
     while i < end {
         let a = term_at(words, numbers, i);
-        let added = put_sandwich_row(lanes, sums, room, count, words, numbers, range, a, rate, p);
+        let added = put_sandwich_row(
+            lanes,
+            sums,
+            room,
+            count,
+            at,
+            words,
+            numbers,
+            range,
+            a,
+            rate,
+            p,
+        );
         let Added::Held(m) = added else {
             return Added::Full;
         };
@@ -122,6 +137,7 @@ fn put_dampen_term(
     sums: &mut [f64],
     room: usize,
     len: usize,
+    at: usize,
     c: Term,
     rate: f64,
     p: Word,
@@ -137,7 +153,7 @@ fn put_dampen_term(
     }
     let w = product.word;
     let z = mul(neg(c.number), real(rate));
-    put(lanes, sums, room, len, w, mul(z, real(sign_of(phase))))
+    put_at(lanes, sums, room, len, at, w, mul(z, real(sign_of(phase))))
 }
 
 // The same for each term in `range`.
@@ -146,6 +162,7 @@ fn put_dampen(
     sums: &mut [f64],
     room: usize,
     len: usize,
+    at: usize,
     words: &[u64],
     numbers: &[f64],
     range: Range,
@@ -160,7 +177,7 @@ fn put_dampen(
     let mut i = range.start;
     while i < end {
         let c = term_at(words, numbers, i);
-        let added = put_dampen_term(lanes, sums, room, count, c, rate, p);
+        let added = put_dampen_term(lanes, sums, room, count, at, c, rate, p);
         let Added::Held(m) = added else {
             return Added::Full;
         };
@@ -177,6 +194,7 @@ pub fn put_general(
     sums: &mut [f64],
     room: usize,
     len: usize,
+    at: usize,
     words: &[u64],
     numbers: &[f64],
     rate: f64,
@@ -190,9 +208,9 @@ pub fn put_general(
     if !overlaps(words, terms, p) {
         return Added::Held(len);
     }
-    let added = put_sandwiches(lanes, sums, room, len, words, numbers, terms, rate, p);
+    let added = put_sandwiches(lanes, sums, room, len, at, words, numbers, terms, rate, p);
     let Added::Held(m) = added else {
         return Added::Full;
     };
-    put_dampen(lanes, sums, room, m, words, numbers, product, rate, p)
+    put_dampen(lanes, sums, room, m, at, words, numbers, product, rate, p)
 }

@@ -54,12 +54,14 @@ pub fn put_reals(
     Added::Held(held)
 }
 
-// One jump whose ranges lie inside a terms table of so many places. A pair adds nothing here.
+// One jump whose ranges lie inside a terms table of so many places, where p may stand at `at`. A pair adds
+// nothing here.
 pub fn put_jump(
     lanes: &mut [u64],
     sums: &mut [f64],
     room: usize,
     len: usize,
+    at: usize,
     jump: Jump,
     t_words: &[u64],
     t_numbers: &[f64],
@@ -72,7 +74,7 @@ pub fn put_jump(
     match jump {
         Jump::Pauli { rate, term } => {
             let w = word_at(t_words, term);
-            put_pauli(lanes, sums, room, len, w, rate, p)
+            put_pauli(lanes, sums, room, len, at, w, rate, p)
         }
         Jump::General {
             rate,
@@ -83,6 +85,7 @@ pub fn put_jump(
             sums,
             room,
             len,
+            at,
             t_words,
             t_numbers,
             rate,
@@ -120,7 +123,18 @@ pub fn put_jumps(
     let mut j = 0;
     while j < count {
         let jump = jump_at(jumps, rates, j);
-        let added = put_jump(lanes, sums, room, held, jump, t_words, t_numbers, places, p);
+        let added = put_jump(
+            lanes,
+            sums,
+            room,
+            held,
+            0,
+            jump,
+            t_words,
+            t_numbers,
+            places,
+            p,
+        );
         let Added::Held(m) = added else {
             return Added::Full;
         };

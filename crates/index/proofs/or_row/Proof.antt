@@ -12,10 +12,10 @@ use Rattle.index.proofs.or_row.Statement.{statement}
 use Rattle.index.proofs.or_row.Tie as tie
 
 abbrev Inv-loop : tie.InvT-loop
-Inv-loop mask₀ index at i₀ mask i = (i ≤ 64) × (length mask ≡ length mask₀) × Oring at index mask₀ mask i
+Inv-loop mask₀ row index at i₀ mask i = (i ≤ row) × (length mask ≡ length mask₀) × Oring at index mask₀ mask i
 
 abbrev μ-loop : tie.MeasureT-loop
-μ-loop mask₀ index at i₀ mask i = 64 - i
+μ-loop mask₀ row index at i₀ mask i = row - i
 
 loop-holds : tie.Need-loop-holds Inv-loop μ-loop
 loop-holds c = (search needs, refl, oring-start (c .args .at) (c .args .index .now) (c .args .mask .now))

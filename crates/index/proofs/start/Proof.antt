@@ -9,7 +9,7 @@ use Rattle.index.proofs.start.Statement.{statement}
 use Rattle.index.proofs.start.Tie as tie
 
 returns : tie.Need-returns
-returns c = (left-whole (c .before .args .mask .now) 0 (omega arith), omega arith)
+returns c = (left-whole (c .before .args .row) (c .before .args .mask .now) 0 (omega arith), omega arith)
 
 pub start-spec : {M : Type 1} → statement M
 start-spec = tie.close (tie.spec (λ c. search needs) returns)

@@ -17,10 +17,10 @@ use Rattle.index.proofs.step.Statement.{statement}
 use Rattle.index.proofs.step.Tie as tie
 
 abbrev Inv-loop : tie.InvT-loop
-Inv-loop mask lane₀ m₀ lane m = (lane < 64) × (m < 2 ^ 64) × (_≡_ {A = List ℕ} (left mask (cursor lane₀ m₀)) (left mask (cursor lane m)))
+Inv-loop mask row lane₀ m₀ lane m = (lane < row) × (m < 2 ^ 64) × (_≡_ {A = List ℕ} (left row mask (cursor lane₀ m₀)) (left row mask (cursor lane m)))
 
 abbrev μ-loop : tie.MeasureT-loop
-μ-loop mask lane₀ m₀ lane m = 64 - lane
+μ-loop mask row lane₀ m₀ lane m = row - lane
 
 loop-holds : tie.Need-loop-holds Inv-loop μ-loop
 loop-holds c = let f : Fits w64 (c .args .c .rest) = search needs in (omega arith, f .fits, refl)
@@ -28,14 +28,14 @@ loop-holds c = let f : Fits w64 (c .args .c .rest) = search needs in (omega arit
 returns : tie.Need-returns Inv-loop μ-loop
 returns c = let a = c .before .before .before .args in
     let s = c .before .before .loop in
-    step-done (a .mask .now) (a .c) (s .lane) (s .m) (s .inv .2) (c .before .loop-test .taken) (c .if1 .taken)
+    step-done (a .row) (a .mask .now) (a .c) (s .lane) (s .m) (s .inv .2) (c .before .loop-test .taken) (c .if1 .taken)
 
 loop-again : tie.Need-loop-again Inv-loop μ-loop
 loop-again c = let a = c .before .before .before .before .args in
     let s = c .before .before .before .loop in (
       omega arith,
       c .shared-slice-known .given (s .lane + 1) .fits,
-      step-turn (a .mask .now) (a .c) (s .lane) (s .m) (s .inv .2) (c .before .before .loop-test .taken) (omega arith),
+      step-turn (a .row) (a .mask .now) (a .c) (s .lane) (s .m) (s .inv .2) (c .before .before .loop-test .taken) (omega arith),
     )
 
 cast-j : tie.Need-cast-j Inv-loop μ-loop
@@ -47,7 +47,7 @@ add-j c = omega (arith, trailing-le 64 (c .before .loop .m))
 returns-2 : tie.Need-returns-2 Inv-loop μ-loop
 returns-2 c = let a = c .before .before .args in
     let s = c .before .loop in
-    step-item (a .mask .now) (a .c) (s .lane) (s .m) (s .inv .2) (trailingZeros 64 (s .m)) (lowest 64 (s .m) (omega arith) (omega arith)) (omega arith)
+    step-item (a .row) (a .mask .now) (a .c) (s .lane) (s .m) (s .inv .2) (trailingZeros 64 (s .m)) (lowest 64 (s .m) (omega arith) (omega arith)) (omega arith)
 
 pub step-spec : {M : Type 1} → statement M
 step-spec =

@@ -17,8 +17,8 @@ returns c =
     let a = s .args in
     puts-nothing (a .room) (a .len) (a .lanes .now) (a .sums .now) (s .pre) _ (pauli-none (a .w) (a .rate) (a .p) (sym (c .before .anti-commutes .ensures) ∙ not-true _ (c .if1 .taken)))
 
-put-requires : tie.Need-put-requires
-put-requires c κs = let h = c .before .before .before .before .before .before .before .pre in (h .lanes-long, h .sums-long, h .inside, h .rises)
+put-at-requires : tie.Need-put-at-requires
+put-at-requires c κs = let h = c .before .before .before .before .before .before .before .pre in (h .lanes-long, h .sums-long, h .inside, h .rises)
 
 returns-2 : tie.Need-returns-2
 returns-2 c =
@@ -27,7 +27,7 @@ returns-2 c =
     puts-single (a .room) (a .len) (a .lanes .now) (a .sums .now) (s .pre) _ _ _ _ _ _
     (pauli-one (a .w) (a .rate) (a .p) (sym (c .before .before .before .before .before .before .before .before .before .anti-commutes .ensures) ∙ not-false _ (c .before .before .before .before .before .before .before .before .if1 .left)))
     (onto-eq (c .before .before .before .before .before .real .ensures) refl)
-    (c .before .before .before .before .put .ensures)
+    (c .before .before .before .before .put-at .ensures)
 
 pub put-pauli-spec : {M : Type 1} → statement M
 put-pauli-spec =
@@ -36,7 +36,7 @@ put-pauli-spec =
     (λ c κs. search needs)
     returns
     (λ c κs. search needs)
-    put-requires
+    put-at-requires
     (λ c. search needs)
     (λ c. search needs)
     returns-2)

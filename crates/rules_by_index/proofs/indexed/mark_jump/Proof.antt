@@ -12,46 +12,46 @@ word-at-requires : tie.Need-word-at-requires
 word-at-requires c κs =
     let s = c .before .before .before .before .before in
     let a = s .args in
-    term-inside (a .places) (a .t-words .now) (s .pre .3) (a .jump) (s .pre .2) _ _ (c .before .jump .given .1)
+    term-inside (a .places) (a .t-words .now) (s .pre .4) (a .jump) (s .pre .3) _ _ (c .before .jump .given .1)
 
 mark-range-requires : tie.Need-mark-range-requires
 mark-range-requires c κs =
     let s = c .before .before .before .before .before .before in
     let a = s .args in
-    let r = terms-inside (a .places) (a .t-words .now) (s .pre .3) (a .jump) (s .pre .2) _ _ _ (c .before .before .jump2 .given .1) in
-    (s .pre .0, s .pre .1, r .0, r .1)
+    let r = terms-inside (a .places) (a .t-words .now) (s .pre .4) (a .jump) (s .pre .3) _ _ _ (c .before .before .jump2 .given .1) in
+    (s .pre .0, s .pre .1, s .pre .2, r .0, r .1)
 
 mark-range-requires-2 : tie.Need-mark-range-requires-2
 mark-range-requires-2 c κs =
     let s = c .before .before .before .before .before .before in
     let a = s .args in
-    let r = left-inside (a .places) (a .t-words .now) (s .pre .3) (a .jump) (s .pre .2) _ _ _ _ (c .before .before .jump3 .given .1) in
-    (s .pre .0, s .pre .1, r .0, r .1)
+    let r = left-inside (a .places) (a .t-words .now) (s .pre .4) (a .jump) (s .pre .3) _ _ _ _ (c .before .before .jump3 .given .1) in
+    (s .pre .0, s .pre .1, s .pre .2, r .0, r .1)
 
 mark-range-requires-3 : tie.Need-mark-range-requires-3
 mark-range-requires-3 c κs =
     let s = c .before .before .before .before .before .before .before .before .before .before in
     let a = s .args in
-    let r = right-inside (a .places) (a .t-words .now) (s .pre .3) (a .jump) (s .pre .2) _ _ _ _ (c .before .before .before .before .before .before .jump3 .given .1) in
-    (omega (arith, c .before .before .before .mark-range2 .kept .0, s .pre .0), s .pre .1, r .0, r .1)
+    let r = right-inside (a .places) (a .t-words .now) (s .pre .4) (a .jump) (s .pre .3) _ _ _ _ (c .before .before .before .before .before .before .jump3 .given .1) in
+    (omega (arith, c .before .before .before .mark-range2 .kept .0, s .pre .0), s .pre .1, s .pre .2, r .0, r .1)
 
 returns : tie.Need-returns
 returns c =
     let s = c .before .before .before .before .before .before .before .before .before .before in
     let a = s .args in
-    term-marked (a .n) (a .j) (a .t-words .now) (a .jump) (a .index .now) _ _ (c .before .before .before .before .before .before .jump .given .1) (c .before .before .before .before .word-at .result) (c .before .before .before .before .word-at .ensures) _ (c .before .before .mark-word .ensures)
+    term-marked (a .row) (a .n) (a .j) (a .t-words .now) (a .jump) (a .index .now) _ _ (c .before .before .before .before .before .before .jump .given .1) (c .before .before .before .before .word-at .result) (c .before .before .before .before .word-at .ensures) _ (c .before .before .mark-word .ensures)
 
 returns-2 : tie.Need-returns-2
 returns-2 c =
     let s = c .before .before .before .before .before .before .before .before .before in
     let a = s .args in
-    terms-marked (a .n) (a .j) (a .t-words .now) (a .jump) (a .index .now) _ _ _ (c .before .before .before .before .before .jump2 .given .1) _ (c .before .before .mark-range .ensures)
+    terms-marked (a .row) (a .n) (a .j) (a .t-words .now) (a .jump) (a .index .now) _ _ _ (c .before .before .before .before .before .jump2 .given .1) _ (c .before .before .mark-range .ensures)
 
 returns-3 : tie.Need-returns-3
 returns-3 c =
     let s = c .before .before .before .before .before .before .before .before .before .before .before .before .before in
     let a = s .args in
-    pair-marked (a .n) (a .j) (a .t-words .now) (a .jump) (a .index .now) _ _ _ _ (c .before .before .before .before .before .before .before .before .before .jump3 .given .1) _ _ (c .before .before .before .before .before .before .mark-range2 .ensures) (c .before .before .mark-range3 .ensures)
+    pair-marked (a .row) (a .n) (a .j) (a .t-words .now) (a .jump) (a .index .now) _ _ _ _ (c .before .before .before .before .before .before .before .before .before .jump3 .given .1) _ _ (c .before .before .before .before .before .before .mark-range2 .ensures) (c .before .before .mark-range3 .ensures)
 
 pub mark-jump-spec : {M : Type 1} → statement M
 mark-jump-spec =

@@ -10,26 +10,26 @@ use Rattle.rules_by_index.proofs.indexed.mark_range.Statement.{statemen
 use Rattle.rules_by_index.proofs.indexed.mark_range.Tie as tie
 
 abbrev Inv-loop : tie.InvT-loop
-Inv-loop index₀ n j t-words end i₀ index i = RangeState n j t-words i₀ end index₀ index i
+Inv-loop index₀ row n j t-words end i₀ index i = RangeState row n j t-words i₀ end index₀ index i
 
 abbrev μ-loop : tie.MeasureT-loop
-μ-loop index₀ n j t-words end i₀ index i = end - i
+μ-loop index₀ row n j t-words end i₀ index i = end - i
 
 loop-holds : tie.Need-loop-holds Inv-loop μ-loop
-loop-holds c = let a = c .before .before .args in range-start (a .n) (a .j) (a .t-words .now) (a .range .start) (a .range .end) (a .index .now) (c .before .before .pre .2)
+loop-holds c = let a = c .before .before .args in range-start (a .row) (a .n) (a .j) (a .t-words .now) (a .range .start) (a .range .end) (a .index .now) (c .before .before .pre .3)
 
 word-at-requires : tie.Need-word-at-requires Inv-loop μ-loop
-word-at-requires c κs = omega (arith, c .before .before .before .before .pre .3, c .loop-test .taken)
+word-at-requires c κs = omega (arith, c .before .before .before .before .pre .4, c .loop-test .taken)
 
 mark-word-requires : tie.Need-mark-word-requires Inv-loop μ-loop
-mark-word-requires c κs = (omega (arith, c .before .before .before .loop .inv .long, c .before .before .before .before .before .before .pre .0), c .before .before .before .before .before .before .pre .1)
+mark-word-requires c κs = (omega (arith, c .before .before .before .loop .inv .long, c .before .before .before .before .before .before .pre .0), c .before .before .before .before .before .before .pre .1, c .before .before .before .before .before .before .pre .2)
 
 loop-again : tie.Need-loop-again Inv-loop μ-loop
 loop-again c =
     let s = c .before .before .before .before .before .before .before .before .before in
     let a = s .args in
     let l = c .before .before .before .before .before .before .loop in
-    range-next (a .n) (a .j) (a .t-words .now) (a .range .start) (a .range .end) (a .index .now) (s .pre .2) (l .index) (l .i) (l .inv) (c .before .before .before .before .before .loop-test .taken) (s .pre .3)
+    range-next (a .row) (a .n) (a .j) (a .t-words .now) (a .range .start) (a .range .end) (a .index .now) (s .pre .3) (l .index) (l .i) (l .inv) (c .before .before .before .before .before .loop-test .taken) (s .pre .4)
     (c .before .before .before .before .word-at .result) (c .before .before .before .before .word-at .ensures) _ (c .before .before .mark-word .kept .0) (c .before .before .mark-word .ensures)
 
 same-length : tie.Need-same-length Inv-loop μ-loop
@@ -40,7 +40,7 @@ returns c =
     let s = c .before .before .before .before in
     let a = s .args in
     let l = c .before .loop in
-    range-done (a .n) (a .j) (a .t-words .now) (a .range .start) (a .range .end) (a .index .now) (s .pre .2) (l .index) (l .i) (l .inv) (c .loop-test .left)
+    range-done (a .row) (a .n) (a .j) (a .t-words .now) (a .range .start) (a .range .end) (a .index .now) (s .pre .3) (l .index) (l .i) (l .inv) (c .loop-test .left)
 
 pub mark-range-spec : {M : Type 1} → statement M
 mark-range-spec =

@@ -16,10 +16,10 @@ use Rattle.rules_by_scan.proofs.general.put_dampen.Statement.{statement
 use Rattle.rules_by_scan.proofs.general.put_dampen.Tie as tie
 
 abbrev Inv-loop : tie.InvT-loop
-Inv-loop lanes₀ sums₀ room len words numbers rate p end count₀ i₀ lanes sums count i = GatherState (dampen p rate) (range i₀ end) room len words numbers lanes₀ sums₀ lanes sums count i
+Inv-loop lanes₀ sums₀ room len at words numbers rate p end count₀ i₀ lanes sums count i = GatherState (dampen p rate) (range i₀ end) room len words numbers lanes₀ sums₀ lanes sums count i
 
 abbrev μ-loop : tie.MeasureT-loop
-μ-loop lanes₀ sums₀ room len words numbers rate p end count₀ i₀ lanes sums count i = end - i
+μ-loop lanes₀ sums₀ room len at words numbers rate p end count₀ i₀ lanes sums count i = end - i
 
 loop-holds : tie.Need-loop-holds Inv-loop μ-loop
 loop-holds c = let a = c .before .before .before .before .args in gather-start (dampen (a .p) (a .rate)) (a .range) (a .room) (a .len) (a .words .now) (a .numbers .now) (a .lanes .now) (a .sums .now) (c .before .before .before .before .pre .0) (c .before .before .before .before .pre .1)

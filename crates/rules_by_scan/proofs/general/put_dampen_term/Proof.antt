@@ -15,8 +15,8 @@ returns c =
     let a = s .args in
     puts-nothing (a .room) (a .len) (a .lanes .now) (a .sums .now) (s .pre) _ (dampen-none (a .p) (a .rate) (onto (a .c)) (c .before .pauli-mul .result) (c .before .pauli-mul .ensures) (c .if1 .taken))
 
-put-requires : tie.Need-put-requires
-put-requires c κs = let h = c .before .before .before .before .before .before .before .before .before .before .before .before .before .before .pre in (h .lanes-long, h .sums-long, h .inside, h .rises)
+put-at-requires : tie.Need-put-at-requires
+put-at-requires c κs = let h = c .before .before .before .before .before .before .before .before .before .before .before .before .before .before .pre in (h .lanes-long, h .sums-long, h .inside, h .rises)
 
 returns-2 : tie.Need-returns-2
 returns-2 c =
@@ -25,7 +25,7 @@ returns-2 c =
     puts-single (a .room) (a .len) (a .lanes .now) (a .sums .now) (s .pre) _ _ _ _ _ _ (dampen-one (a .p) (a .rate) (onto (a .c)) (c .before .before .before .before .before .before .before .before .before .before .before .before .before .before .before .pauli-mul .result) (c .before .before .before .before .before .before .before .before .before .before .before .before .before .before .before .pauli-mul .ensures) (c .before .before .before .before .before .before .before .before .before .before .before .before .before .before .if1 .left))
     (dampen-number (a .p) (a .rate) (onto (a .c)) (c .before .before .before .before .before .before .before .before .before .before .before .before .before .before .before .pauli-mul .result) (c .before .before .before .before .before .before .before .before .before .before .before .before .before .before .before .pauli-mul .ensures) (c .before .before .before .before .before .before .before .sign-of .result) (c .before .before .before .before .before .before .before .before .before .before .before .before .neg .result) (c .before .before .before .before .before .before .before .before .before .before .before .real .result) (c .before .before .before .before .before .before .before .before .before .before .mul .result) (c .before .before .before .before .before .before .real2 .result) (c .before .before .before .before .before .mul2 .result)
     (c .before .before .before .before .before .before .before .sign-of .ensures) (c .before .before .before .before .before .before .before .before .before .before .before .before .neg .ensures) (c .before .before .before .before .before .before .before .before .before .before .before .real .ensures) (c .before .before .before .before .before .before .before .before .before .before .mul .ensures) (c .before .before .before .before .before .before .real2 .ensures) (c .before .before .before .before .before .mul2 .ensures))
-    (c .before .before .before .before .put .ensures)
+    (c .before .before .before .before .put-at .ensures)
 
 pub put-dampen-term-spec : {M : Type 1} → statement M
 put-dampen-term-spec =
@@ -39,7 +39,7 @@ put-dampen-term-spec =
     (λ c κs. tt)
     (λ c κs. tt)
     (λ c κs. tt)
-    put-requires
-    (λ c. c .before .before .before .before .put .kept .0)
-    (λ c. c .before .before .before .before .put .kept .1 .0)
+    put-at-requires
+    (λ c. c .before .before .before .before .put-at .kept .0)
+    (λ c. c .before .before .before .before .put-at .kept .1 .0)
     returns-2)

@@ -19,10 +19,10 @@ use Rattle.rules_by_scan.proofs.general.put_sandwiches.Statement.{state
 use Rattle.rules_by_scan.proofs.general.put_sandwiches.Tie as tie
 
 abbrev Inv-loop : tie.InvT-loop
-Inv-loop lanes₀ sums₀ room len words numbers range₀ rate p end count₀ i₀ lanes sums count i = GatherState (λ (b : Term). map (sandwich p rate b) (termsOf words numbers range₀)) (range i₀ end) room len words numbers lanes₀ sums₀ lanes sums count i
+Inv-loop lanes₀ sums₀ room len at words numbers range₀ rate p end count₀ i₀ lanes sums count i = GatherState (λ (b : Term). map (sandwich p rate b) (termsOf words numbers range₀)) (range i₀ end) room len words numbers lanes₀ sums₀ lanes sums count i
 
 abbrev μ-loop : tie.MeasureT-loop
-μ-loop lanes₀ sums₀ room len words numbers range₀ rate p end count₀ i₀ lanes sums count i = end - i
+μ-loop lanes₀ sums₀ room len at words numbers range₀ rate p end count₀ i₀ lanes sums count i = end - i
 
 loop-holds : tie.Need-loop-holds Inv-loop μ-loop
 loop-holds c = let a = c .before .before .before .before .args in gather-start (λ (b : Term). map (sandwich (a .p) (a .rate) b) (termsOf (a .words .now) (a .numbers .now) (a .range))) (a .range) (a .room) (a .len) (a .words .now) (a .numbers .now) (a .lanes .now) (a .sums .now) (c .before .before .before .before .pre .0) (c .before .before .before .before .pre .1)
