@@ -40,9 +40,11 @@ use Rattle.action.specs.Acts.{listPlaces}
 use Rattle.action.specs.declared.act.Acted.the-variants.{Listed, Refused}
 use Rattle.lent.specs.Every.{Every}
 use Rattle.truncate.proofs.ThresholdLaws.{finite-number}
-use Rattle.passes.specs.Leaks.{wordsOf, sumsOf, passSize, passCount, above, isAbove}
-use Rattle.leakage.specs.Leakages.{Basis, Work, Out, Leaking, tauOf, limitTests, tauTests, workTests, entryTests, leakTests, listing, leakCourse, sumPlaces, candidatePlaces, leak, tested}
-use Rattle.leakage.specs.declared.limits.Limits.{Limits}
+use Rattle.passes.specs.Leaks.{wordsOf, sumsOf, passSize, passCount, above}
+use Rattle.limits.specs.Defaults.{isAbove}
+use Rattle.leakage.specs.Leakages.{Basis, Work, Out, Leaking, workTests, entryTests, leakTests, listing, leakCourse, sumPlaces, candidatePlaces, leak, tested}
+use Rattle.limits.specs.Defaults.{tauOf, limitTests, tauTests}
+use Rattle.limits.specs.declared.Limits.{Limits}
 use Rattle.leakage.proofs.GatherLaws.{leak-passed}
 use Rattle.order.specs.Members.{Member}
 use Rattle.leakage_laws.specs.Calls.{basisWords, basisCoeffs, roomOf, stayAfter, heldIn, listOf, RoomForAll, listedBy, LargestStay, LargerListed, SameBasis, Looser, TauFits, TauBelowZero, LosesNobody, ReachedOutside, ListsReached}

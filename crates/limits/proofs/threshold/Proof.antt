@@ -2,9 +2,9 @@
 -- SPDX-License-Identifier: Apache-2.0
 
 -- `limits::threshold` meets its contract. Assumes nothing.
-use Rattle.leakage.proofs.CheckLaws.{tau-zero, tau-given}
-use Rattle.leakage.proofs.limits.threshold.Statement.{statement}
-use Rattle.leakage.proofs.limits.threshold.Tie as tie
+use Rattle.limits.proofs.LimitLaws.{tau-zero, tau-given}
+use Rattle.limits.proofs.threshold.Statement.{statement}
+use Rattle.limits.proofs.threshold.Tie as tie
 
 returns : tie.Need-returns
 returns c = tau-zero (c .before .before .args .limits) (c .if1 .taken)
