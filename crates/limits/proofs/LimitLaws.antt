@@ -8,9 +8,9 @@ use Prim.Native.Nat.{ℕ, _≤_, _<_, max}
 use borrow.Author.Tests.{lt-ltb, le-ltb, eq-eqb, ne-eqb, not-true, not-false}
 use Rattle.refusal.specs.declared.Refusal.the-variants.{CountAboveLimit, NumberOutOfRange}
 use Rattle.refusal.specs.declared.Answer.the-variants.{Accepted, Refused}
-use Rattle.number.specs.Floats.{float0, isFinite}
+use Rattle.number.specs.Floats.{isFinite}
 use Rattle.lent.specs.Words.{maxWords}
-use Rattle.limits.specs.Defaults.{limitOf, tauOf, limitTests, tauTests}
+use Rattle.limits.specs.Defaults.{limitOf, absentTau, tauOf, limitTests, tauTests}
 use Rattle.limits.specs.declared.Limits.{Limits}
 
 module _ (l : Limits) where
@@ -53,9 +53,9 @@ module _ (l : Limits) where
   unfolding limitOf
   limit-raised e = rw (ne-eqb (l .«admit_given») 0 e)
 
-  pub tau-zero : l .«tau_given» ≡ 0 → float0 ≡ tauOf l
+  pub tau-default : l .«tau_given» ≡ 0 → absentTau ≡ tauOf l
   unfolding tauOf
-  tau-zero e = rw (eq-eqb (l .«tau_given») 0 e)
+  tau-default e = rw (eq-eqb (l .«tau_given») 0 e)
 
   pub tau-given : (l .«tau_given» ≡ 0 → ⊥) → l .«tau_add» ≡ tauOf l
   unfolding tauOf

@@ -43,12 +43,14 @@ pub fn word_room(limits: Limits, len: usize) -> usize
     room_left(limit, len)
 }
 
-// The threshold, 0 where it is absent.
+// The threshold where none is given, 2^-40: sums at rounding level are not listed.
+const ABSENT_TAU: f64 = 9.094947017729282379150390625e-13;
+
 pub fn threshold(limits: Limits) -> f64
     ensures { λ r. ⌜ r ≡ tauOf limits ⌝ }
 {
     if limits.tau_given == 0 {
-        return 0.0;
+        return ABSENT_TAU;
     }
     limits.tau_add
 }
