@@ -525,7 +525,7 @@ pebblelinen_kept pebblelinen_add_leakage_capped(
 
 /* What a run may take in. max_basis is a limit on words. admit_basis counts where admit_given is not 0,
  * and tau_add where tau_given is not 0; an absent admit_basis, or one below max_basis, is raised to
- * max_basis, and an absent tau_add is 0. */
+ * max_basis, and an absent tau_add is 2^-40: give 0 to list every sum that is not 0. */
 typedef struct {
     size_t max_basis;
     uint64_t admit_given;

@@ -161,7 +161,7 @@ def _parser() -> argparse.ArgumentParser:
         "--max-basis", type=int, required=True, metavar="N", help="room is what N leaves beside the basis"
     )
     made.add_argument("--admit-basis", type=int, metavar="N", help="counts instead where it is larger")
-    made.add_argument("--tau-add", type=float, metavar="X", help="list sums above X (default 0)")
+    made.add_argument("--tau-add", type=float, metavar="X", help="list sums above X (default 2^-40)")
 
     command(
         "generator",

@@ -9,20 +9,23 @@ from ._given import counted
 from ._showing import Table
 from .terms import Terms
 
+# What an absent tau_add means: sums at rounding level are not listed.
+TAU_ADD = 2.0**-40
+
 
 class Leakage(Terms):
     """The words that leak out of a basis, with their sums, in word order.
 
     room       how many words there was room for beside the basis: no more are listed
     entries    how many entries the basis had
-    tau_add    sums above it in magnitude were asked for
+    tau_add    sums above it in magnitude were asked for; 2^-40 where none was given
 
     A list that has as many words as there was room for says nothing about others: `full` is true, and others
     may leak too. Without room nothing can be listed, whatever leaks.
     """
 
     def __init__(
-        self, n: int, words: Any, values: Any, *, room: int, entries: int, tau_add: float = 0.0
+        self, n: int, words: Any, values: Any, *, room: int, entries: int, tau_add: float = TAU_ADD
     ) -> None:
         self.room = room
         self.entries = entries
@@ -47,7 +50,8 @@ class Leakage(Terms):
                 "no word could be listed for want of room: max_basis or admit_basis must be above"
                 f" {self.entries}, the entries of the basis"
             )
-        return f"no word leaks with a sum above {self.tau_add!r} in magnitude"
+        above = "2^-40" if self.tau_add == TAU_ADD else repr(self.tau_add)
+        return f"no word leaks with a sum above {above} in magnitude"
 
     def _shown_tables(self) -> Iterator[Table]:
         """In place of a table without rows, why there are none."""

@@ -19,7 +19,7 @@ from .basis import AnyWords, Basis, not_finite, refusal, too_short
 from .combining import summed
 from .errors import InputError, Refusal
 from .items import operator_text, row_text
-from .leakage import Leakage
+from .leakage import TAU_ADD, Leakage
 from .terms import AnyTerms, Terms
 from .words import (
     MAX_WORDS,
@@ -347,8 +347,8 @@ class Model(Shown, Sealed):
     ) -> Leakage:
         """What the model moves out of a basis, onto words neither in it nor protected: at most as many as
         there is room for below max_basis, or admit_basis where that is larger, and those larger than
-        tau_add in magnitude, in word order. It says the room: without room nothing is listed, whatever
-        leaks."""
+        tau_add in magnitude (2^-40 where none is given; give 0 for all that are not 0), in word order. It
+        says the room: without room nothing is listed, whatever leaks."""
         self._check(basis)
         limits = {"max_basis": _given.whole(max_basis, "max_basis", most=MAX_WORDS)}
         if admit_basis is not None:
@@ -359,7 +359,7 @@ class Model(Shown, Sealed):
             admit_basis is not None,
             limits.get("admit_basis", 0),
             tau_add is not None,
-            thresholds.get("tau_add", 0.0),
+            thresholds.get("tau_add", TAU_ADD),
         )
         fixed = table(protected, self.n, "protected")
         with basis._lock:

@@ -87,7 +87,7 @@ class Bases(unittest.TestCase):
             terms = model.leakage(
                 Basis(3, entries), max_basis=limit, tau_add=tau_add, protected=protected
             )
-            expected = leaked(model, entries, protected, max(limit - len(entries), 0), tau_add or 0)
+            expected = leaked(model, entries, protected, max(limit - len(entries), 0), 2.0**-40 if tau_add is None else tau_add)
             self.assertEqual([(word.text, value) for word, value in terms], expected)
 
     def test_leakage_limits(self):

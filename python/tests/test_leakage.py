@@ -42,9 +42,18 @@ class Lists(unittest.TestCase):
     def test_nothing_leaks(self):
         leaked = Model(2, {"XX": 1.0}).leakage(Basis(2, {"XX": 1.0}), max_basis=9)
         self.assertEqual((leaked.room, leaked.full, leaked.largest()), (8, False, 0.0))
-        self.assertEqual(str(leaked), "no word leaks with a sum above 0.0 in magnitude")
+        self.assertEqual(str(leaked), "no word leaks with a sum above 2^-40 in magnitude")
         leaked = MODEL.leakage(Basis(2, {"XY": 1.0}), max_basis=9, tau_add=5.0)
         self.assertEqual(str(leaked), "no word leaks with a sum above 5.0 in magnitude")
+
+    def test_an_absent_tau_add_is_strictly_above_2_to_the_minus_40(self):
+        model, tiny = Model(1, {"Z": 0.5}), 2.0**-40
+        for coefficient, listed in (tiny, 0), (-tiny, 0), (math.nextafter(tiny, 1), 1):
+            basis = Basis(1, {"X": coefficient})
+            self.assertEqual(len(model.leakage(basis, max_basis=2)), listed)
+            self.assertEqual(len(model.leakage(basis, max_basis=2, tau_add=tiny)), listed)
+            for given in 0, 0.0, -0.0:
+                self.assertEqual(len(model.leakage(basis, max_basis=2, tau_add=given)), 1)
 
     def test_no_basis(self):
         for max_basis in 0, 9:

@@ -21,7 +21,7 @@ use Rattle.in_use.specs.InUse.{SameModel}
 use Rattle.in_use.proofs.SameModels.{same-back, same-action}
 use Rattle.passes.specs.Leaks.{wordsOf}
 use Rattle.leakage.specs.Leakages as Leakage
-use Rattle.leakage.specs.declared.limits.Limits.{Limits}
+use Rattle.limits.specs.declared.Limits.{Limits}
 use Rattle.leakage_laws.specs.Calls.{basisWords, listedBy, TauBelowZero, RoomForAll}
 use Rattle.leakage_laws.proofs.CallLaws.{leakage-model, words-each, leakage-only-reached, leakage-reaches}
 use Rattle.generator.specs.Lent as Lent

@@ -24,7 +24,8 @@ use Rattle.candidates.specs.Log.{Rows, candidateRows}
 use Rattle.model.specs.declared.stored.Model.{Model}
 use Rattle.action.specs.declared.act.Acted.the-variants.{Listed}
 use Rattle.passes.specs.Leaks.{sumsOf, passSize, passCount}
-use Rattle.leakage.specs.Leakages.{Leaking, tauOf, leak}
+use Rattle.leakage.specs.Leakages.{Leaking, leak}
+use Rattle.limits.specs.Defaults.{tauOf}
 use Rattle.truncate_laws.proofs.LosesLaws.{number-of}
 use Rattle.order.specs.Members.{Member}
 use Rattle.leakage_laws.specs.Calls.{roomOf, stayAfter, heldIn, listOf, listedBy, SameBasis, Looser}

@@ -56,7 +56,8 @@ use Rattle.truncate.specs.declared.kept.Kept.the-variants as Kept
 use Rattle.candidates.specs.Log.{Rows}
 use Rattle.passes.specs.Leaks.{wordsOf, sumsOf, above}
 use Rattle.leakage.specs.Leakages as Leakage
-use Rattle.leakage.specs.declared.limits.Limits.{Limits}
+use Rattle.limits.specs.Defaults.{tauOf}
+use Rattle.limits.specs.declared.Limits.{Limits}
 use Rattle.columns.specs.Entries.{Entry}
 use Rattle.columns.specs.Columns.{generatorOf, generatorRoom}
 use Rattle.columns.specs.Stages.{answered}
@@ -302,7 +303,7 @@ module _ (outWords : List ℕ) (outValues : List Float) (w : Leakage.Work) where
 
   leak-kept : (m : Model) (t : ModelTables) (b : Leakage.Basis) (l : Limits) → SafeOut (Leakage.leak outWords outValues w m t b l .out)
   unfolding Leakage.leak
-  leak-kept m t b l = tested-out (Leakage.leakTests m t b l w) (Leakage.listing (Leakage.tauOf l) outWords outValues (Leakage.leakCourse m t b l w)) (listing-kept (Leakage.tauOf l) (Leakage.leakCourse m t b l w))
+  leak-kept m t b l = tested-out (Leakage.leakTests m t b l w) (Leakage.listing (tauOf l) outWords outValues (Leakage.leakCourse m t b l w)) (listing-kept (Leakage.tauOf l) (Leakage.leakCourse m t b l w))
 
 -- ---- the generator and the matrix by rows
 module _ (rows columns : List ℕ) (values : List Float) (w : Work) where

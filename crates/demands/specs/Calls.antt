@@ -23,7 +23,7 @@ use Rattle.action.specs.Acts.{act}
 use Rattle.truncate.specs.Prunes.{prune, cap}
 use Rattle.truncate.specs.Admissions.{admit}
 use Rattle.leakage.specs.Leakages as Leakage
-use Rattle.leakage.specs.declared.limits.Limits.{Limits}
+use Rattle.limits.specs.declared.Limits.{Limits}
 use Rattle.generator.specs.Lent as Generator
 use Rattle.generator.specs.Generators.{generate, buildCsr}
 use Rattle.csr.specs.Products.{multiply}

@@ -4,7 +4,7 @@
 // Leakage out of a basis of two words of two qubits, in tables of a few places, and printed word by word.
 use crate::actions::print_list;
 use crate::print;
-use leakage::limits::Limits;
+use limits::Limits;
 use model::stored::Model;
 use pebblelinen::actions::ListedWords;
 use word::flat::WORD_LANES;

@@ -3,13 +3,13 @@
 
 -- The tests of leakage, answer by answer; and what is known where they are passed. Assumes nothing.
 use mathlib.Core.Path.{_≡_}
-use mathlib.Core.Bool.{Bool, true, false, not}
-use Prim.Native.Nat.{ℕ, _*_, _/_, _≤_, _<_, max}
-use borrow.Author.Tests.{lt-ltb, le-ltb, eq-eqb, ne-eqb, not-true, not-false}
+use mathlib.Core.Bool.{true, false}
+use Prim.Native.Nat.{ℕ, _*_, _/_, _≤_, _<_}
+use borrow.Author.Tests.{lt-ltb, le-ltb}
 use lib.Dec.{eqb}
 use lib.ListN.{length}
 use Rattle.refusal.specs.declared.Refusal.{Refusal}
-use Rattle.refusal.specs.declared.Refusal.the-variants.{CountAboveLimit, LengthMismatch, NumberOutOfRange}
+use Rattle.refusal.specs.declared.Refusal.the-variants.{CountAboveLimit, LengthMismatch}
 use Rattle.refusal.specs.declared.Answer.{Answer}
 use Rattle.refusal.specs.declared.Answer.the-variants.{Accepted, Refused}
 use Rattle.word.specs.Flat.{wordLanes}
@@ -20,9 +20,9 @@ use Rattle.action.specs.Counts.{rowLanes}
 use Rattle.lent.specs.Tests.{lent, whereAny}
 use Rattle.lent.specs.Words.{maxWords, insideTo}
 use Rattle.lent.specs.Numbers.{finiteTo}
-use Rattle.number.specs.Floats.{float0, isFinite}
-use Rattle.leakage.specs.Leakages.{Basis, Work, limitOf, tauOf, limitTests, tauTests, workTests, entryTests, leakTests}
-use Rattle.leakage.specs.declared.limits.Limits.{Limits}
+use Rattle.limits.specs.Defaults.{limitTests, tauTests}
+use Rattle.limits.specs.declared.Limits.{Limits}
+use Rattle.leakage.specs.Leakages.{Basis, Work, workTests, entryTests, leakTests}
 
 -- ---- the tables whose lengths the input fixes
 module _ (rows row len slots h j k o he ne fh fn : ℕ) where
@@ -132,52 +132,3 @@ module _ (m : Model) (t : ModelTables) (b : Basis) (l : Limits) (w : Work) where
 pub entries-are : (n : ℕ) (b : Basis) {r : Answer} → insideTo (b .len) (b .lanes) n (insideTo (length (b .protected) / wordLanes) (b .protected) n (finiteTo 0 (b .len) (b .coeffs) Accepted)) ≡ r → entryTests n b ≡ r
 unfolding entryTests
 entries-are n b e = e
-
--- ---- limits
-module _ (l : Limits) where
-  pub basis-many : maxWords < l .«max_basis» → Refused (CountAboveLimit (l .«max_basis»)) ≡ limitTests l
-  unfolding limitTests
-  basis-many h = rw (lt-ltb maxWords (l .«max_basis») h)
-
-  module _ (h1 : l .«max_basis» ≤ maxWords) where
-    pub admit-absent : l .«admit_given» ≡ 0 → Accepted ≡ limitTests l
-    unfolding limitTests
-    admit-absent e = rw (le-ltb maxWords (l .«max_basis») h1, eq-eqb (l .«admit_given») 0 e)
-
-    module _ (h2 : l .«admit_given» ≡ 0 → ⊥) where
-      pub admit-many : maxWords < l .«admit_basis» → Refused (CountAboveLimit (l .«admit_basis»)) ≡ limitTests l
-      unfolding limitTests
-      admit-many h = rw (le-ltb maxWords (l .«max_basis») h1, ne-eqb (l .«admit_given») 0 h2, lt-ltb maxWords (l .«admit_basis») h)
-
-      pub limits-accepted : l .«admit_basis» ≤ maxWords → Accepted ≡ limitTests l
-      unfolding limitTests
-      limits-accepted h = rw (le-ltb maxWords (l .«max_basis») h1, ne-eqb (l .«admit_given») 0 h2, le-ltb maxWords (l .«admit_basis») h)
-
-  pub tau-absent : (count : ℕ) → l .«tau_given» ≡ 0 → Accepted ≡ tauTests count l
-  unfolding tauTests
-  tau-absent count e = rw (eq-eqb (l .«tau_given») 0 e)
-
-  module _ (count : ℕ) (h : l .«tau_given» ≡ 0 → ⊥) (finite : Bool) (is : finite ≡ isFinite (l .«tau_add»)) where
-    pub tau-bad : not finite ≡ true → Refused (NumberOutOfRange count) ≡ tauTests count l
-    unfolding tauTests
-    tau-bad f = rw (ne-eqb (l .«tau_given») 0 h, ← is, not-true finite f)
-
-    pub tau-accepted : not finite ≡ false → Accepted ≡ tauTests count l
-    unfolding tauTests
-    tau-accepted f = rw (ne-eqb (l .«tau_given») 0 h, ← is, not-false finite f)
-
-  pub limit-alone : l .«admit_given» ≡ 0 → l .«max_basis» ≡ limitOf l
-  unfolding limitOf
-  limit-alone e = rw (eq-eqb (l .«admit_given») 0 e)
-
-  pub limit-raised : (l .«admit_given» ≡ 0 → ⊥) → max (l .«max_basis») (l .«admit_basis») ≡ limitOf l
-  unfolding limitOf
-  limit-raised e = rw (ne-eqb (l .«admit_given») 0 e)
-
-  pub tau-zero : l .«tau_given» ≡ 0 → float0 ≡ tauOf l
-  unfolding tauOf
-  tau-zero e = rw (eq-eqb (l .«tau_given») 0 e)
-
-  pub tau-given : (l .«tau_given» ≡ 0 → ⊥) → l .«tau_add» ≡ tauOf l
-  unfolding tauOf
-  tau-given e = rw (ne-eqb (l .«tau_given») 0 e)

@@ -25,8 +25,9 @@ use Rattle.lent.specs.Words.{maxWords, outsideAt, insideTo}
 use Rattle.action.specs.Counts.{rowLanes}
 use Rattle.passes.specs.Between.{ActionRoom, Holding}
 use Rattle.leakage.specs.Between.{BasisLent, FixedLent}
-use Rattle.leakage.specs.Leakages.{Basis, Work, limitTests, workTests, entryTests, leakTests, actionPlaces, rowPlaces}
-use Rattle.leakage.specs.declared.limits.Limits.{Limits}
+use Rattle.leakage.specs.Leakages.{Basis, Work, workTests, entryTests, leakTests, actionPlaces, rowPlaces}
+use Rattle.limits.specs.Defaults.{limitTests}
+use Rattle.limits.specs.declared.Limits.{Limits}
 
 pub record Passed (m : Model) (t : ModelTables) (b : Basis) (w : Work) : Type 0 where
   pub model : testModel m t ≡ Accepted

@@ -28,8 +28,9 @@ use Rattle.model.specs.declared.stored.Model.{Model}
 use Rattle.rules_by_index.specs.Near.{ModelIndexed}
 use Rattle.passes.specs.Leaks.{passes, passCount, touchedAt, leaksAt, candidatesOf}
 use Rattle.passes.specs.declared.taken.Taken.{Taken}
-use Rattle.leakage.specs.Leakages.{Basis, Work, limitOf, leakCourse, sumPlaces, candidatePlaces}
-use Rattle.leakage.specs.declared.limits.Limits.{Limits}
+use Rattle.leakage.specs.Leakages.{Basis, Work, leakCourse, sumPlaces, candidatePlaces}
+use Rattle.limits.specs.Defaults.{limitOf}
+use Rattle.limits.specs.declared.Limits.{Limits}
 use Rattle.leakage.proofs.GatherLaws.{Passed}
 use Rattle.lent.specs.Between.{AllInside}
 use Rattle.passes.specs.Between.{ModelReady, BasisReady, Took}

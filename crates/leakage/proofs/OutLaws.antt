@@ -22,8 +22,9 @@ use Rattle.lent.specs.Laid.{laid}
 use Rattle.action.specs.Acts.{listPlaces}
 use Rattle.action.specs.declared.act.Acted.the-variants.{Listed, Refused}
 use Rattle.passes.specs.Leaks.{above, wordsOf, sumsOf}
-use Rattle.leakage.specs.Leakages.{Basis, Work, workOf, zeroed, Out, actionPlaces, rowPlaces, tauOf, leakTests, leakCourse, listing, leak}
-use Rattle.leakage.specs.declared.limits.Limits.{Limits}
+use Rattle.leakage.specs.Leakages.{Basis, Work, workOf, zeroed, Out, actionPlaces, rowPlaces, leakTests, leakCourse, listing, leak}
+use Rattle.limits.specs.Defaults.{tauOf}
+use Rattle.limits.specs.declared.Limits.{Limits}
 use Rattle.passes.specs.declared.taken.Taken.{Taken}
 use Rattle.passes.specs.declared.taken.Taken.the-variants as Steps
 use Rattle.passes.specs.Between.{Took}

@@ -1,8 +1,7 @@
 -- SPDX-FileCopyrightText: 2026 The PPVM Authors
 -- SPDX-License-Identifier: Apache-2.0
 
--- Leakage over a lent model, basis and protected list: limits and their defaults, refusals in their order, the answer, and every
--- lent table afterwards.
+-- Leakage over a lent model, basis and protected list: refusals in their order, the answer, and every lent table afterwards.
 use Prim.Native.Nat.{ℕ, _-_, _*_, _/_, min, max}
 use mathlib.Core.Bool.{cond}
 use mathlib.Core.List.{List, [], _∷_}
@@ -28,24 +27,9 @@ use Rattle.action.specs.Counts.{rowLanes}
 use Rattle.action.specs.declared.act.Acted.{Acted}
 use Rattle.action.specs.declared.act.Acted.the-variants.{Listed, Refused}
 use Rattle.passes.specs.Leaks.{candidatesOf, above, wordsOf, sumsOf}
-use Rattle.leakage.specs.declared.limits.Limits.{Limits}
+use Rattle.limits.specs.Defaults.{limitOf, tauOf, limitTests, tauTests}
+use Rattle.limits.specs.declared.Limits.{Limits}
 use Rattle.passes.specs.declared.taken.Taken.the-variants as Steps
-
--- ---- limits
--- an absent admit_basis means max_basis, and less than max_basis is raised to it
-unfoldable pub limitOf : Limits → ℕ
-limitOf l = cond (eqb (l .«admit_given») 0) (l .«max_basis») (max (l .«max_basis») (l .«admit_basis»))
-
--- an absent tau_add means 0
-unfoldable pub tauOf : Limits → Float
-tauOf l = cond (eqb (l .«tau_given») 0) float0 (l .«tau_add»)
-
--- 8 for a word limit, and 7 for a threshold, each where it is given
-unfoldable pub limitTests : Limits → Answer
-limitTests l = counted maxWords (l .«max_basis») (cond (eqb (l .«admit_given») 0) Tests.Accepted (counted maxWords (l .«admit_basis») Tests.Accepted))
-
-unfoldable pub tauTests : ℕ → Limits → Answer
-tauTests count l = cond (eqb (l .«tau_given») 0) Tests.Accepted (finiteThreshold count (l .«tau_add») Tests.Accepted)
 
 -- ---- what is lent
 -- the first len places of the words and coefficients are the basis

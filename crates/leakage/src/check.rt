@@ -7,51 +7,20 @@ ghost use Prim.Native.Nat.{_≤_};
 ghost use lib.ListN.{length};
 ghost use Rattle.word.specs.Word.{maxQubits};
 ghost use Rattle.model.specs.Between.{modelTables};
-ghost use Rattle.leakage.specs.Leakages.{limitTests, tauTests, workTests, leakTests, basisOf, Work};
-use crate::limits::Limits;
+ghost use Rattle.leakage.specs.Leakages.{workTests, leakTests, basisOf, Work};
 use action::words::ROW_LANES;
 use lent::tests::mismatch;
 use lent::tests::where_any;
 use lent::words::MAX_WORDS;
+use limits::Limits;
+use limits::check_limits;
+use limits::check_threshold;
 use model::stored::Model;
 use model::test::test_model;
-use number::scalar::is_finite;
 use refusal::Answer;
 use refusal::Refusal;
 use truncate::checks::check_entries;
 use word::flat::WORD_LANES;
-
-fn check_limits(limits: Limits) -> Answer
-    ensures { λ r. ⌜ r ≡ limitTests limits ⌝ }
-{
-    if MAX_WORDS < limits.max_basis {
-        return Answer::Refused(Refusal::CountAboveLimit {
-            count: limits.max_basis,
-        });
-    }
-    if limits.admit_given == 0 {
-        return Answer::Accepted;
-    }
-    if MAX_WORDS < limits.admit_basis {
-        return Answer::Refused(Refusal::CountAboveLimit {
-            count: limits.admit_basis,
-        });
-    }
-    Answer::Accepted
-}
-
-fn check_threshold(limits: Limits, count: usize) -> Answer
-    ensures { λ r. ⌜ r ≡ tauTests count limits ⌝ }
-{
-    if limits.tau_given == 0 {
-        return Answer::Accepted;
-    }
-    let finite = is_finite(limits.tau_add);
-    if !finite {
-        return Answer::Refused(Refusal::NumberOutOfRange { index: count });
-    }
-    Answer::Accepted
-}
 
 // The tables whose lengths the input fixes.
 fn check_work(

@@ -16,8 +16,9 @@ use Rattle.model.specs.declared.stored.Model.{Model}
 use Rattle.in_use.specs.InUse.{SameModel}
 use Rattle.in_use.proofs.SameModels.{same-action}
 use Rattle.passes.specs.Leaks.{outside, leaked, largest, passSize, passCount, above}
-use Rattle.leakage.specs.Leakages.{Basis, limitOf, tauOf}
-use Rattle.leakage.specs.declared.limits.Limits.{Limits}
+use Rattle.leakage.specs.Leakages.{Basis}
+use Rattle.limits.specs.Defaults.{limitOf, tauOf}
+use Rattle.limits.specs.declared.Limits.{Limits}
 use Rattle.leakage_laws.specs.Calls.{gathered, leaksOf, stayAfter, listOf, SameBasis}
 
 module _ (m : Model) (t t′ : ModelTables) (same : SameModel m t t′) (passes : testModel m t ≡ Accepted) (b b′ : Basis) (alike : SameBasis b b′) where

@@ -21,7 +21,8 @@ use Rattle.number.proofs.KeyLaws.{lt-key, magnitude-nonneg, magnitude-fits, mag
 use Rattle.keep.proofs.PruneLaws.{Number}
 use Rattle.truncate.proofs.ThresholdLaws.{finite-number}
 use Rattle.candidates.specs.Log.{Rows}
-use Rattle.passes.specs.Leaks.{sumsOf, above, isAbove}
+use Rattle.passes.specs.Leaks.{sumsOf, above}
+use Rattle.limits.specs.Defaults.{isAbove}
 
 -- ---- below 0 means below every number that is not negative
 some-pos : (m : ℕ) → (m ≡ 0 → ⊥) → 0 < m

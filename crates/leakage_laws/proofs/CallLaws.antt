@@ -6,12 +6,12 @@
 use mathlib.Core.Path.{_≡_, refl, sym, ap, ap₂, subst, _∙_}
 use mathlib.Core.Bool.{Bool, true, false, cond}
 use mathlib.Core.List.{List}
-use Prim.Native.Nat.{ℕ, zero, suc, _*_, _/_, _≤_, _<_}
+use Prim.Native.Nat.{ℕ, zero, suc, _*_, _/_, _^_, _≤_, _<_}
 use native.Mathlib.Omega.{arith}
 use borrow.Author.Tests.{ltb-true, ltb-false}
 use lib.Dec.{T, ltb, eqb}
-use lib.Ieee.{Float, nan, binary64, fits, lt, isNan, ofBits}
-use lib.Ieee.Bits.{ofBits-fits}
+use lib.Ieee.{Float, nan, binary64, fits, lt, isNan, round}
+use lib.Ieee.Fits.{round-fits}
 use lib.ListN.{length, getD, set}
 use lib.Seq.{length-take-le}
 use Rattle.refusal.specs.declared.Refusal.{Refusal}
@@ -40,9 +40,10 @@ use Rattle.action.specs.Acts.{listPlaces}
 use Rattle.action.specs.declared.act.Acted.the-variants.{Listed, Refused}
 use Rattle.lent.specs.Every.{Every}
 use Rattle.truncate.proofs.ThresholdLaws.{finite-number}
-use Rattle.passes.specs.Leaks.{wordsOf, sumsOf, passSize, passCount, above, isAbove}
-use Rattle.leakage.specs.Leakages.{Basis, Work, Out, Leaking, tauOf, limitTests, tauTests, workTests, entryTests, leakTests, listing, leakCourse, sumPlaces, candidatePlaces, leak, tested}
-use Rattle.leakage.specs.declared.limits.Limits.{Limits}
+use Rattle.passes.specs.Leaks.{wordsOf, sumsOf, passSize, passCount, above}
+use Rattle.leakage.specs.Leakages.{Basis, Work, Out, Leaking, workTests, entryTests, leakTests, listing, leakCourse, sumPlaces, candidatePlaces, leak, tested}
+use Rattle.limits.specs.Defaults.{absentTau, tauOf, isAbove, limitTests, tauTests}
+use Rattle.limits.specs.declared.Limits.{Limits}
 use Rattle.leakage.proofs.GatherLaws.{leak-passed}
 use Rattle.order.specs.Members.{Member}
 use Rattle.leakage_laws.specs.Calls.{basisWords, basisCoeffs, roomOf, stayAfter, heldIn, listOf, RoomForAll, listedBy, LargestStay, LargerListed, SameBasis, Looser, TauFits, TauBelowZero, LosesNobody, ReachedOutside, ListsReached}
@@ -180,8 +181,8 @@ tau-tested m t b l w e =
     let e7 = both (workTests (m .qubits) (b .len) count w) _ (e6 .1) in
     both (entryTests (m .qubits) b) _ (e7 .1) .1
 
-zero-number : Number float0
-zero-number = record { fits-f64 = ofBits-fits binary64 0; no-nan = unfold isNan ofBits in tt }
+absent-number : Number absentTau
+absent-number = record { fits-f64 = round-fits binary64 false 1 (2 ^ 40); no-nan = unfold isNan round in tt }
 
 tau-number : (count : ℕ) (l : Limits) → TauFits l → tauTests count l ≡ Tests.Accepted → Number (tauOf l)
 unfolding tauTests tauOf
@@ -191,8 +192,8 @@ tau-number count l f e = go (eqb (l .«tau_given») 0) e
     given true x y = record { fits-f64 = f; no-nan = finite-number (l .«tau_add») x }
     given false x y = let z : _≡_ {A = ℕ} 0 1 = cc in absurd (omega arith)
 
-    go : (a : Bool) → cond a Tests.Accepted (finiteThreshold count (l .«tau_add») Tests.Accepted) ≡ Tests.Accepted → Number (cond a float0 (l .«tau_add»))
-    go true x = zero-number
+    go : (a : Bool) → cond a Tests.Accepted (finiteThreshold count (l .«tau_add») Tests.Accepted) ≡ Tests.Accepted → Number (cond a absentTau (l .«tau_add»))
+    go true x = absent-number
     go false x = given (isFinite (l .«tau_add»)) refl x
 
 -- ---- tau_add is a threshold: what is listed is larger than what stayed in the last pass and is not

@@ -20,7 +20,7 @@ use Rattle.model.specs.declared.stored.Model.{Model}
 use Rattle.passes.specs.Leaks.{takenBy, largest, ended, passSize, passCount, passes, touchedAt, candidatesOf}
 use Rattle.passes.proofs.RoomLaws.{largest-count}
 use Rattle.leakage.specs.Leakages.{Basis}
-use Rattle.leakage.specs.declared.limits.Limits.{Limits}
+use Rattle.limits.specs.declared.Limits.{Limits}
 use Rattle.leakage_laws.specs.Calls.{basisWords, basisCoeffs, leaksOf, roomOf, passOf, stayAfter, heldIn, LargestStay}
 use Rattle.leakage_laws.proofs.KeepLaws.{roomFlags, flags-each, largest-flagged, largest-first, largest-fits, largest-rising, SumsFit, gathered-fits, gathered-rising, taken-same, no-rows, ended-finite, ended-compared}
 

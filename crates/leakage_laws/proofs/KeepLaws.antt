@@ -37,7 +37,8 @@ use Rattle.lent.specs.Numbers.{notFinite}
 use Rattle.truncate.specs.Admissions.{admitFlags}
 use Rattle.truncate.proofs.AdmissionLaws.{larger-first}
 use Rattle.truncate.proofs.ThresholdLaws.{finite-number, lower-lt}
-use Rattle.passes.specs.Leaks.{takenBy, sumsOf, largest, ended, isAbove, above}
+use Rattle.passes.specs.Leaks.{takenBy, sumsOf, largest, ended, above}
+use Rattle.limits.specs.Defaults.{isAbove}
 use Rattle.order.specs.Members.{Member}
 use Rattle.leakage_laws.specs.Calls.{gathered}
 use Rattle.order.specs.Between.{AllFinite}

@@ -36,10 +36,11 @@ use Rattle.model.specs.Terms.{Term}
 use Rattle.model.specs.declared.stored.Model.{Model}
 use Rattle.lent.specs.Every.{Every}
 use Rattle.action.specs.Acts.{actionOf}
-use Rattle.passes.specs.Leaks.{outside, leaked, wordsOf, largest, passSize, passCount, above, isAbove}
+use Rattle.passes.specs.Leaks.{outside, leaked, wordsOf, largest, passSize, passCount, above}
+use Rattle.limits.specs.Defaults.{isAbove}
 use Rattle.passes.proofs.RoomLaws.{largest-all}
 use Rattle.leakage.specs.Leakages.{Basis}
-use Rattle.leakage.specs.declared.limits.Limits.{Limits}
+use Rattle.limits.specs.declared.Limits.{Limits}
 use Rattle.order.specs.Members.{Member, Differ}
 use Rattle.leakage_laws.specs.Calls.{gathered, basisWords, basisCoeffs, leaksOf, roomOf, passOf, stayAfter, heldIn, ReachedOutside, RoomForAll}
 use Rattle.leakage_laws.proofs.KeepLaws.{roomFlags}

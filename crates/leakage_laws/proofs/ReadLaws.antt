@@ -35,9 +35,10 @@ use Rattle.lent.proofs.LaidLaws.{laid-length, set-here}
 use Rattle.model_laws.proofs.LaidLaws.{word-length, words-here}
 use Rattle.action.specs.Acts.{actionOf, listPlaces}
 use Rattle.action_laws.proofs.ListedWords.{Formed, OfFormed, listed-formed}
-use Rattle.passes.specs.Leaks.{outside, leaked, sumsOf, wordsOf, largest, above, isAbove}
+use Rattle.passes.specs.Leaks.{outside, leaked, sumsOf, wordsOf, largest, above}
+use Rattle.limits.specs.Defaults.{isAbove}
 use Rattle.leakage.specs.Leakages.{Basis}
-use Rattle.leakage.specs.declared.limits.Limits.{Limits}
+use Rattle.limits.specs.declared.Limits.{Limits}
 use Rattle.leakage_laws.specs.Calls.{gathered, basisWords, basisCoeffs, leaksOf, roomOf, passOf, stayAfter}
 use Rattle.leakage_laws.proofs.KeepLaws.{roomFlags}
 

@@ -26,8 +26,9 @@ use Rattle.model.specs.declared.stored.Model.{Model}
 use Rattle.lent.specs.Every.{Every}
 use Rattle.action.specs.Acts.{actionOf}
 use Rattle.passes.specs.Leaks.{outside, sumsOf, wordsOf, largest, passSize, passCount, above, leaksAt}
-use Rattle.leakage.specs.Leakages.{Basis, Leaking, limitOf, tauOf}
-use Rattle.leakage.specs.declared.limits.Limits.{Limits}
+use Rattle.leakage.specs.Leakages.{Basis, Leaking}
+use Rattle.limits.specs.Defaults.{limitOf, tauOf}
+use Rattle.limits.specs.declared.Limits.{Limits}
 use Rattle.order.specs.Members.{Member, Differ}
 
 -- ---- the passes

@@ -18,7 +18,8 @@ use Rattle.candidates.specs.Sums.{Row, row}
 use Rattle.candidates.specs.Log.{Rows, candidateRows}
 use Rattle.candidates.proofs.RowLaws.{noRow, table-long, table-at}
 use Rattle.lent.specs.Laid.{laid}
-use Rattle.passes.specs.Leaks.{isAbove, above, wordsOf, sumsOf}
+use Rattle.passes.specs.Leaks.{above, wordsOf, sumsOf}
+use Rattle.limits.specs.Defaults.{isAbove}
 use Rattle.passes.specs.Between.{Holding}
 
 module _ (tau : Float) (n : ℕ) (lanes : List ℕ) (sums : List Float) where

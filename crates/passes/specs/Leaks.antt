@@ -6,12 +6,12 @@ use Prim.Native.Nat.{ℕ, zero, suc, _+_, _/_}
 use mathlib.Core.Bool.{Bool, not, _&&_, cond}
 use mathlib.Core.List.{List, [], _∷_, map}
 use lib.Dec.{ltb}
-use lib.Ieee.{Float, nan, lt}
+use lib.Ieee.{Float, nan}
 use lib.ListN.{length, getD, take, drop, replicate}
 use Rattle.refusal.specs.declared.Refusal.the-variants.{TableFull, SumNotFinite}
 use Rattle.word.specs.Word.{identity}
 use Rattle.word.specs.declared.word.Word.{Word}
-use Rattle.number.specs.Floats.{floats, magnitude}
+use Rattle.number.specs.Floats.{floats}
 use Rattle.order.specs.Magnitudes.{byMagnitude}
 use Rattle.order.specs.Places.{isAmong}
 use Rattle.keep.specs.Retained.{pick}
@@ -27,6 +27,7 @@ use Rattle.action.specs.Acts.{actionOf}
 use Rattle.action.specs.Counts.{touchedBy}
 use Rattle.lent.specs.Tests.{firstTo}
 use Rattle.lent.specs.Numbers.{notFinite}
+use Rattle.limits.specs.Defaults.{isAbove}
 
 -- ---- one position
 -- neither in the basis nor protected
@@ -55,9 +56,6 @@ abbrev pub wordsOf : Rows → List Word
 wordsOf = map (λ (r : Row Word Float). r .word)
 
 -- those with magnitude > tau_add
-abbrev pub isAbove : Float → Float → Bool
-isAbove tau x = lt tau (magnitude x)
-
 unfoldable pub above : Float → Rows → Rows
 above tau [] = []
 above tau (r ∷ rs) = cond (isAbove tau (r .sum)) (r ∷ above tau rs) (above tau rs)

@@ -8,19 +8,11 @@ ghost use lib.ListN.{length, set};
 ghost use Rattle.word.specs.Flat.{layWord, wordLanes};
 ghost use Rattle.candidates.specs.Log.{candidateRows};
 ghost use Rattle.lent.specs.Laid.{laid};
-ghost use Rattle.passes.specs.Leaks.{isAbove, above, wordsOf, sumsOf};
-use number::scalar::magnitude;
+ghost use Rattle.passes.specs.Leaks.{above, wordsOf, sumsOf};
+use limits::is_above;
 use word::flat::set_word;
 use word::flat::word_at;
 ghost use Rattle.passes.specs.Between.{Holding};
-
-// Whether a sum is above the threshold in magnitude.
-fn is_above(x: f64, tau_add: f64) -> bool
-    ensures { λ r. ⌜ r ≡ isAbove «tau_add» x ⌝ }
-{
-    let size = magnitude(x);
-    tau_add < size
-}
 
 // How many of the first n candidates are listed.
 pub fn count_above(words: &[u64], sums: &[f64], n: usize, tau_add: f64) -> usize

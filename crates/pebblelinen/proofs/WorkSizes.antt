@@ -28,7 +28,7 @@ use Rattle.model.proofs.StandsLaws.{tested-stands}
 use Rattle.action.specs.Acts.{sumPlaces}
 use Rattle.action.specs.Counts.{rowLanes}
 use Rattle.leakage.specs.Leakages as Leak
-use Rattle.leakage.specs.declared.limits.Limits.{Limits}
+use Rattle.limits.specs.declared.Limits.{Limits}
 use Rattle.generator.specs.Lent as Gen
 use Rattle.norm.specs.Norms as Norm
 use Rattle.pebblelinen.specs.Leakages.{leakageSizes, maxPlaces}

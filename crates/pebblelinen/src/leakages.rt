@@ -8,11 +8,11 @@ ghost use Rattle.pebblelinen.specs.Leakages.{LeavesLeakage, leakageSizes
 use crate::actions::ListedWords;
 use crate::actions::listed_of;
 use action::words::ROW_LANES;
-use leakage::limits::Limits;
 use lent::sizes::larger;
 use lent::sizes::smaller;
 use lent::tests::where_any;
 use lent::words::MAX_WORDS;
+use limits::Limits;
 use model::stored::Model;
 use word::flat::WORD_LANES;
 use word::word::MAX_QUBITS;

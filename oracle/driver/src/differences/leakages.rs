@@ -23,7 +23,7 @@ struct Leak {
     basis: (Word, f64),
     protected: Vec<Word>,
     limit: usize,
-    tau_add: f64,
+    tau_add: Option<f64>,
 }
 
 impl Leak {
@@ -34,7 +34,7 @@ impl Leak {
             basis: (word_of(text.as_bytes()), 1.0),
             protected: Vec::new(),
             limit: 2,
-            tau_add: 0.0,
+            tau_add: Some(0.0),
         }
     }
 
@@ -47,8 +47,8 @@ impl Leak {
             protected: lanes_of(&self.protected),
             limits: Limits {
                 max_basis: self.limit,
-                tau_given: 1,
-                tau_add: self.tau_add,
+                tau_given: self.tau_add.is_some().into(),
+                tau_add: self.tau_add.unwrap_or_default(),
                 ..Limits::default()
             },
         };
@@ -70,7 +70,7 @@ impl Leak {
             &basis,
             &protected,
             self.limit,
-            self.tau_add,
+            self.tau_add.unwrap_or_default(),
         ))
     }
 
@@ -191,7 +191,12 @@ fn refusals() -> Vec<Case> {
         ..Leak::new(turn(), "X")
     };
     let nan = Leak {
-        tau_add: f64::NAN,
+        tau_add: Some(f64::NAN),
+        ..Leak::new(turn(), "X")
+    };
+    let tiny = |tau_add: Option<f64>| Leak {
+        basis: (word_of(b"X"), 2f64.powi(-40)),
+        tau_add,
         ..Leak::new(turn(), "X")
     };
     let alone = |leak: &Leak, places: [usize; 3]| [leak.by_port(places), CANNOT.into()];
@@ -231,6 +236,18 @@ fn refusals() -> Vec<Case> {
             input: "H 0.5 Z, basis X 1, limit 2, tau_add NaN",
             expected: ["7 (1)", "nothing"],
             found: nan.both(),
+        },
+        Case {
+            place: "absent tau_add",
+            input: "H 0.5 Z, basis X 2^−40, limit 2, tau_add absent",
+            expected: ["nothing", "Y −9.094947017729282e-13"],
+            found: tiny(None).both(),
+        },
+        Case {
+            place: "absent tau_add",
+            input: "the same, tau_add 0",
+            expected: ["Y −9.094947017729282e-13", "Y −9.094947017729282e-13"],
+            found: tiny(Some(0.0)).both(),
         },
     ]
 }

@@ -68,9 +68,10 @@ pub fn word_limit(limits: Limits) -> usize {
     }
 }
 
+/// An absent tau_add means 2^-40; the Rust is given the value.
 pub fn threshold(limits: Limits) -> f64 {
     match limits.tau_given {
-        0 => 0.0,
+        0 => 2f64.powi(-40),
         _ => limits.tau_add,
     }
 }

@@ -1,10 +1,10 @@
 -- SPDX-FileCopyrightText: 2026 The PPVM Authors
 -- SPDX-License-Identifier: Apache-2.0
 
--- `check::check_limits` meets its contract. Assumes nothing.
-use Rattle.leakage.proofs.CheckLaws.{basis-many, admit-absent, admit-many, limits-accepted}
-use Rattle.leakage.proofs.check.check_limits.Statement.{statement}
-use Rattle.leakage.proofs.check.check_limits.Tie as tie
+-- `limits::check_limits` meets its contract. Assumes nothing.
+use Rattle.limits.proofs.LimitLaws.{basis-many, admit-absent, admit-many, limits-accepted}
+use Rattle.limits.proofs.check_limits.Statement.{statement}
+use Rattle.limits.proofs.check_limits.Tie as tie
 
 returns : tie.Need-returns
 returns c = basis-many (c .before .before .args .limits) (c .if1 .taken)

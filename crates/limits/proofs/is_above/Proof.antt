@@ -1,10 +1,10 @@
 -- SPDX-FileCopyrightText: 2026 The PPVM Authors
 -- SPDX-License-Identifier: Apache-2.0
 
--- `list::is_above` meets its contract. Assumes nothing.
+-- `limits::is_above` meets its contract. Assumes nothing.
 use borrow.Author.Needs.{needs}
-use Rattle.passes.proofs.list.is_above.Statement.{statement}
-use Rattle.passes.proofs.list.is_above.Tie as tie
+use Rattle.limits.proofs.is_above.Statement.{statement}
+use Rattle.limits.proofs.is_above.Tie as tie
 
 returns : tie.Need-returns
 returns c = rw (c .magnitude .ensures)

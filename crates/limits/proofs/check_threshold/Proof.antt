@@ -1,11 +1,11 @@
 -- SPDX-FileCopyrightText: 2026 The PPVM Authors
 -- SPDX-License-Identifier: Apache-2.0
 
--- `check::check_threshold` meets its contract. Assumes nothing.
-use Rattle.leakage.proofs.CheckLaws.{tau-absent, tau-bad, tau-accepted}
+-- `limits::check_threshold` meets its contract. Assumes nothing.
+use Rattle.limits.proofs.LimitLaws.{tau-absent, tau-bad, tau-accepted}
 use borrow.Author.Needs.{needs}
-use Rattle.leakage.proofs.check.check_threshold.Statement.{statement}
-use Rattle.leakage.proofs.check.check_threshold.Tie as tie
+use Rattle.limits.proofs.check_threshold.Statement.{statement}
+use Rattle.limits.proofs.check_threshold.Tie as tie
 
 returns : tie.Need-returns
 returns c = tau-absent (c .before .before .args .limits) (c .before .before .args .count) (c .if1 .taken)

@@ -3,10 +3,10 @@
 
 -- `limits::word_limit` meets its contract. Assumes nothing.
 use mathlib.Core.Path.{_∙_}
-use Rattle.leakage.proofs.CheckLaws.{limit-alone, limit-raised}
+use Rattle.limits.proofs.LimitLaws.{limit-alone, limit-raised}
 use borrow.Author.Needs.{needs}
-use Rattle.leakage.proofs.limits.word_limit.Statement.{statement}
-use Rattle.leakage.proofs.limits.word_limit.Tie as tie
+use Rattle.limits.proofs.word_limit.Statement.{statement}
+use Rattle.limits.proofs.word_limit.Tie as tie
 
 returns : tie.Need-returns
 returns c = limit-alone (c .before .before .args .limits) (c .if1 .taken)

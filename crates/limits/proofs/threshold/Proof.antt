@@ -2,12 +2,14 @@
 -- SPDX-License-Identifier: Apache-2.0
 
 -- `limits::threshold` meets its contract. Assumes nothing.
-use Rattle.leakage.proofs.CheckLaws.{tau-zero, tau-given}
-use Rattle.leakage.proofs.limits.threshold.Statement.{statement}
-use Rattle.leakage.proofs.limits.threshold.Tie as tie
+use lib.Ieee.{ofBits, round}
+use Rattle.limits.proofs.LimitLaws.{tau-default, tau-given}
+use Rattle.limits.proofs.threshold.Statement.{statement}
+use Rattle.limits.proofs.threshold.Tie as tie
 
 returns : tie.Need-returns
-returns c = tau-zero (c .before .before .args .limits) (c .if1 .taken)
+unfolding ofBits round
+returns c = tau-default (c .before .before .args .limits) (c .if1 .taken)
 
 returns-2 : tie.Need-returns-2
 returns-2 c = tau-given (c .before .before .args .limits) (c .if1 .left)
