@@ -331,7 +331,7 @@ INDEX, MASK = 64 * MAX_QUBITS, 64
 
 def leakage(case: Case, matrix: bool = False) -> None:
     lent = lent_model(case, matrix)
-    runs, protected, *limits, tau_add, touched, held, listed_words = case.take(10)
+    runs, protected, *limits, tau_given, tau_add, touched, held, listed_words = case.take(10)
     words, coeffs = laid(case, runs)
     given = words, coeffs, len(coeffs) - 1, case.words(protected)
     # One of the tables of each sort has as many places as are recorded.
@@ -350,7 +350,8 @@ def leakage(case: Case, matrix: bool = False) -> None:
         *lanes(PLACES, PLACES, PLACES),  # place_order, place_work, place_kept
     ]
     out = [*lanes(WORD_LANES * listed_words), *reals(LIST)]
-    limited = _library.Limits(*limits, real(tau_add))
+    # An absent tau_add meant 0 when the answers were recorded: it is given here.
+    limited = _library.Limits(*limits, 1, real(tau_add) if tau_given else 0.0)
     listed = _library.call("leakage_with_prune", *lent, *given, limited, *work, *out)
     agree_list(case, listed, *out)
     check_work(listed.status, *work)
