@@ -485,9 +485,9 @@ fn known(rng: &mut Rng, tallies: &mut Tallies) {
 
     // A tie at the cut, where the Rust takes the first of its map: which one, its hash decides.
     Known {
-        hamiltonian: &[("ZII", 0.5), ("IZI", 0.5), ("IIZ", 0.5)],
-        basis: &[("XXX", 1.0)],
-        document: Ok(&[("YXX", -1.0)]),
+        hamiltonian: &[("ZI", 0.5), ("IZ", 0.5)],
+        basis: &[("XX", 1.0)],
+        document: Ok(&[("YX", -1.0)]),
         rust: None,
         ..one_word.clone()
     }

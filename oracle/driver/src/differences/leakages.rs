@@ -102,8 +102,8 @@ fn wide(letters: &[(usize, u8)]) -> String {
 }
 
 fn differing() -> Vec<Case> {
-    let three = [("ZII", 0.5), ("IZI", 0.5), ("IIZ", 0.5)];
-    let tie = Leak::new(standing(items(3, &three, &[])), "XXX");
+    let two = [("ZI", 0.5), ("IZ", 0.5)];
+    let tie = Leak::new(standing(items(2, &two, &[])), "XX");
     let large = Leak {
         basis: (word_of(b"X"), 1.5e308),
         ..Leak::new(standing(items(1, &[("Z", 1.0)], &[])), "X")
@@ -122,9 +122,9 @@ fn differing() -> Vec<Case> {
     vec![
         Case {
             place: "leakage, tie at the cut",
-            input: "H 0.5 (ZII + IZI + IIZ), basis XXX 1, limit 2",
-            expected: ["YXX −1", "another of the three words"],
-            found: [tie.by_port(ENOUGH), other_of_three(&tie.by_rust())],
+            input: "H 0.5 (ZI + IZ), basis XX 1, limit 2",
+            expected: ["YX −1", "the other of the two words"],
+            found: [tie.by_port(ENOUGH), other_of_two(&tie.by_rust())],
         },
         Case {
             place: "leakage, not finite",
@@ -148,12 +148,10 @@ fn differing() -> Vec<Case> {
 }
 
 /// Which one it is, the hash of the stand-in decides.
-fn other_of_three(leak: &[(Word, f64)]) -> String {
+fn other_of_two(leak: &[(Word, f64)]) -> String {
     match leak {
-        [(w, -1.0)] if [word_of(b"XYX"), word_of(b"XXY")].contains(w) => {
-            "another of the three words".into()
-        }
-        _ => list(3, leak),
+        [(w, -1.0)] if *w == word_of(b"XY") => "the other of the two words".into(),
+        _ => list(2, leak),
     }
 }
 
