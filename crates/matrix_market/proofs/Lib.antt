@@ -11,3 +11,4 @@ pub mod CountLaws
 pub mod HalfLaws
 pub mod WriteLaws
 pub mod NearestLaws
+pub mod ReadingLaws

@@ -27,7 +27,7 @@ abbrev pub readNatural : List ℕ → Read ℕ
 readNatural bs = readDigits 0 bs
 
 -- with the byte after it
-abbrev pub readField : List ℕ → Read ℕ
+unfoldable pub readField : List ℕ → Read ℕ
 readField bs = record { value = readNatural bs .value; rest = drop 1 (readNatural bs .rest) }
 
 unfoldable pub readWhole : List ℕ → Read ℤ
