@@ -6,8 +6,8 @@ use mathlib.Core.Path.{_≡_, refl, ap, sym, _∙_}
 use mathlib.Core.List.{List, [], _∷_, _++_}
 use Prim.Native.Nat.{ℕ, suc, _+_, _≤_, _<_}
 use native.Mathlib.Omega.{arith}
-use lib.ListN.{length, getD, drop, set, length-set, length-append, drop-of-length-le}
-use lib.Seq.{drop-cons}
+use lib.ListN.{length, getD, take, drop, set, length-set, length-append, drop-of-length-le}
+use lib.Seq.{drop-cons, sets, sets-eq, take-append-seam}
 use native.Mathlib.Numerals.{add-one}
 use Rattle.lent.specs.Laid.{laid}
 use Rattle.lent.proofs.LaidLaws.{laid-length}
@@ -55,3 +55,15 @@ module _ {A : Type 0} (d : A) (source : List A) where
   pub copy-end : (l : List A) (i : ℕ) → length source ≤ i → laid set i (drop i source) l ≡ l
   unfolding laid
   copy-end l i h = ap (λ (r : List A). laid set i r l) (drop-of-length-le source {i = i} h)
+
+-- ---- what was laid at the front stands there
+module _ {A : Type 0} where
+  stored : (k : ℕ) (bs l : List A) → laid set k bs l ≡ sets l k bs
+  unfolding laid
+  stored k [] l = refl
+  stored k (b ∷ bs) l = stored (suc k) bs (set l k b)
+
+  pub laid-front : (bs l : List A) → length bs ≤ length l → take (length bs) (laid set 0 bs l) ≡ bs
+  laid-front bs l h =
+      ap (take (length bs)) (stored 0 bs l ∙ sets-eq bs l 0 (omega arith))
+      ∙ take-append-seam bs (drop (0 + length bs) l)

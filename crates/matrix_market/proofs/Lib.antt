@@ -12,3 +12,4 @@ pub mod HalfLaws
 pub mod WriteLaws
 pub mod NearestLaws
 pub mod ReadingLaws
+pub mod TextLaws
