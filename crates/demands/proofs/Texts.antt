@@ -3,19 +3,15 @@
 
 -- The text of the generator determines every row, column and rounded value. Assumes nothing.
 use mathlib.Core.Path.{_≡_, sym, ap, _∙_}
-use mathlib.Core.List.{List, map}
-use Prim.Native.Nat.{ℕ}
+use mathlib.Core.List.{map}
 use lib.ListN.{take}
-use Rattle.generator_export.specs.Exports.{entryLine, exportGenerator}
+use Rattle.generator_export.specs.Exports.{entryLine}
 use Rattle.generator_export.proofs.TextLaws.{exported-text}
 use Rattle.matrix_market.specs.Text.{textOf}
-use Rattle.matrix_market.specs.declared.write.Written.{Written}
 use Rattle.matrix_market.specs.declared.write.Written.the-variants as Texts
 use Rattle.matrix_market.proofs.ReadingLaws.{text-determines}
-use Rattle.pebblelinen.specs.Markets.{writtenOf}
-use Rattle.pebblelinen.specs.declared.markets.WrittenText.{WrittenText}
 use Rattle.demands.specs.Calls.{Accepted, MarketCall}
-use Rattle.demands.specs.Requests.{entriesOf, TextDetermines, TextsDetermine}
+use Rattle.demands.specs.Requests.{entriesOf, TextsDetermine}
 use Rattle.demands.proofs.Accepts.{written-accepts}
 
 text-of : (c : MarketCall) → Accepted (c .answer .status) → take (c .answer .bytes) (c .text′) ≡ textOf (c .len) (map entryLine (entriesOf c))

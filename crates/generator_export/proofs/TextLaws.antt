@@ -3,20 +3,19 @@
 
 -- The text that a call wrote is that of the generator's entries; so it determines every row, column and rounded value. And how long it
 -- is at most. Assumes nothing.
-use mathlib.Core.Path.{_≡_, refl, sym, ap, _∙_}
+use mathlib.Core.Path.{_≡_, refl, ap, _∙_}
 use mathlib.Core.Bool.{Bool, true, false, cond}
 use mathlib.Core.List.{List, [], _∷_, _++_, map}
-use Prim.Native.Nat.{ℕ, zero, suc, _+_, _-_, _*_, _^_, _≤_, _<_}
+use Prim.Native.Nat.{ℕ, suc, _+_, _-_, _*_, _^_, _≤_, _<_}
 use native.Mathlib.Omega.{arith}
 use borrow.Author.Tests.{leb-false}
 use lib.Dec.{eqb}
 use lib.Ieee.{Float, nan, inf, fin}
 use lib.IntN.{natAbs}
-use lib.ListN.{length, getD, take, length-map, length-take}
+use lib.ListN.{length, take, length-map}
 use Rattle.refusal.specs.declared.Refusal.{Refusal}
 use Rattle.refusal.specs.declared.Answer.{Answer}
 use Rattle.refusal.specs.declared.Answer.the-variants as Tests
-use Rattle.word.specs.Flat.{words}
 use Rattle.word.specs.declared.word.Word.{Word}
 use Rattle.order.specs.Between.{All, AllBelow}
 use Rattle.order.proofs.Members.{all-append}
@@ -31,9 +30,8 @@ use Rattle.columns.proofs.GeneratorLaws.{rows-below}
 use Rattle.generator.specs.Lent.{Work, basisOf, generatorTests, stagePlaces}
 use Rattle.matrix_market.specs.Counts.{countOf, tooLarge}
 use Rattle.matrix_market.specs.Text.{Line, textOf}
-use Rattle.matrix_market.specs.Writes.{lineOf, linesOf, Writing, writes}
+use Rattle.matrix_market.specs.Writes.{linesOf, Writing}
 use Rattle.matrix_market.specs.declared.write.Written.the-variants as Texts
-use Rattle.matrix_market.proofs.ReadingLaws.{text-determines}
 use Rattle.matrix_market.proofs.TextLaws.{text-written, AllShort, text-short}
 use Rattle.generator_export.specs.Exports.{entryLine, entriesText, tested, textOver, exportGenerator}
 

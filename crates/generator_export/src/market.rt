@@ -100,14 +100,7 @@ fn market_tested(
     );
     clear_lanes(heads);
     clear_lanes(nexts);
-    let written = write_staged(
-        staged,
-        stage_rows,
-        stage_columns,
-        stage_values,
-        len,
-        text,
-    );
+    let written = write_staged(staged, stage_rows, stage_columns, stage_values, len, text);
     clear_entries(stage_rows, stage_columns, stage_values);
     written
 }

@@ -4,25 +4,20 @@
 -- Counts of 2^−32: too large exactly from 2^30 in magnitude on; and a value times 2^33 is exact, so that its whole part is the count in
 -- halves. Assumes nothing.
 use mathlib.Core.Path.{_≡_, refl, sym, ap, _∙_}
-use mathlib.Core.Bool.{Bool, true, false, not, _&&_, _||_, cond}
-use mathlib.Core.List.{List, _∷_}
-use Prim.Native.Nat.{ℕ, zero, suc, _+_, _-_, _*_, _/_, _%_, _^_, _≤_, _<_, min}
-use native.Mathlib.Nat.{le-div-iff-mul-le, div-lt-iff-lt-mul, add-div-right, div-div-eq-div-mul, mul-pos, zero-div, zero-mul, mul-one, one-mul, mul-assoc, mul-comm, mul-left-comm, mul-right-comm, mul-lt-mul-of-pos-right, add-mul, lt-of-mul-lt-mul-right, le-of-mul-le-mul-right, not-le-of-lt, min-eq-left}
+use mathlib.Core.Bool.{Bool, true, false, not, _&&_, cond}
+use Prim.Native.Nat.{ℕ, zero, suc, _+_, _-_, _*_, _/_, _%_, _^_, _≤_, _<_}
+use native.Mathlib.Nat.{le-div-iff-mul-le, div-lt-iff-lt-mul, add-div-right, div-div-eq-div-mul, mul-pos, zero-mul, mul-one, one-mul, mul-assoc, mul-comm, mul-left-comm, mul-lt-mul-of-pos-right, add-mul, lt-of-mul-lt-mul-right, not-le-of-lt}
 use native.Mathlib.Omega.{arith}
-use native.Mathlib.Decide.{decLt, decLe}
+use native.Mathlib.Decide.{decLt}
 use borrow.Author.Tests.{lt-ltb, le-ltb, lt-leb, le-leb, ltb-true, ltb-false}
-use lib.Dec.{T, lit≤, leb, ltb, eqb, ltb→lt, lt→ltb, le→leb, eqb→eq}
-use lib.IntN.{ℤ, pos, negsuc, natAbs}
+use lib.Dec.{T, lit≤, leb, ltb, eqb, ltb→lt}
+use lib.IntN.{ℤ, pos, negsuc}
 use lib.Pow.{pow-add, pow-pos, pow-lt, pow-mono}
-use lib.Ieee.{Float, nan, inf, fin, binary64, prec, low, emax, up, down, lt, neg, mul, round, fits, ofBits, toUnsigned}
+use lib.Ieee.{Float, nan, inf, fin, binary64, prec, low, emax, up, down, lt, round, fits}
 use lib.Ieee.Exact.{HasValue, round-exact}
 use lib.Ieee.Fits.{down-pos, and-l, and-r}
-use lib.Ieee.Nearest.{div-same}
-use Rattle.number.specs.Floats.{float0, magnitude}
-use Rattle.number.specs.Exact.{signed}
-use Rattle.number.specs.Key.{nonneg}
 use Rattle.number.proofs.Integers.{abs-signed}
-use Rattle.number.proofs.KeyLaws.{fits-down, magnitude-nonneg}
+use Rattle.number.proofs.KeyLaws.{fits-down}
 use Rattle.matrix_market.specs.Counts.{nearest, countOf, tooLarge}
 
 -- ---- the nearest count, by halves

@@ -4,18 +4,17 @@
 -- The count of a value in halves: the whole part of its magnitude times 2^33, which the cast may take; and the bytes of the count.
 -- Assumes nothing.
 use mathlib.Core.Path.{_≡_, refl, sym, ap, _∙_}
-use mathlib.Core.Bool.{Bool, true, false, not, _||_, cond}
-use mathlib.Core.List.{List, _∷_}
-use Prim.Native.Nat.{ℕ, zero, suc, _+_, _-_, _*_, _/_, _^_, _≤_, _<_, min}
+use mathlib.Core.Bool.{Bool, true, false, not, cond}
+use mathlib.Core.List.{_∷_}
+use Prim.Native.Nat.{ℕ, zero, suc, _+_, _-_, _*_, _/_, _^_, _≤_, _<_}
 use native.Mathlib.Nat.{div-lt-iff-lt-mul, mul-pos, zero-div, zero-mul, mul-one, mul-assoc, mul-comm, mul-left-comm, mul-lt-mul-of-pos-right, lt-of-mul-lt-mul-right, min-eq-left}
 use native.Mathlib.Omega.{arith}
-use borrow.Author.Tests.{lt-ltb, le-ltb, eqb-true, ltb-true, ltb-false}
-use lib.Dec.{T, ltb, eqb, ltb→lt, lt→ltb, eqb→eq}
-use lib.IntN.{ℤ, pos, negsuc, negℤ}
-use lib.Pow.{pow-pos}
+use borrow.Author.Tests.{lt-ltb, ltb-true, ltb-false}
+use lib.Dec.{T, ltb, lt→ltb, eqb→eq}
+use lib.IntN.{ℤ, pos}
 use lib.Ieee.{Float, nan, inf, fin, binary64, up, down, unlike, lt, neg, mul, round, fits, isNan, ofBits, toUnsigned}
 use lib.Ieee.Exact.{HasValue}
-use lib.Ieee.Fits.{up-pos, down-pos}
+use lib.Ieee.Fits.{down-pos}
 use lib.Ieee.Nearest.{div-same}
 use Rattle.number.specs.Floats.{float0, magnitude}
 use Rattle.number.specs.Exact.{signed}
@@ -23,8 +22,7 @@ use Rattle.number.specs.Key.{nonneg}
 use Rattle.number.proofs.KeyLaws.{magnitude-nonneg}
 use Rattle.matrix_market.specs.Counts.{nearest, countOf, tooLarge}
 use Rattle.matrix_market.specs.Text.{natural, whole, minus}
-use Rattle.matrix_market.specs.Between.{countText, Counts}
-use Rattle.matrix_market.specs.declared.count.Count.{Count}
+use Rattle.matrix_market.specs.Between.{Counts}
 use Rattle.matrix_market.proofs.CountLaws.{by-halves, small-value, small-count, product}
 
 -- ---- a value below 2^63 that is no negative number may be cast, and the cast gives its whole part

@@ -13,3 +13,4 @@ pub mod WriteLaws
 pub mod NearestLaws
 pub mod ReadingLaws
 pub mod TextLaws
+pub mod Examples

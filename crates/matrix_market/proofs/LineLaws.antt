@@ -3,7 +3,7 @@
 
 -- Lines and their lengths: the entry at a place is the next line, and there are as many lines as entries. Assumes nothing.
 use mathlib.Core.Path.{_≡_, refl, ap, sym, _∙_}
-use mathlib.Core.Bool.{Bool, true, false, not}
+use mathlib.Core.Bool.{true, false, not}
 use mathlib.Core.List.{List, [], _∷_, _++_}
 use Prim.Native.Nat.{ℕ, zero, suc, _+_, _≤_, _<_}
 use native.Mathlib.Numerals.{add-one}
@@ -14,7 +14,7 @@ use lib.Ieee.{Float, nan}
 use lib.ListN.{length, getD, take, drop, set, length-append, drop-of-length-le}
 use lib.Seq.{getD-take, length-take-le}
 use Rattle.lent.specs.Laid.{laid}
-use Rattle.matrix_market.specs.Text.{Line, newline, space, natural, whole, field, lineText, linesText, sizeLine, header, textOf}
+use Rattle.matrix_market.specs.Text.{Line, newline, space, natural, field, lineText, linesText, sizeLine, header, textOf}
 use Rattle.matrix_market.specs.Writes.{lineOf, linesOf}
 use Rattle.matrix_market.specs.Between.{countText, Counts}
 use Rattle.matrix_market.specs.declared.count.Count.{Count}

@@ -3,20 +3,20 @@
 
 -- The count written is the nearest to the exact value, and of two that are as near the one further from zero; it is too large exactly
 -- from 2^30 in magnitude on. Assumes nothing.
-use mathlib.Core.Path.{_≡_, refl, sym, ap, _∙_}
+use mathlib.Core.Path.{_≡_, refl, ap, _∙_}
 use mathlib.Core.Bool.{Bool, true, false}
-use Prim.Native.Nat.{ℕ, suc, _+_, _-_, _*_, _/_, _%_, _^_, _≤_, _<_}
+use Prim.Native.Nat.{ℕ, suc, _+_, _*_, _%_, _^_, _≤_, _<_}
 use native.Mathlib.Nat.{mod-lt, div-add-mod, mul-assoc, mul-comm, le-of-mul-le-mul-right, lt-of-mul-lt-mul-right, suc-mul}
 use native.Mathlib.Omega.{arith}
-use borrow.Author.Tests.{ltb-true, lt-ltb, le-ltb}
+use borrow.Author.Tests.{lt-ltb, le-ltb}
 use lib.Dec.{T}
-use lib.IntN.{ℤ, pos, natAbs}
-use lib.Ieee.{Float, nan, inf, fin, binary64, up, down, fits}
+use lib.IntN.{ℤ, natAbs}
+use lib.Ieee.{fin, binary64, up, down, fits}
 use lib.Ieee.Fits.{down-pos}
 use Rattle.number.specs.Exact.{signed}
 use Rattle.number.proofs.Integers.{abs-signed}
 use Rattle.matrix_market.specs.Counts.{nearest, countOf, tooLarge}
-use Rattle.matrix_market.proofs.CountLaws.{large-is, small-value}
+use Rattle.matrix_market.proofs.CountLaws.{large-is}
 
 -- ---- of num / den
 module _ (num den : ℕ) (D : 0 < den) where

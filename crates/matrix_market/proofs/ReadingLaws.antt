@@ -2,18 +2,18 @@
 -- SPDX-License-Identifier: Apache-2.0
 
 -- What is written is read back: numbers, lines, the whole text. So a text determines its size and every line. Assumes nothing.
-use mathlib.Core.Path.{_≡_, refl, sym, ap, ap₂, _∙_}
-use mathlib.Core.Bool.{Bool, true, false, _&&_, cond}
+use mathlib.Core.Path.{_≡_, refl, sym, ap, _∙_}
+use mathlib.Core.Bool.{true, false}
 use mathlib.Core.List.{List, [], _∷_, _++_, append-assoc}
 use Prim.Native.Nat.{ℕ, zero, suc, _+_, _*_, _-_, _/_, _%_, _≤_, _<_}
 use native.Mathlib.Omega.{arith}
 use native.Mathlib.Decide.{decLt}
-use borrow.Author.Tests.{lt-ltb, le-ltb, le-leb, lt-leb, ne-eqb}
-use lib.Dec.{ltb, leb, eqb}
+use borrow.Author.Tests.{le-leb, ne-eqb}
+use lib.Dec.{eqb}
 use lib.IntN.{ℤ, pos, negsuc, negℤ}
 use lib.ListN.{length, drop}
 use lib.Seq.{drop-append-seam}
-use Rattle.matrix_market.specs.Text.{Line, newline, space, minus, digit, digitsTo, natural, whole, field, lineText, linesText, sizeLine, header, textOf}
+use Rattle.matrix_market.specs.Text.{Line, newline, space, minus, digit, natural, whole, field, lineText, linesText, sizeLine, header, textOf}
 use Rattle.matrix_market.specs.Reading.{Read, isDigit, readDigits, readNatural, readField, readWhole, readLine, readLines, Matrix, readText}
 use Rattle.matrix_market.proofs.NaturalLaws.{natural-small, natural-more}
 

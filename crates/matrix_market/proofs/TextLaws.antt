@@ -4,28 +4,24 @@
 -- A text that was written is the text of the entries, and no longer than 49 bytes of header, 23 of a size line and 33 of each line, where
 -- rows, columns and entries are as few as there may be. So two writings that left the same text had the same entries, rounded. Assumes
 -- nothing.
-use mathlib.Core.Path.{_≡_, refl, sym, ap, _∙_}
-use mathlib.Core.Bool.{Bool, true, false, cond}
+use mathlib.Core.Path.{_≡_, refl, sym, _∙_}
 use mathlib.Core.List.{List, [], _∷_, _++_}
 use Prim.Native.Nat.{ℕ, suc, _+_, _*_, _^_, _≤_, _<_}
 use native.Mathlib.Omega.{arith}
-use borrow.Author.Tests.{ltb-false, le-ltb}
+use borrow.Author.Tests.{ltb-false}
 use lib.Dec.{ltb}
-use lib.Ieee.{Float, nan}
+use lib.Ieee.{Float}
 use lib.IntN.{ℤ, pos, negsuc, natAbs}
-use lib.ListN.{length, getD, take, set, length-append}
+use lib.ListN.{length, take, set, length-append}
 use Rattle.refusal.specs.declared.Refusal.{Refusal}
 use Rattle.refusal.specs.declared.Refusal.the-variants.{TableFull, WrittenCountTooLarge}
 use Rattle.refusal.specs.declared.Answer.{Answer}
 use Rattle.refusal.specs.declared.Answer.the-variants.{Accepted, Refused}
 use Rattle.lent.specs.Laid.{laid}
 use Rattle.lent.specs.Tests.{firstTo}
-use Rattle.lent.proofs.Firsts.{first-before}
 use Rattle.lent.proofs.Passed.{passed}
-use Rattle.matrix_market.specs.Counts.{countOf, tooLarge}
-use Rattle.matrix_market.specs.Text.{Line, space, newline, natural, whole, field, lineText, linesText, sizeLine, header, textOf}
-use Rattle.matrix_market.specs.Writes.{lineOf, linesOf, largeAt, countsWritten, textRoom, Writing, textAfter, writes}
-use Rattle.matrix_market.specs.declared.write.Written.{Written}
+use Rattle.matrix_market.specs.Text.{Line, space, newline, whole, field, lineText, linesText, sizeLine, header, textOf}
+use Rattle.matrix_market.specs.Writes.{linesOf, largeAt, countsWritten, textRoom, textAfter, writes}
 use Rattle.matrix_market.specs.declared.write.Written.the-variants as Texts
 use Rattle.matrix_market.proofs.NaturalLaws.{natural-short}
 use Rattle.matrix_market.proofs.LaidLaws.{laid-front}

@@ -4,11 +4,11 @@
 -- Contracts between functions: a count by its sign and size, and tables with places for so many entries.
 use Prim.Native.Nat.{ℕ, _<_, _≤_, _^_}
 use mathlib.Core.Path.{_≡_}
-use mathlib.Core.Bool.{Bool, false, cond}
+use mathlib.Core.Bool.{false, cond}
 use mathlib.Core.List.{List, _∷_}
 use lib.Ieee.{Float}
 use lib.ListN.{length}
-use Rattle.matrix_market.specs.Counts.{countOf, tooLarge}
+use Rattle.matrix_market.specs.Counts.{countOf}
 use Rattle.matrix_market.specs.Text.{natural, whole, minus}
 use Rattle.matrix_market.specs.Writes.{largeAt}
 use Rattle.matrix_market.specs.declared.count.Count.{Count}

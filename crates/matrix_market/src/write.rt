@@ -152,10 +152,7 @@ fn write_header(text: &mut [u8])
     requires { ⌜ length header ≤ length (now text) ⌝ }
     ensures { λ _. ⌜ now (text .exit) ≡ laid set 0 header (now (text .entry)) ⌝ }
 {
-    copy_bytes(
-        b"%%MatrixMarket matrix coordinate integer general\n",
-        text,
-    );
+    copy_bytes(b"%%MatrixMarket matrix coordinate integer general\n", text);
 }
 
 fn copy_bytes(from: &[u8], text: &mut [u8])

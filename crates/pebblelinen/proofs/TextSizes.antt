@@ -3,7 +3,7 @@
 
 -- The length that `marketText` names is enough: the text of the generator's entries, where none has a count that is too large, has no
 -- more bytes. Assumes nothing.
-use Prim.Native.Nat.{ℕ, _≤_, min}
+use Prim.Native.Nat.{ℕ, _≤_}
 use mathlib.Core.List.{List, map}
 use native.Mathlib.Omega.{arith}
 use lib.ListN.{length}

@@ -6,7 +6,6 @@ use lib.Dec.{T}
 use lib.Ieee.{binary64, fits, ofBits, neg}
 use Rattle.matrix_market.proofs.CountLaws.{inside-is, outside-is}
 use borrow.Author.Needs.{needs}
-use native.Mathlib.Omega.{arith}
 use Rattle.matrix_market.proofs.count.is_too_large.Statement.{statement}
 use Rattle.matrix_market.proofs.count.is_too_large.Tie as tie
 

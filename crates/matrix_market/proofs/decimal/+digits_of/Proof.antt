@@ -5,7 +5,6 @@
 use mathlib.Core.Path.{sym}
 use Prim.Native.Nat.{ℕ, _/_, _<_}
 use native.Mathlib.Omega.{arith}
-use borrow.Author.Needs.{needs}
 use borrow.Fn.Kinds.{In}
 use borrow.Fn.PlainCycle.{Measures, is, falls, and}
 use Rattle.matrix_market.proofs.NaturalLaws.{natural-length-small, natural-length-more, natural-64}

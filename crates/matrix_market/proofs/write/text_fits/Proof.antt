@@ -7,8 +7,7 @@ use Rattle.matrix_market.proofs.NaturalLaws.{natural-64}
 use Rattle.matrix_market.proofs.LineLaws.{size-long}
 use borrow.Author.Needs.{needs}
 use native.Mathlib.Omega.{arith}
-use Prim.Native.Nat.{_-_, _≤_, _+_}
-use mathlib.Core.Path.{_≡_, sym, _∙_}
+use Prim.Native.Nat.{_-_, _≤_}
 use Rattle.matrix_market.proofs.LineLaws as LL
 use Rattle.matrix_market.proofs.write.text_fits.Statement.{statement}
 use Rattle.matrix_market.proofs.write.text_fits.Tie as tie

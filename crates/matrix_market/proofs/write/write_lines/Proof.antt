@@ -5,8 +5,7 @@
 use Rattle.matrix_market.specs.Writes.{largeAt}
 use borrow.Author.Needs.{needs}
 use native.Mathlib.Omega.{arith}
-use Prim.Native.Nat.{_-_, _≤_, _+_}
-use mathlib.Core.Path.{_≡_, sym, _∙_}
+use Prim.Native.Nat.{_-_, _≤_}
 use Rattle.matrix_market.proofs.LineLaws as LL
 use Rattle.matrix_market.proofs.write.write_lines.Statement.{statement}
 use Rattle.matrix_market.proofs.write.write_lines.Tie as tie

@@ -3,7 +3,7 @@
 
 -- `write::write_text` meets its contract: header, size line and lines, one after another. Assumes nothing.
 use native.Mathlib.Omega.{arith}
-use mathlib.Core.Path.{_≡_, refl, sym, ap, _∙_}
+use mathlib.Core.Path.{_≡_, refl, ap, _∙_}
 use Prim.Native.Nat.{_+_, _≤_}
 use mathlib.Core.List.{List, _++_}
 use native.Mathlib.Nat.{zero-add}
