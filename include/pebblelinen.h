@@ -46,6 +46,7 @@ extern "C" {
  *   12   basis word again                        later position
  *   13   more places needed than lent            table        places lent
  *   14   leakage or product sum not finite       position
+ *   15   written count of 2^62 or more           entry, from 1
  */
 typedef struct {
     uint64_t refusal;
@@ -631,8 +632,8 @@ pebblelinen_listed pebblelinen_leakage_with_prune(
  * Rows and columns are positions, never qubits. Words that an action reaches outside the basis have
  * no row. */
 
-/* The lengths of the work tables of pebblelinen_generator and pebblelinen_build_csr, in lanes or
- * numbers. */
+/* The lengths of the work tables of pebblelinen_generator, pebblelinen_build_csr and
+ * pebblelinen_matrix_market, in lanes or numbers. */
 typedef struct {
     size_t h_index;
     size_t j_index;
@@ -709,6 +710,50 @@ pebblelinen_listed pebblelinen_build_csr(
     size_t stage_rows_len, uint32_t *stage_columns, size_t stage_columns_len,
     double *stage_values, size_t stage_values_len, uint64_t *offsets, size_t offsets_len,
     uint32_t *columns, size_t columns_len, double *values, size_t values_len);
+
+/* A text that was written, and its length in bytes. Where the status is a refusal, bytes is 0. */
+typedef struct {
+    pebblelinen_status status;
+    size_t bytes;
+} pebblelinen_written;
+
+/* A length of text that is enough for so many entries over any basis: 49 bytes for the header, 23 for
+ * the size line and 33 for each entry. So many entries as `entries` of pebblelinen_generator_sizes;
+ * more than 4,294,967,296 are taken for as many, since there never are more. */
+size_t pebblelinen_matrix_market_text(size_t entries);
+
+/* The entries of the generator as a text in the Matrix Market form `coordinate integer general`:
+ *
+ *   %%MatrixMarket matrix coordinate integer general
+ *   len len entries
+ *   row column count          for each entry, in the order of pebblelinen_generator
+ *
+ * Rows and columns are counted from 1. The count of an entry is its value in units of 2^-32, as the
+ * nearest whole number, halves away from zero; an entry that becomes 0 is written, as 0. Numbers have
+ * no leading zeros and no plus sign, a minus sign stands only before a number that is not 0, fields
+ * part by one space, and every line ends in a newline (byte 10).
+ *
+ * The model, the basis and the work tables are those of pebblelinen_generator, whose lengths
+ * pebblelinen_generator_sizes names; the places of table 3 are those of stage_rows, stage_columns and
+ * stage_values, which are work tables. The text stands in the first `bytes` bytes of `text`; the
+ * others stay as they were. Refusals, in this order:
+ *
+ *       those of pebblelinen_generator, 13 for tables 1 and 3 the last
+ *   15  (entry, from 1): the first whose count is 2^62 or more in magnitude; its value is 2^30 or more
+ *   13  (5, bytes lent): the text takes more bytes than `text` has
+ *
+ * A refusal leaves every byte of `text` as it was. After 13, 15 and acceptance the work tables are all
+ * zero; every other refusal changes nothing that was lent. */
+pebblelinen_written pebblelinen_matrix_market(
+    pebblelinen_model model, const uint64_t *h_words, size_t h_words_len, const double *h_coeffs,
+    size_t h_coeffs_len, const uint64_t *jumps, size_t jumps_len, const double *rates,
+    size_t rates_len, const uint64_t *t_words, size_t t_words_len, const double *t_numbers,
+    size_t t_numbers_len, const uint64_t *words, size_t words_len, size_t len, uint64_t *h_index,
+    size_t h_index_len, uint64_t *j_index, size_t j_index_len, uint64_t *mask, size_t mask_len,
+    uint64_t *heads, size_t heads_len, uint64_t *nexts, size_t nexts_len, uint64_t *work_words,
+    size_t work_words_len, double *work_sums, size_t work_sums_len, uint32_t *stage_rows,
+    size_t stage_rows_len, uint32_t *stage_columns, size_t stage_columns_len,
+    double *stage_values, size_t stage_values_len, uint8_t *text, size_t text_len);
 
 /* Where a row's entries stand in the columns and values of a matrix by rows: from start to before
  * end. Where the status is a refusal, both are 0. */

@@ -12,7 +12,11 @@ use Rattle.action.specs.declared.act.Acted.the-variants as Acted
 use Rattle.truncate.specs.declared.kept.Kept.{Kept}
 use Rattle.truncate.specs.declared.kept.Kept.the-variants as Kept
 use Rattle.pebblelinen.specs.Actions.{listedOf}
+use Rattle.matrix_market.specs.declared.write.Written.{Written}
+use Rattle.matrix_market.specs.declared.write.Written.the-variants as Texts
 use Rattle.pebblelinen.specs.Bases.{keptOf}
+use Rattle.pebblelinen.specs.Markets.{writtenOf}
+use Rattle.pebblelinen.specs.declared.markets.WrittenText.{WrittenText}
 use Rattle.pebblelinen.specs.declared.actions.ListedWords.{ListedWords}
 use Rattle.pebblelinen.specs.declared.bases.KeptEntries.{KeptEntries}
 use Rattle.demands.specs.Calls.{Accepted}
@@ -43,3 +47,7 @@ kept-accepts (Kept.Refused q) r e h = absurd (numbered q (sym (ap (λ (x : KeptE
 pub acted-accepts : (a : Acted) (r : ListedWords) → r ≡ listedOf a → Accepted (r .status) → a ≡ Acted.Listed (r .count)
 acted-accepts (Acted.Listed n) r e h = ap Acted.Listed (sym (ap (λ (x : ListedWords). x .count) e))
 acted-accepts (Acted.Refused q) r e h = absurd (numbered q (sym (ap (λ (x : ListedWords). x .status .refusal) e) ∙ h))
+
+pub written-accepts : (a : Written) (r : WrittenText) → r ≡ writtenOf a → Accepted (r .status) → a ≡ Texts.Text (r .bytes)
+written-accepts (Texts.Text n) r e h = ap Texts.Text (sym (ap (λ (x : WrittenText). x .bytes) e))
+written-accepts (Texts.Refused q) r e h = absurd (numbered q (sym (ap (λ (x : WrittenText). x .status .refusal) e) ∙ h))

@@ -11,3 +11,4 @@ pub mod Leaks
 pub mod Limits
 pub mod Matrices
 pub mod Products
+pub mod Texts

@@ -51,6 +51,7 @@ one-answer = record {
     via (a .values-are) (b .values-are),
     via (a .work-is) (b .work-is),
   );
+  exporting = λ d r r′ t t′ w w′ a b. (via (a .answers) (b .answers), via (a .text-is) (b .text-is), via (a .work-is) (b .work-is));
   multiplying = λ d r r′ o o′ w w′ a b. (via (a .answers) (b .answers), via (a .output-is) (b .output-is), via (a .work-is) (b .work-is));
   counting = λ d r r′ h h′ j j′ m m′ w w′ x x′ a b. (
     via (a .answers) (b .answers),

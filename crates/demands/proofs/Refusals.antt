@@ -61,8 +61,13 @@ use Rattle.limits.specs.declared.Limits.{Limits}
 use Rattle.columns.specs.Entries.{Entry}
 use Rattle.columns.specs.Columns.{generatorOf, generatorRoom}
 use Rattle.columns.specs.Stages.{answered}
-use Rattle.generator.specs.Lent.{Work, basisOf, generatorTests, csrTests}
+use Rattle.generator.specs.Lent.{Work, basisOf, generatorTests, csrTests, stagePlaces}
 use Rattle.generator.specs.Generators as Generators
+use Rattle.generator_export.specs.Exports as Exports
+use Rattle.matrix_market.specs.Text.{textOf}
+use Rattle.matrix_market.specs.Writes as Markets
+use Rattle.matrix_market.specs.declared.write.Written.{Written}
+use Rattle.matrix_market.specs.declared.write.Written.the-variants as Texts
 use Rattle.csr.specs.Products as Products
 use Rattle.csr.specs.declared.reader.RowRead.{RowRead}
 use Rattle.csr.specs.declared.reader.RowRead.the-variants as RowRead
@@ -74,6 +79,7 @@ use Rattle.pebblelinen.specs.Words.{parsedOf, fittingOf}
 use Rattle.pebblelinen.specs.Models.{builtOf}
 use Rattle.pebblelinen.specs.Actions.{listedOf, countedOf}
 use Rattle.pebblelinen.specs.Bases.{keptOf}
+use Rattle.pebblelinen.specs.Markets.{writtenOf}
 use Rattle.pebblelinen.specs.Products.{foundOf}
 use Rattle.pebblelinen.specs.Norms.{normedOf, partitionOf}
 use Rattle.pebblelinen.specs.declared.words.Parsed.{Parsed}
@@ -84,6 +90,7 @@ use Rattle.pebblelinen.specs.declared.norms.NormOfBasis.{NormOfBasis}
 use Rattle.pebblelinen.specs.declared.norms.Partition.{Partition}
 use Rattle.pebblelinen.specs.declared.actions.ListedWords.{ListedWords}
 use Rattle.pebblelinen.specs.declared.bases.KeptEntries.{KeptEntries}
+use Rattle.pebblelinen.specs.declared.markets.WrittenText.{WrittenText}
 use Rattle.pebblelinen.specs.declared.models.BuiltModel.{BuiltModel}
 use Rattle.demands.specs.Calls.{Refused}
 use Rattle.demands.specs.Demands.{Refuses, ChangesNothing}
@@ -109,6 +116,10 @@ built-cause (Built.Refused q) r e h = record { cause = q; named = refl; numbered
 acted-cause : (a : Acted) (r : ListedWords) → r ≡ listedOf a → Refused (r .status) → Cause Acted Acted.Refused a (r .status)
 acted-cause (Acted.Listed n) r e h = absurd (h (ap (λ (x : ListedWords). x .status .refusal) e))
 acted-cause (Acted.Refused q) r e h = record { cause = q; named = refl; numbered = ap (λ (x : ListedWords). x .status) e }
+
+written-cause : (a : Written) (r : WrittenText) → r ≡ writtenOf a → Refused (r .status) → Cause Written Texts.Refused a (r .status)
+written-cause (Texts.Text n) r e h = absurd (h (ap (λ (x : WrittenText). x .status .refusal) e))
+written-cause (Texts.Refused q) r e h = record { cause = q; named = refl; numbered = ap (λ (x : WrittenText). x .status) e }
 
 kept-cause : (a : Kept) (r : KeptEntries) → r ≡ keptOf a → Refused (r .status) → Cause Kept Kept.Refused a (r .status)
 kept-cause (Kept.Entries n) r e h = absurd (h (ap (λ (x : KeptEntries). x .status .refusal) e))
@@ -344,6 +355,37 @@ module _ (offsets columns : List ℕ) (values : List Float) (w : Work) where
       let a : Acted = answered (generatorRoom m t bs (Acts.sumPlaces (w .workWords) (w .workSums)) (Generators.csrPlaces w columns values)) (length (generatorOf m t bs)) in
       tested-rows (csrTests m t lanes len w offsets) (Generators.byRows len offsets columns values a (generatorOf m t bs)) (rows-kept len a (generatorOf m t bs))
 
+-- ---- the generator as a text
+text-not : (n : ℕ) (q : Refusal) → Texts.Text n ≡ Texts.Refused q → ⊥
+text-not n q e = let z : _≡_ {A = ℕ} 0 1 = cc in omega arith
+
+module _ (text : List ℕ) (w : Work) where
+  abbrev SafeText : Markets.Writing → Type 0
+  SafeText o = (q : Refusal) → o .answer ≡ Texts.Refused q → o .text ≡ text
+
+  after-kept : (a : Answer) (bytes : List ℕ) → SafeText (Markets.textAfter a bytes text)
+  after-kept Tests.Accepted bytes = λ q e. absurd (text-not (length bytes) q e)
+  after-kept (Tests.Refused r) bytes = λ q e. refl
+
+  writes-kept : (n : ℕ) (rows columns : List ℕ) (values : List Float) → SafeText (Markets.writes n rows columns values text)
+  unfolding Markets.writes
+  writes-kept n rows columns values = after-kept _ (textOf n (Markets.linesOf rows columns values))
+
+  entries-text-kept : (n : ℕ) (a : Acted) (E : List Entry) → SafeText (Exports.entriesText n text a E)
+  entries-text-kept n (Acted.Listed k) E = writes-kept n (map (λ e. e .row) E) (map (λ e. e .column) E) (map (λ e. e .value) E)
+  entries-text-kept n (Acted.Refused r) E = λ q e. refl
+
+  tested-text : (a : Answer) (o : Markets.Writing) → SafeText o → SafeText (Exports.tested text w a o .out)
+  tested-text Tests.Accepted o s = s
+  tested-text (Tests.Refused r) o s = λ q e. refl
+
+  export-kept : (m : Model) (t : ModelTables) (lanes : List ℕ) (len : ℕ) → SafeText (Exports.exportGenerator text w m t lanes len .out)
+  unfolding Exports.exportGenerator Exports.textOver
+  export-kept m t lanes len =
+      let bs : List Word = basisOf lanes len in
+      let a : Acted = answered (generatorRoom m t bs (Acts.sumPlaces (w .workWords) (w .workSums)) (stagePlaces w)) (length (generatorOf m t bs)) in
+      tested-text (generatorTests m t lanes len w) (Exports.entriesText len text a (generatorOf m t bs)) (entries-text-kept len a (generatorOf m t bs))
+
 -- ---- the product
 module _ (rows : ℕ) (offsets columns : List ℕ) (values input : List Float) (overwrite : Bool) (output work : List Float) where
   abbrev SafeProduct : Products.Multiplying → Type 0
@@ -403,6 +445,9 @@ refused-changes-nothing = record {
       let k = acted-cause _ _ (c .leaves .answers) h in
       let s = csr-kept (c .offsets) (c .columns) (c .values) (c .work) (c .model) (c .tables) (c .lanes) (c .len) (k .cause) (k .named) in
       record { cause = k .cause; named = k .named; numbered = k .numbered; unchanged = (c .leaves .offsets-are ∙ s .0, c .leaves .columns-are ∙ s .1, c .leaves .values-are ∙ s .2) };
+  exporting = λ c h.
+      let k = written-cause _ _ (c .leaves .answers) h in
+      record { cause = k .cause; named = k .named; numbered = k .numbered; unchanged = c .leaves .text-is ∙ export-kept (c .text) (c .work) (c .model) (c .tables) (c .lanes) (c .len) (k .cause) (k .named) };
   multiplying = λ c h.
       let k = tests-cause _ _ (c .leaves .answers) h in
       record { cause = k .cause; named = k .named; numbered = k .numbered; unchanged = c .leaves .output-is ∙ multiply-kept (c .rows) (c .offsets) (c .columns) (c .values) (c .input) (c .overwrite) (c .output) (c .work) (k .cause) (k .named) };

@@ -26,6 +26,7 @@ use Rattle.leakage.specs.Leakages as Leakage
 use Rattle.limits.specs.declared.Limits.{Limits}
 use Rattle.generator.specs.Lent as Generator
 use Rattle.generator.specs.Generators.{generate, buildCsr}
+use Rattle.generator_export.specs.Exports.{exportGenerator}
 use Rattle.csr.specs.Products.{multiply}
 use Rattle.pebblelinen.specs.Words.{Writes}
 use Rattle.pebblelinen.specs.Models.{Leaves}
@@ -33,9 +34,11 @@ use Rattle.pebblelinen.specs.Actions.{LeavesList}
 use Rattle.pebblelinen.specs.Bases.{LeavesBasis, LeavesAdmitted}
 use Rattle.pebblelinen.specs.Leakages.{LeavesLeakage}
 use Rattle.pebblelinen.specs.Generators.{LeavesGenerator, LeavesCsr}
+use Rattle.pebblelinen.specs.Markets.{LeavesMarket}
 use Rattle.pebblelinen.specs.Products.{LeavesProduct}
 use Rattle.pebblelinen.specs.declared.actions.ListedWords.{ListedWords}
 use Rattle.pebblelinen.specs.declared.bases.KeptEntries.{KeptEntries}
+use Rattle.pebblelinen.specs.declared.markets.WrittenText.{WrittenText}
 use Rattle.pebblelinen.specs.declared.models.BuiltModel.{BuiltModel}
 
 -- a call is accepted if the number of the refusal is 0
@@ -215,6 +218,19 @@ pub record CsrCall : Type 0 where
   pub values′ : List Float
   pub work′ : Generator.Work
   pub leaves : LeavesCsr (buildCsr offsets columns values work model tables lanes len) answer offsets′ columns′ values′ work′
+
+-- ---- pebblelinen_matrix_market
+pub record MarketCall : Type 0 where
+  pub model : Model
+  pub tables : ModelTables
+  pub lanes : List ℕ
+  pub len : ℕ
+  pub work : Generator.Work
+  pub text : List ℕ
+  pub answer : WrittenText
+  pub text′ : List ℕ
+  pub work′ : Generator.Work
+  pub leaves : LeavesMarket (exportGenerator text work model tables lanes len) answer text′ work′
 
 -- ---- pebblelinen_dot
 pub record ProductCall : Type 0 where

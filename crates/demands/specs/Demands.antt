@@ -49,6 +49,7 @@ use Rattle.candidates.specs.Log.{Rows, candidateRows}
 use Rattle.generator.specs.Lent as Generator
 use Rattle.generator.specs.Lent.{basisOf}
 use Rattle.generator.specs.Generators.{Generating, CsrBuilding, generate, buildCsr}
+use Rattle.generator_export.specs.Exports.{Exporting, exportGenerator}
 use Rattle.csr.specs.Products.{Multiplying, lengthTests, tableTests, multiply}
 use Rattle.csr.specs.declared.reader.RowRead.{RowRead}
 use Rattle.csr.specs.declared.reader.RowRead.the-variants as RowRead
@@ -62,6 +63,7 @@ use Rattle.pebblelinen.specs.Actions.{LeavesList, LeavesCount}
 use Rattle.pebblelinen.specs.Bases.{LeavesBasis, LeavesAdmitted}
 use Rattle.pebblelinen.specs.Leakages.{LeavesLeakage}
 use Rattle.pebblelinen.specs.Generators.{LeavesGenerator, LeavesCsr}
+use Rattle.pebblelinen.specs.Markets.{LeavesMarket}
 use Rattle.pebblelinen.specs.Products.{foundOf, LeavesProduct}
 use Rattle.pebblelinen.specs.Norms.{LeavesNorm, LeavesPartition}
 use Rattle.pebblelinen.specs.declared.words.Parsed.{Parsed}
@@ -72,6 +74,8 @@ use Rattle.pebblelinen.specs.declared.norms.NormOfBasis.{NormOfBasis}
 use Rattle.pebblelinen.specs.declared.norms.Partition.{Partition}
 use Rattle.pebblelinen.specs.declared.actions.ListedWords.{ListedWords}
 use Rattle.pebblelinen.specs.declared.bases.KeptEntries.{KeptEntries}
+use Rattle.pebblelinen.specs.declared.markets.WrittenText.{WrittenText}
+use Rattle.matrix_market.specs.declared.write.Written.the-variants as Texts
 use Rattle.pebblelinen.specs.declared.models.BuiltModel.{BuiltModel}
 use Rattle.in_use.specs.InUse.{SameModel}
 use Rattle.action_laws.specs.Made.{Made}
@@ -84,7 +88,7 @@ use Rattle.leakage_laws.specs.Calls.{basisWords, basisCoeffs, roomOf, stayAfter
 use Rattle.leakage_laws.specs.Calls as Leak
 use Rattle.generator_laws.specs.Matrices.{Lists, InRow, Grown, Unchanged}
 use Rattle.accounting.specs.Homes.{Accounted, AccountedWithoutRoom}
-use Rattle.demands.specs.Calls.{Accepted, Refused, AllFinite, WriteCall, BuildCall, AddCall, ActionCall, PruneCall, CapCall, AdmitCall, LeakCall, GeneratorCall, CsrCall, ProductCall}
+use Rattle.demands.specs.Calls.{Accepted, Refused, AllFinite, WriteCall, BuildCall, AddCall, ActionCall, PruneCall, CapCall, AdmitCall, LeakCall, GeneratorCall, CsrCall, MarketCall, ProductCall}
 
 -- ==== 1
 -- "Every accepted call ends with the one answer that document 01 gives for its input." (OneAnswer: one-answer)
@@ -107,6 +111,8 @@ pub record OneAnswer : Type 0 where
       → LeavesGenerator d r a b v w → LeavesGenerator d r′ a′ b′ v′ w′ → (r ≡ r′) × (a ≡ a′) × (b ≡ b′) × (v ≡ v′) × (w ≡ w′)
   pub by-rows : (d : CsrBuilding) (r r′ : ListedWords) (a a′ b b′ : List ℕ) (v v′ : List Float) (w w′ : Generator.Work)
       → LeavesCsr d r a b v w → LeavesCsr d r′ a′ b′ v′ w′ → (r ≡ r′) × (a ≡ a′) × (b ≡ b′) × (v ≡ v′) × (w ≡ w′)
+  pub exporting : (d : Exporting) (r r′ : WrittenText) (t t′ : List ℕ) (w w′ : Generator.Work)
+      → LeavesMarket d r t w → LeavesMarket d r′ t′ w′ → (r ≡ r′) × (t ≡ t′) × (w ≡ w′)
   pub multiplying : (d : Multiplying) (r r′ : Status) (o o′ w w′ : List Float) → LeavesProduct d r o w → LeavesProduct d r′ o′ w′ → (r ≡ r′) × (o ≡ o′) × (w ≡ w′)
   pub counting : (d : Counting) (r r′ : CountedPlaces) (h h′ j j′ m m′ w w′ : List ℕ) (x x′ : List Float)
       → LeavesCount d r h j m w x → LeavesCount d r′ h′ j′ m′ w′ x′ → (r ≡ r′) × (h ≡ h′) × (j ≡ j′) × (m ≡ m′) × (w ≡ w′) × (x ≡ x′)
@@ -150,6 +156,8 @@ pub record ChangesNothing : Type 0 where
   pub by-rows : (c : CsrCall) → Refused (c .answer .status)
       → Refuses (c .answer .status) (λ q. buildCsr (c .offsets) (c .columns) (c .values) (c .work) (c .model) (c .tables) (c .lanes) (c .len) .out .answer ≡ Acted.Refused q)
       ((c .offsets′ ≡ c .offsets) × (c .columns′ ≡ c .columns) × (c .values′ ≡ c .values))
+  pub exporting : (c : MarketCall) → Refused (c .answer .status)
+      → Refuses (c .answer .status) (λ q. exportGenerator (c .text) (c .work) (c .model) (c .tables) (c .lanes) (c .len) .out .answer ≡ Texts.Refused q) (c .text′ ≡ c .text)
   pub multiplying : (c : ProductCall) → Refused (c .status)
       → Refuses (c .status) (λ q. multiply (c .rows) (c .offsets) (c .columns) (c .values) (c .input) (c .overwrite) (c .output) (c .work) .answer ≡ Tests.Refused q) (c .output′ ≡ c .output)
   -- a lent model tested, of which nothing is written

@@ -4,3 +4,4 @@
 -- The demands: Demands states them, sentence by sentence, over the calls of Calls.
 pub mod Calls
 pub mod Demands
+pub mod Requests

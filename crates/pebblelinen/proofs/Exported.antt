@@ -1,7 +1,7 @@
 -- SPDX-FileCopyrightText: 2026 The PPVM Authors
 -- SPDX-License-Identifier: Apache-2.0
 
--- What builders, actions, leakage, calls on a basis, generators, products and norms answer and leave in the lent tables, part by part. Assumes nothing.
+-- What builders, actions, leakage, calls on a basis, generators, their texts, products and norms answer and leave in the lent tables, part by part. Assumes nothing.
 use mathlib.Core.Path.{_≡_, ap, _∙_}
 use Rattle.model_build.specs.Built.{Building}
 use Rattle.action.specs.Acts.{Acting}
@@ -10,6 +10,7 @@ use Rattle.truncate.specs.Prunes.{Keeping}
 use Rattle.truncate.specs.Admissions.{Admitting}
 use Rattle.leakage.specs.Leakages.{Leaking}
 use Rattle.generator.specs.Generators.{Generating, CsrBuilding}
+use Rattle.generator_export.specs.Exports.{Exporting}
 use Rattle.csr.specs.Products.{Multiplying}
 use Rattle.norm.specs.Norms.{Norming, Selecting}
 use Rattle.refusal.specs.Cause.{answerStatus}
@@ -19,11 +20,13 @@ use Rattle.pebblelinen.specs.Actions.{listedOf, LeavesList, countedOf, L
 use Rattle.pebblelinen.specs.Bases.{keptOf, LeavesBasis, LeavesAdmitted}
 use Rattle.pebblelinen.specs.Leakages.{LeavesLeakage}
 use Rattle.pebblelinen.specs.Generators.{LeavesGenerator, LeavesCsr}
+use Rattle.pebblelinen.specs.Markets.{writtenOf, LeavesMarket}
 use Rattle.pebblelinen.specs.Products.{LeavesProduct}
 use Rattle.pebblelinen.specs.Norms.{normedOf, LeavesNorm, partitionOf, LeavesPartition}
 use Rattle.pebblelinen.specs.declared.actions.ListedWords.{ListedWords}
 use Rattle.pebblelinen.specs.declared.actions.CountedPlaces.{CountedPlaces}
 use Rattle.pebblelinen.specs.declared.bases.KeptEntries.{KeptEntries}
+use Rattle.pebblelinen.specs.declared.markets.WrittenText.{WrittenText}
 use Rattle.pebblelinen.specs.declared.models.BuiltModel.{BuiltModel}
 use Rattle.pebblelinen.specs.declared.norms.NormOfBasis.{NormOfBasis}
 use Rattle.pebblelinen.specs.declared.norms.Partition.{Partition}
@@ -105,6 +108,13 @@ leaves-csr k made r l e = record {
   columns-are = ap (λ (x : CsrBuilding). x .out .columns) e;
   values-are = ap (λ (x : CsrBuilding). x .out .values) e;
   work-is = ap (λ (x : CsrBuilding). x .work) e;
+}
+
+pub leaves-market : (k made : Exporting) (r : WrittenText) → r ≡ writtenOf (made .out .answer) → made ≡ k → LeavesMarket k r (made .out .text) (made .work)
+leaves-market k made r l e = record {
+  answers = l ∙ ap (λ (x : Exporting). writtenOf (x .out .answer)) e;
+  text-is = ap (λ (x : Exporting). x .out .text) e;
+  work-is = ap (λ (x : Exporting). x .work) e;
 }
 
 pub leaves-product : (k made : Multiplying) (r : Status) → r ≡ answerStatus (made .answer) → made ≡ k → LeavesProduct k r (made .output) (made .work)

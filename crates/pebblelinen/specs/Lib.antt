@@ -8,6 +8,7 @@ pub mod Actions
 pub mod Bases
 pub mod Leakages
 pub mod Generators
+pub mod Markets
 pub mod Products
 pub mod Norms
 pub mod Examples

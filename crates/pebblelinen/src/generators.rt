@@ -18,7 +18,7 @@ use word::flat::WORD_LANES;
 use word::word::MAX_QUBITS;
 
 // A row and a column each of 65,536.
-const MAX_ENTRIES: usize = 4_294_967_296;
+pub const MAX_ENTRIES: usize = 4_294_967_296;
 
 #[no_mangle]
 pub extern "C" fn pebblelinen_generator(

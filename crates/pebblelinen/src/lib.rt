@@ -7,6 +7,7 @@ pub mod actions;
 pub mod bases;
 pub mod generators;
 pub mod leakages;
+pub mod markets;
 pub mod models;
 pub mod norms;
 pub mod products;
