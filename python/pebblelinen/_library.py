@@ -196,6 +196,14 @@ class GeneratorLengths(Structure):
 
 
 @_struct
+class Written(Structure):
+    """How long the text is that was written."""
+
+    status: Status
+    bytes: Size
+
+
+@_struct
 class Row(Structure):
     """Where a row stands."""
 
@@ -270,6 +278,8 @@ _FUNCTIONS: dict[str, tuple[Any, list[Any]]] = {
     "generator_sizes": (GeneratorLengths, [c_size_t] * 4),
     "generator": (Listed, [*_LENT_MODEL, *slices(1), c_size_t, *slices(10), *slices(3)]),
     "build_csr": (Listed, [*_LENT_MODEL, *slices(1), c_size_t, *slices(10), *slices(3)]),
+    "matrix_market_text": (c_size_t, [c_size_t]),
+    "matrix_market": (Written, [*_LENT_MODEL, *slices(1), c_size_t, *slices(10), *slices(1)]),
     "csr_row": (Row, [c_size_t, *slices(2), c_size_t]),
     "dot": (Status, [c_size_t, *slices(4), c_bool, *slices(2)]),
     "select_ms": (Degree, [c_double, c_double]),

@@ -22,6 +22,7 @@ CAUSES = {
     12: "basis word again",
     13: "more places needed than lent",
     14: "leakage or product sum not finite",
+    15: "written count of 2^62 or more",
 }
 
 

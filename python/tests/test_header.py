@@ -77,7 +77,7 @@ class Header(unittest.TestCase):
 
     def test_causes_and_limits(self):
         table = re.findall(r"^ \* +(\d+)   (.*?)(?:   .*)?$", HEADER.read_text(), re.MULTILINE)
-        causes = {int(number): cause.replace("`", "") for number, cause in table[:14]}
+        causes = {int(number): cause.replace("`", "") for number, cause in table[: len(CAUSES)]}
         self.assertEqual(causes, CAUSES)
         limits = dict(re.findall(r"#define PEBBLELINEN_MAX_(\w+) (\d+)", HEADER.read_text()))
         limits = {name.lower(): int(limit) for name, limit in limits.items()}
