@@ -469,7 +469,8 @@ static void call_leakage(void) {
 typedef enum { ENTRIES, BY_ROWS, TEXT } Form;
 
 static void generate(Form form) {
-    size_t n = form == TEXT ? 1 + below(2) : some_qubits(), len = below(12), entries = below(100);
+    bool few = form == TEXT && chance(50);
+    size_t n = few ? 1 : some_qubits(), len = few ? 2 : below(12), entries = below(100);
     Tables t = some_model(n, READ);
     /* Now and then values that are too large to be written. */
     for (size_t i = 0; i < t.h_coeffs.len && form == TEXT && chance(30); i++) ((double *)t.h_coeffs.p)[i] *= 0x1p40;
