@@ -47,6 +47,7 @@ extern "C" {
  *   13   more places needed than lent            table        places lent
  *   14   leakage or product sum not finite       position
  *   15   written count of 2^62 or more           entry, from 1
+ *   16   more than 1,048,576 matrix products     m            s
  */
 typedef struct {
     uint64_t refusal;
@@ -843,8 +844,13 @@ pebblelinen_normed pebblelinen_norm(
     uint64_t *work_words, size_t work_words_len, double *work_sums, size_t work_sums_len,
     double *raws, size_t raws_len, double *diags, size_t diags_len);
 
-/* The degree of a Taylor polynomial, and into how many steps the exponential is cut. */
+/* The most products with the matrix, m x s, that a degree may ask for. */
+#define PEBBLELINEN_MAX_PRODUCTS 1048576
+
+/* The degree of a Taylor polynomial, and into how many steps the exponential is cut. Where the status
+ * is a refusal, both are 0. */
 typedef struct {
+    pebblelinen_status status;
     uint32_t m;
     uint32_t s;
 } pebblelinen_degree;
@@ -852,7 +858,9 @@ typedef struct {
 /* The degree for a norm t: of the pairs m, s with s = t / threshold of m, rounded up, at least 1 and
  * at most 4294967295, the first of least m x s, over the thresholds of Al-Mohy and Higham (2011) for
  * double precision, or, where drop_tol is 1e-4 or above, over those for the tolerance 1e-6. (1, 1)
- * where t is 0, below, or NaN. Nothing is refused. */
+ * where t is 0, below, or NaN.
+ * Refusals: 16 (m, s) where this pair has m x s above 1,048,576; no other pair is looked for. An
+ * infinite t is refused so, with (1, 4294967295). */
 pebblelinen_degree pebblelinen_select_ms(double t, double drop_tol);
 
 /* mu, norm and degree for a step dt: t is |dt| x norm. Where the status is a refusal, all are 0. */
@@ -866,7 +874,8 @@ typedef struct {
 
 /* The norm of the generator over a basis, and the degree for a step dt at drop_tol. An empty basis has
  * degree (1, 1). Tables and refusals are those of pebblelinen_norm, with 7 (0) after 11 for a dt, then
- * for a drop_tol, that is infinite or NaN. */
+ * for a drop_tol, that is infinite or NaN; and 16 (m, s) after 13, as in pebblelinen_select_ms, after
+ * which the work tables are all zero too. */
 pebblelinen_partition pebblelinen_expm_degree(
     pebblelinen_model model, const uint64_t *h_words, size_t h_words_len, const double *h_coeffs,
     size_t h_coeffs_len, const uint64_t *jumps, size_t jumps_len, const double *rates,
