@@ -4,7 +4,7 @@
  * Damaged calls across the C boundary: sound arguments, of which some are then made too short, too long,
  * too large or senseless. Whatever is passed, a call must end, touch nothing but the slices that it was lent,
  * and leave them as include/pebblelinen.h says: all of them on a refusal, the work tables zero after
- * acceptance and after refusals 13 to 15, and what it only reads always.
+ * acceptance and after refusals 13 to 16, and what it only reads always.
  *
  *   fuzz CALLS SEED [pages]
  *
@@ -158,7 +158,7 @@ static void damage(size_t **counts, size_t count_count, double **numbers, size_t
 /* ---- what must hold afterwards ---- */
 
 static const char *called;
-enum { LAST_REFUSAL = 15 };
+enum { LAST_REFUSAL = 16 };
 static uint64_t calls_made, by_refusal[LAST_REFUSAL + 1];
 
 static void wrong(const char *what, uint64_t refusal) {
@@ -541,7 +541,11 @@ static void call_norm(void) {
     lend_tables(&t), lend(&words), lend(&h_index), lend(&j_index), lend(&mask), lend(&work), lend(&sums);
     lend(&raws), lend(&diags);
     damage((size_t *[]){MODEL_COUNTS(t), &len}, 5, (double *[]){&dt, &drop_tol}, 2);
-    (void)pebblelinen_select_ms(odd_number(), odd_number());
+    pebblelinen_degree degree = pebblelinen_select_ms(odd_number(), odd_number());
+    if (degree.status.refusal ? degree.status.refusal != 16 || degree.m || degree.s
+                              : !degree.m || (uint64_t)degree.m * degree.s > PEBBLELINEN_MAX_PRODUCTS)
+        wrong("a degree is above the ceiling", degree.status.refusal);
+    if (chance(10)) dt = 1e6;
     check(chance(50) ? pebblelinen_norm(MODEL(t), P(words), len, P(h_index), P(j_index), P(mask), P(work), P(sums),
                                         P(raws), P(diags))
                            .status

@@ -216,6 +216,7 @@ class Row(Structure):
 class Degree(Structure):
     """Products and stages."""
 
+    status: Status
     m: Small
     s: Small
 

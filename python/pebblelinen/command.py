@@ -181,7 +181,8 @@ def _parser() -> argparse.ArgumentParser:
         _degree,
         "norm of the generator, and how to compute its exponential",
         "The norm of the generator over the file's basis, and how the exponential of dt times it is to be\n"
-        "computed: s stages of m products each.",
+        "computed: s stages of m products each. A dt that asks for more than 1,048,576 products, a mistyped\n"
+        "one most likely, is refused, with the largest that does not.",
     )
     made.add_argument("--dt", type=float, required=True, metavar="T", help="the time step")
     made.add_argument(

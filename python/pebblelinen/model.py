@@ -512,7 +512,8 @@ class Model(Shown, Sealed):
 
     def degree(self, basis: Basis, *, dt: float, drop_tol: float = 0.0) -> Degree:
         """How the exponential of dt times the generator is to be computed: s stages of m products, with
-        the norm that they come from. A drop_tol of at least 1e-4 asks for less accuracy."""
+        the norm that they come from. A drop_tol of at least 1e-4 asks for less accuracy. A dt that asks for more than
+        1,048,576 products is refused (refusal 16), with the largest that does not."""
         numbers = {"dt": _given.real(dt, "dt"), "drop_tol": _given.real(drop_tol, "drop_tol")}
         found = self._normed("expm_degree", basis, numbers)
         return Degree(found.m, found.s, found.norm, found.mu)
@@ -540,6 +541,13 @@ class Model(Shown, Sealed):
             answer, _ = self._lending(attempt)
             if answer.status.refusal == 7:
                 raise not_finite(numbers)
+            if answer.status.refusal == 16:
+                raise self._too_many_products(answer.status, basis, **numbers)
             if answer.status.refusal:
                 raise refusal(answer.status, basis)
         return answer
+
+    def _too_many_products(self, status: _library.Status, basis: Basis, dt: float, drop_tol: float) -> Refusal:
+        norm = self.norm(basis).norm
+        enough = f"dt of at most {matrix.largest_step(norm, drop_tol)!r} in magnitude"
+        return matrix.too_many_products(status, f"dt = {dt!r} at the norm {norm!r}", enough)

@@ -140,7 +140,7 @@ def all_hold(number: int, *tables: Table) -> None:
 
 def check_work(status: _library.Status, *tables: Table) -> None:
     """Work tables are all zero after a call that came to use them, and else as they were."""
-    all_hold(0 if status.refusal in (0, 13, 14) else FILLER, *tables)
+    all_hold(0 if status.refusal in (0, 13, 14, 15, 16) else FILLER, *tables)
 
 
 # ---- Words

@@ -1,7 +1,10 @@
 # SPDX-FileCopyrightText: 2026 The PPVM Authors
 # SPDX-License-Identifier: Apache-2.0
 """Generators, their products, norms and degrees, against full matrices and the rules written plainly."""
+import json
+import math
 import random
+import re
 import unittest
 from unittest import mock
 
@@ -12,9 +15,21 @@ import scipy.sparse
 import any_k
 import dense
 import pebblelinen.model
+import replay
 import test_command
 import test_refusals
-from pebblelinen import Basis, Choice, InputError, Model, Position, demo, product, row, select_ms
+from pebblelinen import (
+    Basis,
+    Choice,
+    InputError,
+    Model,
+    Position,
+    _library,
+    demo,
+    product,
+    row,
+    select_ms,
+)
 
 NAN, INF = float("nan"), float("inf")
 
@@ -264,12 +279,73 @@ class Degrees(unittest.TestCase):
             self.assertEqual((degree.m, degree.s), select_ms(0.25 * max(norms), 1e-3))
 
     def test_examples(self):
-        for t, choice in [(0.3, (12, 1)), (1, (18, 1)), (4, (23, 2)), (INF, (1, 4294967295)), (NAN, (1, 1)), (-1, (1, 1))]:
+        for t, choice in [(0.3, (12, 1)), (1, (18, 1)), (4, (23, 2)), (NAN, (1, 1)), (-1, (1, 1)), (-INF, (1, 1))]:
             self.assertEqual(select_ms(t), Choice(*choice))
         self.assertEqual(select_ms(1, 1e-4), (9, 1))
         for t in "1", None, 1j, True:
             with self.assertRaises(InputError):
                 select_ms(t)
+
+
+class Ceiling(test_refusals.Case):
+    """At most 1,048,576 products."""
+
+    # The largest norms that are accepted, with their pairs, at a drop_tol of 0 and at one of 1e-4.
+    LAST = [(0.0, 123730.08, (30, 34952)), (1e-4, 238722.16, (30, 34952))]
+
+    def test_select_ms(self):
+        for drop_tol, last, choice in self.LAST:
+            self.assertEqual(select_ms(last, drop_tol), choice)
+            enough = f"a t of at most {last} will do"
+            for t, m, s in [
+                (math.nextafter(last, INF), 30, 34953),
+                (1e6, *((30, 282486) if drop_tol == 0 else (30, 146413))),
+                (INF, 1, 4294967295),
+                (1e300, 1, 4294967295),
+            ]:
+                said = f"t = {t} asks for {s} stages of {m} products each, {m * s} in all: at most 1048576; {enough}"
+                self.refused(16, {"m": m, "s": s}, said, lambda: select_ms(t, drop_tol))
+
+    def test_degree(self):
+        model, basis = Model(1, {"Z": 0.5}), Basis(1, {"X": 1.0, "Y": 0.0})
+        for drop_tol, last, choice in self.LAST:
+            for dt in last, -last:
+                self.assertEqual(model.degree(basis, dt=dt, drop_tol=drop_tol), (*choice, 1.0, 0.0))
+            dt = -math.nextafter(last, INF)
+            said = (
+                f"dt = {dt} at the norm 1.0 asks for 34953 stages of 30 products each, 1048590 in all: at most 1048576;"
+                f" a dt of at most {last} in magnitude will do"
+            )
+            call = lambda: model.degree(basis, dt=dt, drop_tol=drop_tol)  # noqa: E731
+            self.refused(16, {"m": 30, "s": 34953}, said, call)
+        self.assertEqual(model.degree(Basis(1), dt=1e300)[:2], (1, 1))
+
+    def test_the_largest_dt(self):
+        """It is accepted, and the next number is not."""
+        rng = random.Random(9)
+        for _ in range(20):
+            model, basis = Model(3, *dense.random_model(rng, 3, False)), some(rng, 3, 20)
+            with self.assertRaises(pebblelinen.Refusal) as caught:
+                model.degree(basis, dt=1e9)
+            dt = float(re.search("a dt of at most (.*) in magnitude will do", caught.exception.said)[1])
+            degree = model.degree(basis, dt=-dt)
+            self.assertLessEqual(degree.m * degree.s, 1_048_576)
+            with self.assertRaises(pebblelinen.Refusal):
+                model.degree(basis, dt=math.nextafter(dt, INF))
+
+    def test_order(self):
+        """After all tests and 13; work tables are zero."""
+        model, basis = Model(1, {"Z": 0.5}), Basis(1, {"X": 1.0, "Y": 0.0})
+        names = "h_index j_index mask work_words work_sums".split()
+        for touched, dt, answer in [(0, 1e300, (13, 1, 0)), (1, 1e300, (16, 1, 4294967295)), (1, 1e6, (16, 30, 282486))]:
+            lengths = _library.call("generator_sizes", 1, 2, touched, 0)
+            work = [replay.lanes(getattr(lengths, name))[0] for name in names[:-1]]
+            work += replay.reals(lengths.work_sums, 2, 2)
+            found = _library.call("expm_degree", *model._lent(), basis.lanes, 2, dt, 0.0, *work)
+            status = found.status
+            self.assertEqual((status.refusal, status.first, status.second), answer)
+            self.assertEqual((found.mu, found.norm, found.m, found.s), (0.0, 0.0, 0, 0))
+            replay.check_work(status, *work)
 
 
 class Demo(test_command.Case):
@@ -290,6 +366,11 @@ class Demo(test_command.Case):
         self.assertEqual(answer, {"qubits": 3, "positions": 2, "m": 12, "s": 1, "norm": 2.75, "mu": -0.25})
 
     def test_errors(self):
+        status, _, error = self.run_command("degree", self.path, "--dt", "1e6")
+        self.assertEqual(status, 1)
+        self.assertIn(f"a dt of at most {123730.08 / 2.75} in magnitude will do\n", error)
+        status, out, _ = self.run_command("degree", self.path, "--dt", "1e300", "--json")
+        self.assertEqual((status, json.loads(out)["error"]["values"]), (1, {"m": 1, "s": 4294967295}))
         status, _, error = self.run_command("degree", self.path, "--dt", "nan")
         self.assertEqual((status, error), (1, "pebblelinen: refusal 7: dt is nan: a finite number is needed\n"))
         self.write('qubits = 1\nbasis = [["X", 1], ["X", 1]]')
@@ -307,8 +388,8 @@ class Demo(test_command.Case):
         self.assertEqual([each["words"] for each in answer["rounds"]], [6, 26, 96, 200])
         self.assertEqual(answer["rounds"][0]["largest_leakage"], 2.0)
         status, _, error = self.run_command("demo", "--dt", "1e9")
-        self.assertEqual(status, 2)
-        self.assertIn("products", error)
+        self.assertEqual(status, 1)
+        self.assertIn("refusal 16: dt = 1000000000.0 at the norm", error)
 
     def test_the_time_step(self):
         model = demo.chain(4)

@@ -6,7 +6,7 @@ import re
 import unittest
 from pathlib import Path
 
-from pebblelinen import CAUSES, _building, _library, basis, words
+from pebblelinen import CAUSES, _building, _library, basis, matrix, words
 
 HEADER = Path(__file__).resolve().parent.parent.parent / "include" / "pebblelinen.h"
 
@@ -83,6 +83,7 @@ class Header(unittest.TestCase):
         limits = {name.lower(): int(limit) for name, limit in limits.items()}
         self.assertEqual(limits.pop("words"), basis.MAX_WORDS)
         self.assertEqual(limits.pop("qubits"), words.MAX_QUBITS)
+        self.assertEqual(limits.pop("products"), matrix.MAX_PRODUCTS)
         self.assertEqual(limits, _building._LIMITS)
 
 
