@@ -402,7 +402,7 @@ KINDS: dict[int, tuple[str, Callable[[Case], None]]] = {
     21: ("norms and degrees", norm),
     22: ("products of matrices", product_of_matrix),
     23: ("degrees", degree),
-    24: ("generators, norms and products without the Rust", partial(named, kinds=(19, 20, 21, 22))),
+    24: ("generators, norms, products and degrees without the Rust", partial(named, kinds=(19, 20, 21, 22, 23))),
 }
 
 

@@ -37,8 +37,8 @@ CASES = {
     "matrices by rows": 23,
     "norms and degrees": 23,
     "products of matrices": 25,
-    "degrees": 432,
-    "generators, norms and products without the Rust": 70,
+    "degrees": 314,
+    "generators, norms, products and degrees without the Rust": 114,
 }
 
 # How many tables, the last of its parameters, each function writes to: all of them are compared, to their ends. Prune,
@@ -212,21 +212,21 @@ class Damage(unittest.TestCase):
             "",
             " 1",
             "4 ",
-            "17  0 0 1 1",
-            "17 0 0 1 1 ",
-            "17 0 0 1 1 # degrees",
-            "17 0 0 1 -1",
-            "17 0 0 1 0x1",
-            "17 0 0 1 A",
-            "17 0 0 1 1_0",
-            "17 0 0 1 10000000000000000",
-            "17\t0 0 1 1",
+            "17  0 0 0 0 0 1 1",
+            "17 0 0 0 0 0 1 1 ",
+            "17 0 0 0 0 0 1 1 # degrees",
+            "17 0 0 0 0 0 1 -1",
+            "17 0 0 0 0 0 1 0x1",
+            "17 0 0 0 0 0 1 A",
+            "17 0 0 0 0 0 1 1_0",
+            "17 0 0 0 0 0 1 10000000000000000",
+            "17\t0 0 0 0 0 1 1",
         ]:
             self.malformed(line)
-        replay.replay(replay.parsed("17 0 0 1 1"))
+        replay.replay(replay.parsed("17 0 0 0 0 0 1 1"))
 
     def test_kinds(self) -> None:
-        for line in "0", "19 0 0 1 1", "ff", "f b 0", "f f c", "18 12 0", "18 17 0 0 1 1", "18 18 13":
+        for line in "0", "19 0 0 1 1", "ff", "f b 0", "f f c", "18 12 0", "18 18 13":
             self.malformed(line)
 
     def test_numbers_that_lack_or_are_too_many(self) -> None:

@@ -3,7 +3,7 @@
 
 //! The degree for any norm, and norm and degree over lent bases, every lent table bit for bit.
 //!
-//! Cases are counted by what document 01 answers to them. The Rust is asked where the document accepts. Its mu
+//! Cases are counted by what the documents answer to them. The Rust is asked where they accept. Its mu
 //! and its degree are those that it hands to the exponential; its norm is held to the rules' by two steps at
 //! which the degree tells that norm from its neighbours. A difference is expected where the magnitudes of an
 //! action's terms have another sum in the Rust's order, by hash, and where a number of the model is near a
@@ -19,7 +19,9 @@ use crate::port::norms::{self as port, Degree, NormRoom, Normed, Partition};
 use crate::port::{Status, Word};
 use crate::published::generators::RustGenerator;
 use crate::published::norms::{self as published, has_norm, in_hash_order, partition};
-use crate::rules::norms::{self as rules, basis_norm, most_touched, norm_of, select_ms, terms};
+use crate::rules::norms::{
+    self as rules, Pair, basis_norm, least_pair, most_touched, norm_of, select_ms, terms,
+};
 use crate::rules::word_of;
 
 /// One in so many cases has something wrong.
@@ -69,12 +71,17 @@ struct Tallies {
     no_probe: usize,
 }
 
-/// The degree for a norm.
+/// The degree for a norm. The Rust has no ceiling on products, and is asked below it.
 fn degree(tally: &mut Tally, t: f64, drop_tol: f64) {
+    let rules = select_ms(t, drop_tol);
+    let rust = (rules.status.refusal == 0).then(|| {
+        let Pair { m, s } = published::select_ms(t, drop_tol);
+        Degree { m, s, ..rules }
+    });
     let answers: Answers<Degree> = Answers {
-        rust: Some(published::select_ms(t, drop_tol)),
+        rust,
         port: port::select_ms(t, drop_tol),
-        rules: select_ms(t, drop_tol),
+        rules,
         listed: false,
     };
     tally.count(0, || format!("{t:?} at {drop_tol:?}"), answers);
@@ -180,13 +187,13 @@ impl Case<'_> {
         let rust = over.rust.as_ref().filter(|_| refusal == 0 && *len > 0);
         let rust = rust.and_then(|model| {
             let generator = RustGenerator::new(model, &over.words);
-            let (mu, Degree { m, s }) = partition(&generator, step.0, step.1)?;
+            let (mu, Pair { m, s }) = partition(&generator, step.0, step.1)?;
             Some(Partition { mu, m, s, ..rules })
         });
         let differs = rust.filter(|rust| *rust != rules);
         let listed = differs.is_some_and(|rust| {
             let has = |(mu, norm): (f64, f64)| {
-                let Degree { m, s } = select_ms(step.0.abs() * norm, step.1);
+                let Pair { m, s } = least_pair(step.0.abs() * norm, step.1);
                 mu.to_bits() == rust.mu.to_bits() && (m, s) == (rust.m, rust.s)
             };
             others(rng, over).into_iter().any(has)
@@ -265,11 +272,27 @@ fn known(rng: &mut Rng, tallies: &mut Tallies) {
         (0.3, 0.0, 12, 1),
         (1.0, 0.0, 18, 1),
         (4.0, 0.0, 23, 2),
-        (f64::INFINITY, 0.0, 1, u32::MAX),
         (1.0, 1e-4, 9, 1),
+        (123730.08, 0.0, 30, 34_952),
+        (238722.16, 1e-4, 30, 34_952),
+        (f64::NAN, 0.0, 1, 1),
     ] {
-        assert_eq!(select_ms(t, drop_tol), Degree { m, s });
-        assert_eq!(published::select_ms(t, drop_tol), Degree { m, s });
+        let status = Status::default();
+        assert_eq!(select_ms(t, drop_tol), Degree { status, m, s });
+        assert_eq!(published::select_ms(t, drop_tol), Pair { m, s });
+    }
+    for (t, drop_tol, m, s) in [
+        (123730.08f64.next_up(), 0.0, 30, 34_953),
+        (238722.16f64.next_up(), 1e-4, 30, 34_953),
+        (f64::INFINITY, 0.0, 1, u32::MAX),
+    ] {
+        let status = Status {
+            refusal: 16,
+            first: u64::from(m),
+            second: u64::from(s),
+        };
+        assert_eq!(select_ms(t, drop_tol).status, status);
+        assert_eq!(published::select_ms(t, drop_tol), Pair { m, s });
     }
     let mut ask = |h: &[(&str, f64)], texts: &[&str], norm: f64, rust: Option<f64>| {
         let n_qubits = h[0].0.len();

@@ -15,7 +15,8 @@ use crate::port::norms::{self as port, NormRoom};
 use crate::port::products::{Csr, ProductRoom, dot};
 use crate::published::generators::RustGenerator;
 use crate::published::models::RustModel;
-use crate::published::norms::has_norm;
+use crate::published::norms::{self as published, has_norm, partition};
+use crate::rules::norms::Pair;
 use crate::rules::word_of;
 use ppvm_lindblad::open::{Product, Questions};
 
@@ -72,9 +73,8 @@ impl Over {
         [self.by_port(ENOUGH, ENOUGH), list(&entries)]
     }
 
-    /// The port's norm, with so many places for the numbers of columns.
-    fn norm(&self, columns: usize) -> port::Normed {
-        let Standing { model, lent, .. } = &self.standing;
+    /// The tables for a norm, with so many places for the numbers of columns.
+    fn norm_room(&self, columns: usize) -> NormRoom {
         let GeneratorRoom {
             h_index,
             j_index,
@@ -83,7 +83,7 @@ impl Over {
             work_sums,
             ..
         } = self.room(ENOUGH, 0);
-        let mut room = NormRoom {
+        NormRoom {
             h_index,
             j_index,
             mask,
@@ -91,9 +91,27 @@ impl Over {
             work_sums,
             raws: vec![0.0; columns],
             diags: vec![0.0; columns],
-        };
-        let words = lanes_of(&self.words);
-        port::norm(*model, lent, &words, self.words.len(), &mut room)
+        }
+    }
+
+    /// The port's norm, with so many places for the numbers of columns.
+    fn norm(&self, columns: usize) -> port::Normed {
+        let Standing { model, lent, .. } = &self.standing;
+        let (words, len) = (lanes_of(&self.words), self.words.len());
+        port::norm(*model, lent, &words, len, &mut self.norm_room(columns))
+    }
+
+    /// Both degrees for a step.
+    fn degrees(&self, dt: f64) -> [String; 2] {
+        let Standing { model, lent, .. } = &self.standing;
+        let (words, len) = (lanes_of(&self.words), self.words.len());
+        let mut room = self.norm_room(len);
+        let found = port::expm_degree(*model, lent, &words, len, (dt, 0.0), &mut room);
+        let (m, s) = (found.m, found.s);
+        let rust_model = self.rust();
+        let seen = partition(&RustGenerator::new(&rust_model, &self.words), dt, 0.0);
+        let (_, rust) = seen.expect("there are words");
+        [answer(found.status, || pair(Pair { m, s })), pair(rust)]
     }
 
     /// Both norms. That of the Rust shows in nothing but the degree, so it is only asked whether it is
@@ -160,7 +178,7 @@ fn list(entries: &[(usize, usize, f64)]) -> String {
 }
 
 pub fn cases() -> Vec<Case> {
-    [differing(), near(), refusals()]
+    [differing(), above_the_ceiling(), near(), refusals()]
         .into_iter()
         .flatten()
         .collect()
@@ -189,6 +207,50 @@ fn differing() -> Vec<Case> {
             input: "H 1 Z over X, Y, input (1.5e308, 0)",
             expected: ["14 (1)", "(0, −∞)"],
             found: turn.products(&[1.5e308, 0.0]),
+        },
+    ]
+}
+
+/// A degree.
+fn pair(pair: Pair) -> String {
+    format!("({}, {})", pair.m, pair.s)
+}
+
+/// Both degrees for a norm.
+fn degrees(t: f64, drop_tol: f64) -> [String; 2] {
+    let found = port::select_ms(t, drop_tol);
+    let (m, s) = (found.m, found.s);
+    let port = answer(found.status, || pair(Pair { m, s }));
+    [port, pair(published::select_ms(t, drop_tol))]
+}
+
+fn above_the_ceiling() -> Vec<Case> {
+    let place = "a ceiling on products";
+    let turn = Over::new(standing(items(1, &[("Z", 0.5)], &[])), &["X", "Y"]);
+    vec![
+        Case {
+            place,
+            input: "the degree for the norm 123730.08000000002",
+            expected: ["16 (30, 34953)", "(30, 34953)"],
+            found: degrees(123730.08f64.next_up(), 0.0),
+        },
+        Case {
+            place,
+            input: "the degree for the norm 238722.16000000003 at drop_tol 1e-4",
+            expected: ["16 (30, 34953)", "(30, 34953)"],
+            found: degrees(238722.16f64.next_up(), 1e-4),
+        },
+        Case {
+            place,
+            input: "the degree for an infinite norm",
+            expected: ["16 (1, 4294967295)", "(1, 4294967295)"],
+            found: degrees(f64::INFINITY, 0.0),
+        },
+        Case {
+            place,
+            input: "the degree of H 0.5 Z over X, Y for dt 1e6",
+            expected: ["16 (30, 282486)", "(30, 282486)"],
+            found: turn.degrees(1e6),
         },
     ]
 }

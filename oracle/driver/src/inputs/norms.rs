@@ -17,11 +17,23 @@ fn about(x: f64) -> [f64; 5] {
     [down.next_down(), down, x, up, up.next_up()]
 }
 
-/// Every threshold, small multiples of it and those about the largest count of steps, each with its
-/// neighbours; 0, negative, subnormal, infinite and NaN.
+/// Every threshold, small multiples of it, those about the ceiling on products and those about the largest count of
+/// steps, each with its neighbours; 0, negative, subnormal, infinite and NaN.
 pub fn thresholds() -> Vec<f64> {
     let large = f64::from(u32::MAX);
-    let factors = [1.0, 2.0, 3.0, 7.0, 1000.0, large - 1.0, large, large + 1.0];
+    let ceiling = 34_952.0; // steps of the last degree
+    let factors = [
+        1.0,
+        2.0,
+        3.0,
+        7.0,
+        1000.0,
+        ceiling,
+        ceiling + 1.0,
+        large - 1.0,
+        large,
+        large + 1.0,
+    ];
     let at = |threshold: f64| factors.into_iter().flat_map(move |k| about(k * threshold));
     let mut list: Vec<f64> = THETA.into_iter().chain(THETA_LOOSE).flat_map(at).collect();
     list.extend(about(0.0));

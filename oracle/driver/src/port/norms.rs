@@ -18,6 +18,7 @@ pub struct Normed {
 #[repr(C)]
 #[derive(Clone, Copy, Debug, PartialEq, Eq)]
 pub struct Degree {
+    pub status: Status,
     pub m: u32,
     pub s: u32,
 }

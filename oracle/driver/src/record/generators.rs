@@ -14,14 +14,14 @@ use crate::inputs::models::Items;
 use crate::inputs::norms as norm_inputs;
 use crate::port::Word;
 use crate::port::generators::GeneratorRoom;
-use crate::port::norms::{Degree, NormRoom};
+use crate::port::norms::NormRoom;
 use crate::published::generators::RustGenerator;
 use crate::published::norms::{has_norm, partition};
 use crate::rules::generators::{
     Acts, Entry, all_entries, build_csr, by_rows, generator, generator_sizes,
 };
 use crate::rules::models::Complex;
-use crate::rules::norms::{expm_degree, most_touched, terms};
+use crate::rules::norms::{Pair, expm_degree, most_touched, terms};
 use crate::rules::{MAX_QUBITS, word_of};
 
 /// The kinds: of a generator, of a matrix by rows, of a norm and degree, and answers which the Rust does not
@@ -216,11 +216,12 @@ impl Case {
                 };
                 let (lanes, len) = (lanes_of(&self.words), self.words.len());
                 let found = expm_degree(*model, lent, &lanes, len, self.step, &mut room, acts);
-                let Some((mu, degree)) = partition(&rust, self.step.0, self.step.1) else {
+                let Some((mu, pair)) = partition(&rust, self.step.0, self.step.1) else {
                     return false;
                 };
-                let Degree { m, s } = degree;
-                (mu.to_bits(), m, s) == (found.mu.to_bits(), found.m, found.s)
+                let Pair { m, s } = pair;
+                found.status.refusal == 0
+                    && (mu.to_bits(), m, s) == (found.mu.to_bits(), found.m, found.s)
                     && has_norm(&rust, found.norm) == Some(true)
             }
         }
@@ -267,9 +268,10 @@ fn spoilt(rng: &mut Rng, mut case: Case) -> Option<Case> {
                 return None;
             }
         }
-        4 if case.kind == NORM => match rng.below(2) {
+        4 if case.kind == NORM => match rng.below(3) {
             0 => case.step.0 = f64::NAN,
-            _ => case.step.1 = f64::INFINITY,
+            1 => case.step.1 = f64::INFINITY,
+            _ => case.step.0 = -f64::MAX,
         },
         _ => return None,
     }
@@ -316,7 +318,7 @@ fn tempting(rng: &mut Rng, kind: u64) -> Vec<Case> {
     );
     over(damped.clone(), &["X", "Y", "Z"], 1.0, 0.0);
     over(damped.clone(), &["I", "X", "Y", "Z"], 1.0, 1e-4);
-    over(damped, &["Z", "I"], 1e300, 1e-4f64.next_down());
+    over(damped, &["Z", "I"], 1e4, 1e-4f64.next_down());
     list
 }
 
@@ -334,5 +336,10 @@ fn refused_tempting(rng: &mut Rng, kind: u64) -> Vec<Case> {
     short.entries = 0;
     let mut few = over(&["X", "Y"]);
     few.entries -= 1;
-    vec![again, empty, short, few]
+    let mut long = over(&["X", "Y"]);
+    long.step.0 = 1e300;
+    let mut long_and_short = over(&["X", "Y"]);
+    long_and_short.step.0 = 1e300;
+    long_and_short.touched -= 1;
+    vec![again, empty, short, few, long, long_and_short]
 }

@@ -27,22 +27,54 @@ pub const THETA_LOOSE: [f64; 30] = [
 /// From here on the loose table is taken.
 pub const LOOSE_FROM: f64 = 1e-4;
 
-/// The first pair of least product.
-pub fn select_ms(t: f64, drop_tol: f64) -> Degree {
+/// The most products.
+const MAX_PRODUCTS: u64 = 1_048_576;
+
+/// The degree of a Taylor polynomial, and into how many steps the exponential is cut.
+#[derive(Clone, Copy, Debug, PartialEq, Eq)]
+pub struct Pair {
+    pub m: u32,
+    pub s: u32,
+}
+
+impl Pair {
+    fn products(&self) -> u64 {
+        u64::from(self.m) * u64::from(self.s)
+    }
+}
+
+/// The first pair of least product, however large that is.
+pub fn least_pair(t: f64, drop_tol: f64) -> Pair {
     if t.is_nan() || t <= 0.0 {
-        return Degree { m: 1, s: 1 };
+        return Pair { m: 1, s: 1 };
     }
     let table = match drop_tol >= LOOSE_FROM {
         true => THETA_LOOSE,
         false => THETA,
     };
     let steps = |threshold: f64| (t / threshold).ceil().clamp(1.0, u32::MAX.into()) as u32;
-    let pairs = (1..).zip(table).map(|(m, threshold)| Degree {
+    let pairs = (1..).zip(table).map(|(m, threshold)| Pair {
         m,
         s: steps(threshold),
     });
-    let product = |degree: &Degree| u64::from(degree.m) * u64::from(degree.s);
-    pairs.min_by_key(product).expect("a table has rows")
+    pairs.min_by_key(Pair::products).expect("a table has rows")
+}
+
+/// That pair, unless it asks for too many products.
+fn chosen(t: f64, drop_tol: f64) -> Answer<Pair> {
+    let pair = least_pair(t, drop_tol);
+    match pair.products() > MAX_PRODUCTS {
+        true => refuse(16, pair.m as usize, pair.s as usize),
+        false => Ok(pair),
+    }
+}
+
+pub fn select_ms(t: f64, drop_tol: f64) -> Degree {
+    let (status, Pair { m, s }) = match chosen(t, drop_tol) {
+        Ok(pair) => (Status::default(), pair),
+        Err(status) => (status, Pair { m: 0, s: 0 }),
+    };
+    Degree { status, m, s }
 }
 
 // ---- norm
@@ -170,17 +202,16 @@ pub fn expm_degree(
     room: &mut NormRoom,
     known: &Acts,
 ) -> Partition {
-    match found(model, lent, (lanes, len), room, known, &[dt, drop_tol]) {
-        Ok((mu, norm)) => {
-            let Degree { m, s } = select_ms(dt.abs() * norm, drop_tol);
-            Partition {
-                status: Status::default(),
-                mu,
-                norm,
-                m,
-                s,
-            }
-        }
+    let found = found(model, lent, (lanes, len), room, known, &[dt, drop_tol]);
+    let found = found.and_then(|(mu, norm)| Ok((mu, norm, chosen(dt.abs() * norm, drop_tol)?)));
+    match found {
+        Ok((mu, norm, Pair { m, s })) => Partition {
+            status: Status::default(),
+            mu,
+            norm,
+            m,
+            s,
+        },
         Err(status) => Partition {
             status,
             mu: 0.0,
