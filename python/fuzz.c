@@ -537,20 +537,21 @@ static void call_norm(void) {
     Slice words = some_words(len, n, READ);
     Slice h_index = make(64 * n, 8, WORK), j_index = make(64 * n, 8, WORK), mask = make(64, 8, WORK);
     Slice work = make(4 * places, 8, WORK), sums = make(2 * places, 8, WORK);
+    Slice heads = make(2 * len, 8, WORK), nexts = make(len, 8, WORK);
     Slice raws = make(len, 8, WORK), diags = make(len, 8, WORK);
-    lend_tables(&t), lend(&words), lend(&h_index), lend(&j_index), lend(&mask), lend(&work), lend(&sums);
-    lend(&raws), lend(&diags);
+    lend_tables(&t), lend(&words), lend(&h_index), lend(&j_index), lend(&mask), lend(&heads), lend(&nexts);
+    lend(&work), lend(&sums), lend(&raws), lend(&diags);
     damage((size_t *[]){MODEL_COUNTS(t), &len}, 5, (double *[]){&dt, &drop_tol}, 2);
     pebblelinen_degree degree = pebblelinen_select_ms(odd_number(), odd_number());
     if (degree.status.refusal ? degree.status.refusal != 16 || degree.m || degree.s
                               : !degree.m || (uint64_t)degree.m * degree.s > PEBBLELINEN_MAX_PRODUCTS)
         wrong("a degree is above the ceiling", degree.status.refusal);
     if (chance(10)) dt = 1e6;
-    check(chance(50) ? pebblelinen_norm(MODEL(t), P(words), len, P(h_index), P(j_index), P(mask), P(work), P(sums),
-                                        P(raws), P(diags))
+    check(chance(50) ? pebblelinen_norm(MODEL(t), P(words), len, P(h_index), P(j_index), P(mask), P(heads), P(nexts),
+                                        P(work), P(sums), P(raws), P(diags))
                            .status
                      : pebblelinen_expm_degree(MODEL(t), P(words), len, dt, drop_tol, P(h_index), P(j_index),
-                                               P(mask), P(work), P(sums), P(raws), P(diags))
+                                               P(mask), P(heads), P(nexts), P(work), P(sums), P(raws), P(diags))
                            .status);
 }
 #endif

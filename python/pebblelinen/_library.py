@@ -284,10 +284,10 @@ _FUNCTIONS: dict[str, tuple[Any, list[Any]]] = {
     "csr_row": (Row, [c_size_t, *slices(2), c_size_t]),
     "dot": (Status, [c_size_t, *slices(4), c_bool, *slices(2)]),
     "select_ms": (Degree, [c_double, c_double]),
-    "norm": (Normed, [*_LENT_MODEL, *slices(1), c_size_t, *slices(7)]),
+    "norm": (Normed, [*_LENT_MODEL, *slices(1), c_size_t, *slices(9)]),
     "expm_degree": (
         Partition,
-        [*_LENT_MODEL, *slices(1), c_size_t, c_double, c_double, *slices(7)],
+        [*_LENT_MODEL, *slices(1), c_size_t, c_double, c_double, *slices(9)],
     ),
 }
 

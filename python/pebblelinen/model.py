@@ -506,7 +506,8 @@ class Model(Shown, Sealed):
     # ---- the exponential of the generator ----
 
     def norm(self, basis: Basis) -> Norm:
-        """The norm that bounds the generator over a basis: of the largest column, shifted by mu."""
+        """The norm of the generator over a basis, shifted by mu: that of the largest column, the sum of its magnitudes.
+        What an action moves out of the basis is no part of it."""
         found = self._normed("norm", basis, {})
         return Norm(found.norm, found.mu)
 
@@ -524,7 +525,7 @@ class Model(Shown, Sealed):
 
         def attempt(touched: int, _: int) -> Any:
             lengths = _library.call("generator_sizes", self.n, len_, touched, 0)
-            names = "h_index j_index mask work_words work_sums".split()
+            names = "h_index j_index mask heads nexts work_words work_sums".split()
             with work_tables() as work:
                 return _library.call(
                     name,

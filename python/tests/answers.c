@@ -148,15 +148,16 @@ static const double ONE[] = {1};
 #define SUMS lanes[10], words ? INDEX : 0, numbers[0], words ? INDEX : 0
 
 static pebblelinen_status call_norm(size_t words, const size_t *len) {
-    pebblelinen_normed found = pebblelinen_norm(MODEL, X, 4 * words, words, LANES(0), LANES(1), LANES(2), SUMS,
-                                                numbers[1], len[3], numbers[2], len[4]);
+    pebblelinen_normed found = pebblelinen_norm(MODEL, X, 4 * words, words, LANES(0), LANES(1), LANES(2), LANES(3),
+                                                LANES(4), SUMS, numbers[1], len[5], numbers[2], len[6]);
     if (!words) holds("norm over no words", found.norm == 0 && found.mu == 0);
     return found.status;
 }
 
 static pebblelinen_status call_degree(size_t words, const size_t *len) {
-    pebblelinen_partition found = pebblelinen_expm_degree(MODEL, X, 4 * words, words, 1, 0, LANES(0), LANES(1),
-                                                          LANES(2), SUMS, numbers[1], len[3], numbers[2], len[4]);
+    pebblelinen_partition found =
+        pebblelinen_expm_degree(MODEL, X, 4 * words, words, 1, 0, LANES(0), LANES(1), LANES(2), LANES(3), LANES(4),
+                                SUMS, numbers[1], len[5], numbers[2], len[6]);
     if (!words) holds("degree over no words", found.norm == 0 && found.mu == 0 && found.m == 1 && found.s == 1);
     return found.status;
 }
@@ -269,8 +270,8 @@ static void tables_of(const char *what, Call call, const size_t *needs, const si
 
 static void words_and_tables(void) {
     const size_t none[8] = {0}, one_offset[8] = {0, 0, 0, 0, 0, 1};
-    tables_of("norm", call_norm, (size_t[]){INDEX, INDEX, MASK, 1, 1}, none, 5);
-    tables_of("degree", call_degree, (size_t[]){INDEX, INDEX, MASK, 1, 1}, none, 5);
+    tables_of("norm", call_norm, (size_t[]){INDEX, INDEX, MASK, 1, 1, 1, 1}, none, 7);
+    tables_of("degree", call_degree, (size_t[]){INDEX, INDEX, MASK, 1, 1, 1, 1}, none, 7);
     tables_of("counting", call_count, (size_t[]){INDEX, INDEX, MASK}, none, 3);
     tables_of("generator", call_generator, (size_t[]){INDEX, INDEX, MASK, 1, 1}, none, 5);
     tables_of("CSR", call_csr, (size_t[]){INDEX, INDEX, MASK, 1, 1, 2}, one_offset, 6);

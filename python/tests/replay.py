@@ -345,7 +345,7 @@ def norm(case: Case) -> None:
     lent = lent_model(case)
     length, touched, dt, drop_tol = case.take(4)
     words = case.table(np.uint64, 4 * length)
-    work = [*lanes(INDEX, INDEX, MASK, 4 * touched), *reals(2 * TOUCHED, WORDS, WORDS)]
+    work = [*lanes(INDEX, INDEX, MASK, 2 * WORDS, WORDS, 4 * touched), *reals(2 * TOUCHED, WORDS, WORDS)]
     answer = _library.call("expm_degree", *lent, words, length, real(dt), real(drop_tol), *work)
     case.agree(answer)
     check_work(answer.status, *work)

@@ -263,20 +263,63 @@ class Refusals(test_refusals.Case):
 
 
 class Degrees(unittest.TestCase):
+    def expected(self, model, basis, everywhere=False):
+        """The norm and mu as they are written: magnitudes of terms whose word is in the basis, or anywhere, are summed
+        from 0 in word order."""
+        words = {entry.word for entry in basis}
+        columns = [dict(model.action(entry.word)) for entry in basis]
+        diagonal = [column.get(entry.word, 0.0) for entry, column in zip(basis, columns)]
+        mu, norms = 0.0, [0.0]
+        for d in diagonal:
+            mu += d
+        mu /= len(basis)
+        for column, d in zip(columns, diagonal):
+            raw = 0.0
+            for word, x in column.items():
+                raw += abs(x) if everywhere or word in words else 0.0
+            norms.append(raw - abs(d) + abs(d - mu))
+        return max(norms), mu
+
     def test_norm(self):
+        """Over some words, over all, and over words that come again."""
         rng = random.Random(8)
-        for _ in range(30):
-            model = Model(3, *dense.random_model(rng, 3, True))
-            basis = some(rng, 3, rng.randint(1, 20))
-            columns = [dict(model.action(entry.word)) for entry in basis]
-            diagonal = [column.get(entry.word, 0.0) for entry, column in zip(basis, columns)]
-            mu = sum(diagonal) / len(basis)
-            sums = [sum(map(abs, column.values())) for column in columns]
-            norms = [raw - abs(d) + abs(d - mu) for raw, d in zip(sums, diagonal)]
-            self.assertEqual(model.norm(basis), (max(norms), mu))
+        for case in range(90):
+            n, whole = 1 + case % 3, case % 2 == 0
+            model = Model(n, *dense.random_model(rng, n, whole))
+            basis = everything(n) if case % 10 == 0 else some(rng, n, rng.randint(1, 4**n // 2))
+            if case % 3 == 0:
+                again = rng.choices(list(basis), k=3)
+                basis = Basis(n, [(entry.word, 0.0) for entry in [*basis, *again]])
+            norm, mu = self.expected(model, basis)
+            self.assertEqual(model.norm(basis), (norm, mu))
             degree = model.degree(basis, dt=-0.25, drop_tol=1e-3)
-            self.assertEqual((degree.norm, degree.mu), (max(norms), mu))
-            self.assertEqual((degree.m, degree.s), select_ms(0.25 * max(norms), 1e-3))
+            self.assertEqual(degree, (*select_ms(0.25 * norm, 1e-3), norm, mu))
+            # With what leaves the basis it was never smaller.
+            self.assertLessEqual(norm, self.expected(model, basis, everywhere=True)[0])
+
+    def test_it_is_that_of_the_generator(self):
+        rng = random.Random(10)
+        for _ in range(20):
+            model, basis = Model(3, *dense.random_model(rng, 3, True)), some(rng, 3, 30)
+            norm, mu = model.norm(basis)
+            shifted = model.generator(basis).toarray() - mu * np.eye(30)
+            self.assertAlmostEqual(norm, np.linalg.norm(shifted, 1), delta=1e-12 * (1 + norm))
+
+    def test_small_bases_need_fewer_products(self):
+        """As the guide says of the demonstration's chain."""
+        model = demo.chain()
+        basis = Basis(model.n, {demo.OBSERVABLE: 1.0})
+        before, now = [], []
+        for _ in demo.rounds(model, basis, limit=4096, count=4, dt=0.25):
+            m, s, *_ = model.degree(basis, dt=0.25, drop_tol=1e-4)
+            now.append(m * s)
+            before.append(math.prod(select_ms(0.25 * self.expected(model, basis, everywhere=True)[0], 1e-4)))
+        self.assertEqual((before, now), ([17, 18, 24, 30], [13, 17, 18, 24]))
+
+    def test_repeated_words(self):
+        model = Model(1, {"Z": 0.5}, [(0.25, "Z")])
+        for texts, norm in ("XXY", 1.0), ("XY", 1.0), ("X", 0.0), ("XX", 0.0), ("YX", 1.0), ("XZ", 0.25):
+            self.assertEqual(model.norm(Basis(1, [(text, 0.0) for text in texts])).norm, norm, texts)
 
     def test_examples(self):
         for t, choice in [(0.3, (12, 1)), (1, (18, 1)), (4, (23, 2)), (NAN, (1, 1)), (-1, (1, 1)), (-INF, (1, 1))]:
@@ -336,7 +379,7 @@ class Ceiling(test_refusals.Case):
     def test_order(self):
         """After all tests and 13; work tables are zero."""
         model, basis = Model(1, {"Z": 0.5}), Basis(1, {"X": 1.0, "Y": 0.0})
-        names = "h_index j_index mask work_words work_sums".split()
+        names = "h_index j_index mask heads nexts work_words work_sums".split()
         for touched, dt, answer in [(0, 1e300, (13, 1, 0)), (1, 1e300, (16, 1, 4294967295)), (1, 1e6, (16, 30, 282486))]:
             lengths = _library.call("generator_sizes", 1, 2, touched, 0)
             work = [replay.lanes(getattr(lengths, name))[0] for name in names[:-1]]
@@ -360,15 +403,15 @@ class Demo(test_command.Case):
     def test_degree(self):
         lines = self.answered("degree", self.path, "--dt", "0.1").splitlines()
         self.assertEqual(lines[1], "generator over 2 positions:")
-        self.assertEqual(lines[2].split(), ["norm", "2.75"])
-        self.assertEqual(lines[4], "  degree   m = 12, s = 1 for dt = 0.1: 12 products")
+        self.assertEqual(lines[2].split(), ["norm", "0.25"])
+        self.assertEqual(lines[4], "  degree   m = 8, s = 1 for dt = 0.1: 8 products")
         answer = self.json("degree", self.path, "--dt", "0.1")
-        self.assertEqual(answer, {"qubits": 3, "positions": 2, "m": 12, "s": 1, "norm": 2.75, "mu": -0.25})
+        self.assertEqual(answer, {"qubits": 3, "positions": 2, "m": 8, "s": 1, "norm": 0.25, "mu": -0.25})
 
     def test_errors(self):
         status, _, error = self.run_command("degree", self.path, "--dt", "1e6")
         self.assertEqual(status, 1)
-        self.assertIn(f"a dt of at most {123730.08 / 2.75} in magnitude will do\n", error)
+        self.assertIn(f"a dt of at most {123730.08 / 0.25} in magnitude will do\n", error)
         status, out, _ = self.run_command("degree", self.path, "--dt", "1e300", "--json")
         self.assertEqual((status, json.loads(out)["error"]["values"]), (1, {"m": 1, "s": 4294967295}))
         status, _, error = self.run_command("degree", self.path, "--dt", "nan")

@@ -54,7 +54,7 @@ WRITTEN = {
     "leakage_with_prune": 21,
     "generator": 13,
     "build_csr": 13,
-    "expm_degree": 7,
+    "expm_degree": 9,
     "dot": 2,
 }
 BASES = "prune_basis", "cap_basis", "add_leakage_capped"

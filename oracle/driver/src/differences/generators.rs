@@ -9,6 +9,7 @@ use super::{
 };
 use crate::compare::standing::Standing;
 use crate::inputs::bases::lanes_of;
+use crate::inputs::models::Items;
 use crate::port::Word;
 use crate::port::generators::{GeneratorRoom, build_csr, generator, generator_sizes};
 use crate::port::norms::{self as port, NormRoom};
@@ -16,6 +17,7 @@ use crate::port::products::{Csr, ProductRoom, dot};
 use crate::published::generators::RustGenerator;
 use crate::published::models::RustModel;
 use crate::published::norms::{self as published, has_norm, partition};
+use crate::rules::models::Complex;
 use crate::rules::norms::Pair;
 use crate::rules::word_of;
 use ppvm_lindblad::open::{Product, Questions};
@@ -75,23 +77,7 @@ impl Over {
 
     /// The tables for a norm, with so many places for the numbers of columns.
     fn norm_room(&self, columns: usize) -> NormRoom {
-        let GeneratorRoom {
-            h_index,
-            j_index,
-            mask,
-            work_words,
-            work_sums,
-            ..
-        } = self.room(ENOUGH, 0);
-        NormRoom {
-            h_index,
-            j_index,
-            mask,
-            work_words,
-            work_sums,
-            raws: vec![0.0; columns],
-            diags: vec![0.0; columns],
-        }
+        NormRoom::of(&self.room(ENOUGH, 0).lengths(), columns)
     }
 
     /// The port's norm, with so many places for the numbers of columns.
@@ -184,10 +170,25 @@ pub fn cases() -> Vec<Case> {
         .collect()
 }
 
+/// A jump (X + iY)/2 on each of three qubits.
+fn three_decays(rate: f64) -> Items {
+    let term = |text: &str, x: Complex| (text.as_bytes().to_vec(), x);
+    let decay = |x, y| (rate, vec![term(x, (0.5, 0.0)), term(y, (0.0, 0.5))]);
+    Items {
+        jumps: vec![
+            decay("XII", "YII"),
+            decay("IXI", "IYI"),
+            decay("IIX", "IIY"),
+        ],
+        ..items(3, &[], &[])
+    }
+}
+
 fn differing() -> Vec<Case> {
     let again = Over::new(standing(items(1, &[], &[(0.25, &["Z"])])), &["X", "X"]);
-    let three = [("ZII", 0.3), ("IZI", 0.2), ("IIZ", 0.1)];
-    let sums = Over::new(standing(items(3, &three, &[])), &["XXX"]);
+    let all = ["III", "ZII", "IZI", "ZZI", "IIZ", "ZIZ", "IZZ", "ZZZ"];
+    let sums = Over::new(standing(three_decays(0.1)), &all);
+    let outside = Over::new(standing(items(1, &[("Z", 0.5)], &[])), &["X"]);
     let turn = Over::new(standing(items(1, &[("Z", 1.0)], &[])), &["X", "Y"]);
     vec![
         Case {
@@ -198,9 +199,15 @@ fn differing() -> Vec<Case> {
         },
         Case {
             place: "raw's adding order",
-            input: "H 0.3 ZII + 0.2 IZI + 0.1 IIZ, basis XXX",
-            expected: ["norm 1.2", "norm 1.2000000000000002"],
-            found: sums.norms(1.2000000000000002),
+            input: "jumps (X + iY)/2 on each of three qubits at rate 0.1, basis of the eight words of I and Z",
+            expected: ["norm 0.45000000000000007", "norm 0.44999999999999996"],
+            found: sums.norms(0.44999999999999996),
+        },
+        Case {
+            place: "norm where words leave the basis",
+            input: "H 0.5 Z, basis X",
+            expected: ["norm 0", "norm 1"],
+            found: outside.norms(1.0),
         },
         Case {
             place: "product, not finite",
@@ -255,8 +262,8 @@ fn above_the_ceiling() -> Vec<Case> {
     ]
 }
 
-/// The models of the action, over the word that they act on and, but for the norm, the word that only one
-/// side lists.
+/// The models of the action, over the word that they act on and the word that only one side lists. With thinning both
+/// have one norm: that of the other column.
 fn near() -> Vec<Case> {
     let over = |matrix, texts: &[&str]| Over::new(standing_of(matrix), texts);
     let thin = over(thinned(), &["IZ", "XY"]);
@@ -295,21 +302,15 @@ fn near() -> Vec<Case> {
         },
         Case {
             place: norm,
-            input: "the model of thinning over IZ",
-            expected: ["norm 3.2e-14", "norm 0"],
-            found: over(thinned(), &["IZ"]).norms(0.0),
-        },
-        Case {
-            place: norm,
-            input: "that of the skip rule over ZZ",
+            input: "the model of the skip rule over ZZ, YY",
             expected: ["norm 2.8066438062523957e-13", "norm 0"],
-            found: over(skipped(), &["ZZ"]).norms(0.0),
+            found: skip.norms(0.0),
         },
         Case {
             place: norm,
-            input: "that of the skip rule the other way over ZZ",
+            input: "that of the skip rule the other way over ZZ, YY",
             expected: ["norm 0", "norm 2.1671553440683056e-13"],
-            found: over(not_skipped(), &["ZZ"]).norms(2.1671553440683056e-13),
+            found: other.norms(2.1671553440683056e-13),
         },
         Case {
             place: product,

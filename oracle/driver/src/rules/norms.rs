@@ -10,6 +10,7 @@ use super::models::{Answer, at_most, lent_places, refuse, tested};
 use crate::port::models::{Lent, Model};
 use crate::port::norms::{Degree, NormRoom, Normed, Partition};
 use crate::port::{Status, Word};
+use std::collections::BTreeSet;
 
 /// `THETA` of the published file, from Al-Mohy and Higham (2011), and `THETA_LOOSE`: the threshold of each
 /// degree from 1 on.
@@ -105,9 +106,27 @@ pub fn norm_of(acts: &[(Word, Vec<(Word, f64)>)], in_order: InOrder) -> (f64, f6
     (mu, norm)
 }
 
-/// The same over a basis, with the terms in word order, as document 01 has them.
+/// The same over a basis, of the terms whose words are in it, each once, in word order, as the documents have it.
 pub fn basis_norm(model: Model, lent: &Lent, basis: &[Word], known: &Acts) -> (f64, f64) {
-    norm_of(&terms(model, lent, basis, known), &|terms| terms)
+    let is_in = in_set(basis);
+    let mut terms = terms(model, lent, basis, known);
+    for (_, list) in &mut terms {
+        list.retain(|(w, _)| is_in(w));
+    }
+    norm_of(&terms, &|terms| terms)
+}
+
+/// Whether the actions on all words of a basis list words of it alone.
+pub fn is_closed(acts: &[(Word, Vec<(Word, f64)>)], basis: &[Word]) -> bool {
+    let is_in = in_set(basis);
+    let mut lists = acts.iter().flat_map(|(_, terms)| terms);
+    lists.all(|(w, _)| is_in(w))
+}
+
+/// Whether a word is among these.
+fn in_set(words: &[Word]) -> impl Fn(&Word) -> bool {
+    let set: BTreeSet<_> = words.iter().map(|w| w.lanes()).collect();
+    move |w| set.contains(&w.lanes())
 }
 
 /// What the actions on all words of a basis list.
@@ -144,6 +163,8 @@ fn norm_tested(
     lent_places(rows, room.h_index.len())?;
     lent_places(rows, room.j_index.len())?;
     lent_places(where_any(len, ROW_LANES), room.mask.len())?;
+    lent_places(len, room.heads.len())?;
+    lent_places(len, room.nexts.len())?;
     lent_places(len, room.raws.len())?;
     lent_places(len, room.diags.len())?;
     let basis = words(lanes, len);
