@@ -35,10 +35,10 @@ CASES = {
     "leakage without the Rust": 38,
     "generators": 23,
     "matrices by rows": 23,
-    "norms and degrees": 23,
+    "norms and degrees": 20,
     "products of matrices": 25,
     "degrees": 314,
-    "generators, norms, products and degrees without the Rust": 114,
+    "generators, norms, products and degrees without the Rust": 129,
 }
 
 # How many tables, the last of its parameters, each function writes to: all of them are compared, to their ends. Prune,
