@@ -766,8 +766,8 @@ pebblelinen_status pebblelinen_dot(size_t rows, const uint64_t *offsets, size_t 
 
 /* ---- Norm and degree ---- */
 
-/* A bound on the 1-norm of the generator less mu times the identity, and mu, the mean of its
- * diagonal. Where the status is a refusal, both are 0. */
+/* The 1-norm of the generator less mu times the identity, as columns sum in f64, and mu, the mean of
+ * its diagonal. Where the status is a refusal, both are 0. */
 typedef struct {
     pebblelinen_status status;
     double mu;
@@ -775,16 +775,18 @@ typedef struct {
 } pebblelinen_normed;
 
 /* The norm of the generator over a basis: the largest of the columns' norms, raw - |diag| +
- * |diag - mu|, where raw sums the magnitudes of all terms of the action on the column's word, in the
- * basis or not, and diag is the number that it lists for the word itself. An empty basis has mu 0 and
- * norm 0. Words may come again.
+ * |diag - mu|, where raw sums from 0, in word order, the magnitudes of those terms of the action on the
+ * column's word whose words are in the basis, each term once, and diag is the number that the action
+ * lists for the word itself. An empty basis has mu 0 and norm 0. Words may come again: a term counts
+ * once all the same, and mu divides by len.
  *
  * The tables are those of pebblelinen_generator; raws and diags are work tables of a number for each
  * word. Refusals, in this order:
  *
  *       those of pebblelinen_test_model for the model
  *    8  (count): more than 65,536 words
- *    9  (len, places lent) for words; then (needed, lent) for h_index, j_index, mask, raws, diags
+ *    9  (len, places lent) for words; then (needed, lent) for h_index, j_index, mask, heads, nexts, raws,
+ *       diags
  *   11  (position): the first word with a letter at or above the register
  *   13  (1, places) at the first word whose action touches more words than table 1 has places
  *
@@ -796,8 +798,9 @@ pebblelinen_normed pebblelinen_norm(
     size_t rates_len, const uint64_t *t_words, size_t t_words_len, const double *t_numbers,
     size_t t_numbers_len, const uint64_t *words, size_t words_len, size_t len, uint64_t *h_index,
     size_t h_index_len, uint64_t *j_index, size_t j_index_len, uint64_t *mask, size_t mask_len,
-    uint64_t *work_words, size_t work_words_len, double *work_sums, size_t work_sums_len,
-    double *raws, size_t raws_len, double *diags, size_t diags_len);
+    uint64_t *heads, size_t heads_len, uint64_t *nexts, size_t nexts_len, uint64_t *work_words,
+    size_t work_words_len, double *work_sums, size_t work_sums_len, double *raws, size_t raws_len,
+    double *diags, size_t diags_len);
 
 /* The most products with the matrix, m x s, that a degree may ask for. */
 #define PEBBLELINEN_MAX_PRODUCTS 1048576
@@ -837,9 +840,9 @@ pebblelinen_partition pebblelinen_expm_degree(
     size_t rates_len, const uint64_t *t_words, size_t t_words_len, const double *t_numbers,
     size_t t_numbers_len, const uint64_t *words, size_t words_len, size_t len, double dt,
     double drop_tol, uint64_t *h_index, size_t h_index_len, uint64_t *j_index, size_t j_index_len,
-    uint64_t *mask, size_t mask_len, uint64_t *work_words, size_t work_words_len,
-    double *work_sums, size_t work_sums_len, double *raws, size_t raws_len, double *diags,
-    size_t diags_len);
+    uint64_t *mask, size_t mask_len, uint64_t *heads, size_t heads_len, uint64_t *nexts,
+    size_t nexts_len, uint64_t *work_words, size_t work_words_len, double *work_sums,
+    size_t work_sums_len, double *raws, size_t raws_len, double *diags, size_t diags_len);
 
 #ifdef __cplusplus
 }
