@@ -113,6 +113,8 @@ fn partition(dt: f64) -> Partition {
     let mut h_index = [0u64; 128];
     let mut j_index = [0u64; 128];
     let mut mask = [0u64; 64];
+    let mut heads = [0u64; 8];
+    let mut nexts = [0u64; 4];
     let mut work_words = [0u64; WORD_LANES * 4];
     let mut work_sums = [0f64; 8];
     let mut raws = [0f64; 4];
@@ -132,6 +134,8 @@ fn partition(dt: f64) -> Partition {
         &mut h_index,
         &mut j_index,
         &mut mask,
+        &mut heads,
+        &mut nexts,
         &mut work_words,
         &mut work_sums,
         &mut raws,

@@ -6,3 +6,4 @@ pub mod StepLaws
 pub mod SelectLaws
 pub mod LeastLaws
 pub mod CeilingLaws
+pub mod GrowthLaws

@@ -50,7 +50,7 @@ normed-is room m t ps len raws diags r f = go (ltb room (most (touchedBy m t) ps
     go true e = rw (f .answers, e)
     go false e =
         let a : r ≡ Tests.Accepted = f .answers ∙ (rw e) in
-        rw (a, e, f .raws-are a, f .diags-are a, columns-are (meanOf (map (diagBy m t) ps)) (rawBy m t) (diagBy m t) ps)
+        rw (a, e, f .raws-are a, f .diags-are a, columns-are (meanOf (map (diagBy m t) ps)) (rawBy m t ps) (diagBy m t) ps)
 
 -- ---- from the norm
 module _ (mu norm : Float) (d : Chosen) where
@@ -70,11 +70,11 @@ module _ (dt dropTol : Float) (normed : Normed) where
   degree-refused r e = rw e
 
 -- ---- the work tables
-pub work-zero : (hIndex jIndex mask workWords : List ℕ) (workSums raws diags : List Float) (hIndex′ jIndex′ mask′ workWords′ : List ℕ) (workSums′ raws′ diags′ : List Float)
-    → hIndex′ ≡ replicate (length hIndex) 0 → jIndex′ ≡ replicate (length jIndex) 0 → mask′ ≡ replicate (length mask) 0 → workWords′ ≡ replicate (length workWords) 0
-    → workSums′ ≡ replicate (length workSums) float0 → raws′ ≡ replicate (length raws) float0 → diags′ ≡ replicate (length diags) float0
-    → workOf hIndex′ jIndex′ mask′ workWords′ workSums′ raws′ diags′ ≡ zeroed (workOf hIndex jIndex mask workWords workSums raws diags)
-work-zero hIndex jIndex mask workWords workSums raws diags hIndex′ jIndex′ mask′ workWords′ workSums′ raws′ diags′ e1 e2 e3 e4 e5 e6 e7 = rw (e1, e2, e3, e4, e5, e6, e7)
+pub work-zero : (hIndex jIndex mask heads nexts workWords : List ℕ) (workSums raws diags : List Float) (hIndex′ jIndex′ mask′ heads′ nexts′ workWords′ : List ℕ) (workSums′ raws′ diags′ : List Float)
+    → hIndex′ ≡ replicate (length hIndex) 0 → jIndex′ ≡ replicate (length jIndex) 0 → mask′ ≡ replicate (length mask) 0 → heads′ ≡ replicate (length heads) 0 → nexts′ ≡ replicate (length nexts) 0
+    → workWords′ ≡ replicate (length workWords) 0 → workSums′ ≡ replicate (length workSums) float0 → raws′ ≡ replicate (length raws) float0 → diags′ ≡ replicate (length diags) float0
+    → workOf hIndex′ jIndex′ mask′ heads′ nexts′ workWords′ workSums′ raws′ diags′ ≡ zeroed (workOf hIndex jIndex mask heads nexts workWords workSums raws diags)
+work-zero hIndex jIndex mask heads nexts workWords workSums raws diags hIndex′ jIndex′ mask′ heads′ nexts′ workWords′ workSums′ raws′ diags′ e1 e2 e3 e4 e5 e6 e7 e8 e9 = rw (e1, e2, e3, e4, e5, e6, e7, e8, e9)
 
 -- ---- the calls
 module _ (w : Work) (m : Model) (t : ModelTables) (lanes : List ℕ) (len : ℕ) where

@@ -52,7 +52,7 @@ module _ (w : Work) (m : Model) (t : ModelTables) (lanes : List ℕ) (ok : testM
   none-asked : normTested m t lanes 0 w ≡ Tests.Accepted
   unfolding normTests insideTo firstTo whereAny
   none-asked = rw ok (
-      lent-none (length lanes / wordLanes) _ ∙ lent-none (length (w .hIndex)) _ ∙ lent-none (length (w .jIndex)) _ ∙ lent-none (length (w .mask)) _ ∙ lent-none (length (w .raws)) _ ∙ lent-none (length (w .diags)) _)
+      lent-none (length lanes / wordLanes) _ ∙ lent-none (length (w .hIndex)) _ ∙ lent-none (length (w .jIndex)) _ ∙ lent-none (length (w .mask)) _ ∙ lent-none (length (w .heads)) _ ∙ lent-none (length (w .nexts)) _ ∙ lent-none (length (w .raws)) _ ∙ lent-none (length (w .diags)) _)
 
   pub norm-empty : norming w m t lanes 0 ≡ record { answer = Norm float0 float0; work = zeroed w }
   unfolding norming

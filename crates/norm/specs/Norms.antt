@@ -36,20 +36,24 @@ pub record Work : Type 0 where
   pub hIndex : List ℕ
   pub jIndex : List ℕ
   pub mask : List ℕ
+  pub heads : List ℕ
+  pub nexts : List ℕ
   pub workWords : List ℕ
   pub workSums : List Float
   pub raws : List Float
   pub diags : List Float
 
-abbrev pub workOf : List ℕ → List ℕ → List ℕ → List ℕ → List Float → List Float → List Float → Work
-workOf hIndex jIndex mask workWords workSums raws diags =
-    record { hIndex = hIndex; jIndex = jIndex; mask = mask; workWords = workWords; workSums = workSums; raws = raws; diags = diags }
+abbrev pub workOf : List ℕ → List ℕ → List ℕ → List ℕ → List ℕ → List ℕ → List Float → List Float → List Float → Work
+workOf hIndex jIndex mask heads nexts workWords workSums raws diags =
+    record { hIndex = hIndex; jIndex = jIndex; mask = mask; heads = heads; nexts = nexts; workWords = workWords; workSums = workSums; raws = raws; diags = diags }
 
 abbrev pub zeroed : Work → Work
 zeroed w = record {
   hIndex = replicate (length (w .hIndex)) 0;
   jIndex = replicate (length (w .jIndex)) 0;
   mask = replicate (length (w .mask)) 0;
+  heads = replicate (length (w .heads)) 0;
+  nexts = replicate (length (w .nexts)) 0;
   workWords = replicate (length (w .workWords)) 0;
   workSums = replicate (length (w .workSums)) float0;
   raws = replicate (length (w .raws)) float0;
@@ -58,8 +62,8 @@ zeroed w = record {
 
 -- ---- the tests
 -- the model, 8, 9, 11, over the first len words and tables of so many places; no words ask for no place
-unfoldable pub normTests : Model → ModelTables → List ℕ → ℕ → ℕ → ℕ → ℕ → ℕ → ℕ → Answer
-normTests m t lanes len hIndex jIndex mask raws diags =
+unfoldable pub normTests : Model → ModelTables → List ℕ → ℕ → ℕ → ℕ → ℕ → ℕ → ℕ → ℕ → ℕ → Answer
+normTests m t lanes len hIndex jIndex mask heads nexts raws diags =
     inTurn (
     andThen (testModel m t)
     ∷ counted maxWords len
@@ -67,13 +71,15 @@ normTests m t lanes len hIndex jIndex mask raws diags =
     ∷ lent (whereAny len (rowLanes * m .qubits)) hIndex
     ∷ lent (whereAny len (rowLanes * m .qubits)) jIndex
     ∷ lent (whereAny len rowLanes) mask
+    ∷ lent len heads
+    ∷ lent len nexts
     ∷ lent len raws
     ∷ lent len diags
     ∷ insideTo len lanes (m .qubits)
     ∷ []) Tests.Accepted
 
 abbrev pub normTested : Model → ModelTables → List ℕ → ℕ → Work → Answer
-normTested m t lanes len w = normTests m t lanes len (length (w .hIndex)) (length (w .jIndex)) (length (w .mask)) (length (w .raws)) (length (w .diags))
+normTested m t lanes len w = normTests m t lanes len (length (w .hIndex)) (length (w .jIndex)) (length (w .mask)) (length (w .heads)) (length (w .nexts)) (length (w .raws)) (length (w .diags))
 
 -- then 7 for dt, and 7 for drop_tol: no coefficients are lent, so a threshold's index is 0
 unfoldable pub finiteTests : Float → Float → Answer

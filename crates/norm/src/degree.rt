@@ -63,12 +63,14 @@ pub fn expm_degree(
     h_index: &mut [u64],
     j_index: &mut [u64],
     mask: &mut [u64],
+    heads: &mut [u64],
+    nexts: &mut [u64],
     work_words: &mut [u64],
     work_sums: &mut [f64],
     raws: &mut [f64],
     diags: &mut [f64],
 ) -> Selected
-    ensures { λ r. ⌜ record { answer = r; work = workOf (now («h_index» .exit)) (now («j_index» .exit)) (now (mask .exit)) (now («work_words» .exit)) (now («work_sums» .exit)) (now (raws .exit)) (now (diags .exit)) } ≡ selecting (workOf (now («h_index» .entry)) (now («j_index» .entry)) (now (mask .entry)) (now («work_words» .entry)) (now («work_sums» .entry)) (now (raws .entry)) (now (diags .entry))) m (modelTables (now («h_words» .entry)) (now («h_coeffs» .entry)) (now (jumps .entry)) (now (rates .entry)) (now («t_words» .entry)) (now («t_numbers» .entry))) (now (words .entry)) len dt «drop_tol» ⌝ }
+    ensures { λ r. ⌜ record { answer = r; work = workOf (now («h_index» .exit)) (now («j_index» .exit)) (now (mask .exit)) (now (heads .exit)) (now (nexts .exit)) (now («work_words» .exit)) (now («work_sums» .exit)) (now (raws .exit)) (now (diags .exit)) } ≡ selecting (workOf (now («h_index» .entry)) (now («j_index» .entry)) (now (mask .entry)) (now (heads .entry)) (now (nexts .entry)) (now («work_words» .entry)) (now («work_sums» .entry)) (now (raws .entry)) (now (diags .entry))) m (modelTables (now («h_words» .entry)) (now («h_coeffs» .entry)) (now (jumps .entry)) (now (rates .entry)) (now («t_words» .entry)) (now («t_numbers» .entry))) (now (words .entry)) len dt «drop_tol» ⌝ }
 {
     let answer = check_degree(
         m,
@@ -85,6 +87,8 @@ pub fn expm_degree(
         h_index.len(),
         j_index.len(),
         mask.len(),
+        heads.len(),
+        nexts.len(),
         raws.len(),
         diags.len(),
     );
@@ -102,6 +106,8 @@ pub fn expm_degree(
             h_index,
             j_index,
             mask,
+            heads,
+            nexts,
             work_words,
             work_sums,
             raws,

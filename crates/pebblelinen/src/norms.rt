@@ -55,12 +55,14 @@ pub extern "C" fn pebblelinen_norm(
     h_index: &mut [u64],
     j_index: &mut [u64],
     mask: &mut [u64],
+    heads: &mut [u64],
+    nexts: &mut [u64],
     work_words: &mut [u64],
     work_sums: &mut [f64],
     raws: &mut [f64],
     diags: &mut [f64],
 ) -> NormOfBasis
-    ensures { λ r. ⌜ LeavesNorm (norming (workOf (now («h_index» .entry)) (now («j_index» .entry)) (now (mask .entry)) (now («work_words» .entry)) (now («work_sums» .entry)) (now (raws .entry)) (now (diags .entry))) model (record { hWords = now («h_words» .entry); hCoeffs = now («h_coeffs» .entry); jumps = now (jumps .entry); rates = now (rates .entry); tWords = now («t_words» .entry); tNumbers = now («t_numbers» .entry) }) (now (words .entry)) len) r (workOf (now («h_index» .exit)) (now («j_index» .exit)) (now (mask .exit)) (now («work_words» .exit)) (now («work_sums» .exit)) (now (raws .exit)) (now (diags .exit))) ⌝ }
+    ensures { λ r. ⌜ LeavesNorm (norming (workOf (now («h_index» .entry)) (now («j_index» .entry)) (now (mask .entry)) (now (heads .entry)) (now (nexts .entry)) (now («work_words» .entry)) (now («work_sums» .entry)) (now (raws .entry)) (now (diags .entry))) model (record { hWords = now («h_words» .entry); hCoeffs = now («h_coeffs» .entry); jumps = now (jumps .entry); rates = now (rates .entry); tWords = now («t_words» .entry); tNumbers = now («t_numbers» .entry) }) (now (words .entry)) len) r (workOf (now («h_index» .exit)) (now («j_index» .exit)) (now (mask .exit)) (now (heads .exit)) (now (nexts .exit)) (now («work_words» .exit)) (now («work_sums» .exit)) (now (raws .exit)) (now (diags .exit))) ⌝ }
 {
     normed_of(norm::norm::norm(
         model,
@@ -75,6 +77,8 @@ pub extern "C" fn pebblelinen_norm(
         h_index,
         j_index,
         mask,
+        heads,
+        nexts,
         work_words,
         work_sums,
         raws,
@@ -133,12 +137,14 @@ pub extern "C" fn pebblelinen_expm_degree(
     h_index: &mut [u64],
     j_index: &mut [u64],
     mask: &mut [u64],
+    heads: &mut [u64],
+    nexts: &mut [u64],
     work_words: &mut [u64],
     work_sums: &mut [f64],
     raws: &mut [f64],
     diags: &mut [f64],
 ) -> Partition
-    ensures { λ r. ⌜ LeavesPartition (selecting (workOf (now («h_index» .entry)) (now («j_index» .entry)) (now (mask .entry)) (now («work_words» .entry)) (now («work_sums» .entry)) (now (raws .entry)) (now (diags .entry))) model (record { hWords = now («h_words» .entry); hCoeffs = now («h_coeffs» .entry); jumps = now (jumps .entry); rates = now (rates .entry); tWords = now («t_words» .entry); tNumbers = now («t_numbers» .entry) }) (now (words .entry)) len dt «drop_tol») r (workOf (now («h_index» .exit)) (now («j_index» .exit)) (now (mask .exit)) (now («work_words» .exit)) (now («work_sums» .exit)) (now (raws .exit)) (now (diags .exit))) ⌝ }
+    ensures { λ r. ⌜ LeavesPartition (selecting (workOf (now («h_index» .entry)) (now («j_index» .entry)) (now (mask .entry)) (now (heads .entry)) (now (nexts .entry)) (now («work_words» .entry)) (now («work_sums» .entry)) (now (raws .entry)) (now (diags .entry))) model (record { hWords = now («h_words» .entry); hCoeffs = now («h_coeffs» .entry); jumps = now (jumps .entry); rates = now (rates .entry); tWords = now («t_words» .entry); tNumbers = now («t_numbers» .entry) }) (now (words .entry)) len dt «drop_tol») r (workOf (now («h_index» .exit)) (now («j_index» .exit)) (now (mask .exit)) (now (heads .exit)) (now (nexts .exit)) (now («work_words» .exit)) (now («work_sums» .exit)) (now (raws .exit)) (now (diags .exit))) ⌝ }
 {
     partition_of(norm::degree::expm_degree(
         model,
@@ -155,6 +161,8 @@ pub extern "C" fn pebblelinen_expm_degree(
         h_index,
         j_index,
         mask,
+        heads,
+        nexts,
         work_words,
         work_sums,
         raws,
