@@ -1,7 +1,7 @@
 # SPDX-FileCopyrightText: 2026 The PPVM Authors
 # SPDX-License-Identifier: Apache-2.0
-"""What the package costs beside the C call: leakage, generator and CSR of a chain of 256 qubits over 65,536
-words, building a large model, and loading.
+"""What the package costs beside the C call: leakage, generator, CSR and Matrix Market of a chain of 256 qubits over
+65,536 words, building a large model, and loading.
 
 usage: python/run bench [--words N] [--rounds R] [--seed S]
 
@@ -10,13 +10,20 @@ to four letters on six neighbouring qubits. Package and C call take turns in one
 tables of its own; the C call's are ready before the clock starts. The shortest of the rounds counts. The
 first call of the package, which finds out how long its tables must be, is told apart.
 
+The text of Matrix Market is also timed, beyond the generator that it is made from, beside a loop of fprintf over the
+same entries to /dev/null (fprintf_loop.c) and beside scipy's mmwrite of the counts to memory.
+
 The large model has 4,096 Hamiltonian terms and 4,096 jumps of two terms, words on two neighbours; the package
 builds it from words that were read before, the C call from their texts; and changes one rate of it."""
 import argparse
+import ctypes
+import io
 import random
 import subprocess
 import sys
+import tempfile
 import time
+from pathlib import Path
 
 import numpy as np
 
@@ -71,7 +78,9 @@ def c_call(name, *arguments):
         assert arrays
         answer = function(*passed)
         assert answer.status.refusal == 0, answer.status.refusal
-        return answer.count if hasattr(answer, "count") else answer.model.hamiltonian
+        if hasattr(answer, "model"):
+            return answer.model.hamiltonian
+        return answer.bytes if hasattr(answer, "bytes") else answer.count
 
     return call
 
@@ -99,7 +108,8 @@ def leakage_call(model, basis):
     )
 
 
-def generator_call(name, model, basis, first):
+def generator_call(name, model, basis, out):
+    """A call over the basis that writes to these tables, for so many entries."""
     entries = ENTRIES * len(basis)
     lengths = _library.call("generator_sizes", QUBITS, len(basis), TOUCHED, entries)
     types = dict(work_sums=np.float64, stage_values=np.float64, stage_rows=np.uint32, stage_columns=np.uint32)
@@ -109,10 +119,58 @@ def generator_call(name, model, basis, first):
         basis.lanes,
         len(basis),
         *tables(lengths, types),
-        first(entries),
-        np.zeros(entries, np.uint32),
-        np.zeros(entries),
+        *out(entries),
     )
+
+
+def of_entries(entries):
+    return np.zeros(entries, np.uint32), np.zeros(entries, np.uint32), np.zeros(entries)
+
+
+def of_text(entries):
+    return (np.zeros(_library.call("matrix_market_text", entries), np.uint8),)
+
+
+def fprintf_call(matrix, path):
+    """The C loop over a generator's entries."""
+    with tempfile.TemporaryDirectory() as made:
+        shared = Path(made, "fprintf_loop.so")
+        source = Path(__file__).with_name("fprintf_loop.c")
+        subprocess.run(["gcc", "-O2", "-shared", "-fPIC", "-o", shared, source, "-lm"], check=True)
+        loop = ctypes.CDLL(str(shared)).write_entries
+    loop.restype = ctypes.c_size_t
+    tables = [np.ascontiguousarray(table) for table in (matrix.row, matrix.col, matrix.data)]
+    pointers = [ctypes.c_void_p(table.ctypes.data) for table in tables]
+    sizes = ctypes.c_size_t(matrix.shape[0]), ctypes.c_size_t(matrix.nnz)
+    return lambda: (loop(str(path).encode(), *sizes, *pointers), len(tables))[0]
+
+
+def matrix_market(model, basis, rounds):
+    """What a text takes beyond the generator, as a part of what the loop of fprintf takes."""
+    import scipy.io
+
+    matrix = model.generator(basis)
+    with tempfile.TemporaryDirectory() as made:
+        path = Path(made, "chain.mtx")
+        fprintf_call(matrix, path)()
+        assert path.read_bytes() == model.matrix_market(basis), "both write the same"
+    generator = generator_call("generator", model, basis, of_entries)
+    text = generator_call("matrix_market", model, basis, of_text)
+    loop = fprintf_call(matrix, "/dev/null")
+    best = dict.fromkeys([generator, text, loop], float("inf"))
+    for _ in range(rounds):
+        for call in best:
+            best[call] = min(best[call], timed(call)[0])
+    counts = matrix.copy()
+    counts.data = np.rint(matrix.data * 2.0**32).astype(np.int64)
+    scipys, _ = timed(lambda: scipy.io.mmwrite(io.BytesIO(), counts))
+    beyond = best[text] - best[generator]
+    print(
+        f"Matrix Market, {matrix.nnz} entries, {text()} bytes, beyond the generator's {best[generator] * 1e3:.1f} ms:"
+        f" {beyond * 1e3:.1f} ms, fprintf {best[loop] * 1e3:.1f} ms ({beyond / best[loop]:.2f} of it),"
+        f" scipy's mmwrite {scipys * 1e3:.0f} ms"
+    )
+    return beyond / best[loop]
 
 
 def items(rng):
@@ -209,17 +267,25 @@ def main():
         (
             "generator",
             lambda: model.generator(basis).nnz,
-            lambda: generator_call("generator", model, basis, lambda k: np.zeros(k, np.uint32)),
+            lambda: generator_call("generator", model, basis, of_entries),
         ),
         (
             "CSR",
             lambda: model.csr(basis).nnz,
-            lambda: generator_call("build_csr", model, basis, lambda k: np.zeros(len(basis) + 1, np.uint64)),
+            lambda: generator_call(
+                "build_csr", model, basis, lambda k: (np.zeros(len(basis) + 1, np.uint64), *of_entries(k)[1:])
+            ),
+        ),
+        (
+            "Matrix Market",
+            lambda: len(model.matrix_market(basis)),
+            lambda: generator_call("matrix_market", model, basis, of_text),
         ),
     ]
     worst = max(
         compare(what, package, direct(), options.rounds) for what, package, direct in comparisons
     )
+    written = matrix_market(model, basis, options.rounds)
     given = items(rng)
     built = compare(
         "building", lambda: len(Model(QUBITS, *given).hamiltonian), building_call(*given), 10 * options.rounds
@@ -227,7 +293,7 @@ def main():
     retuned = retuning(given, 10 * options.rounds)
     clock, processor = loading()
     print(f"loading: {clock:.3f} s, {processor:.3f} s of the processor")
-    return 0 if worst < 0.05 and built < 1 and retuned < 0.05 and processor < 0.3 else 1
+    return 0 if worst < 0.05 and written <= 1 and built < 1 and retuned < 0.05 and processor < 0.3 else 1
 
 
 if __name__ == "__main__":

@@ -4,13 +4,13 @@
  * Damaged calls across the C boundary: sound arguments, of which some are then made too short, too long,
  * too large or senseless. Whatever is passed, a call must end, touch nothing but the slices that it was lent,
  * and leave them as include/pebblelinen.h says: all of them on a refusal, the work tables zero after
- * acceptance and after refusals 13 and 14, and what it only reads always.
+ * acceptance and after refusals 13 to 16, and what it only reads always.
  *
  *   fuzz CALLS SEED [pages]
  *
  * Run under valgrind, slices are blocks of their exact length. With `pages` each ends at a page that cannot
- * be touched, which is quick and needs no valgrind. WITH_GENERATOR adds generator, CSR, product, norm and
- * degree.
+ * be touched, which is quick and needs no valgrind. WITH_GENERATOR adds generator, CSR, Matrix Market, product,
+ * norm and degree.
  */
 #include <math.h>
 #include <stdio.h>
@@ -158,7 +158,8 @@ static void damage(size_t **counts, size_t count_count, double **numbers, size_t
 /* ---- what must hold afterwards ---- */
 
 static const char *called;
-static uint64_t calls_made, by_refusal[16];
+enum { LAST_REFUSAL = 16 };
+static uint64_t calls_made, by_refusal[LAST_REFUSAL + 1];
 
 static void wrong(const char *what, uint64_t refusal) {
     fprintf(stderr, "%s: %s (refusal %llu, call %llu)\n", called, what, (unsigned long long)refusal,
@@ -177,8 +178,8 @@ static bool zero(const Slice *s) {
 
 static void check(pebblelinen_status status) {
     uint64_t refusal = status.refusal;
-    if (refusal > 14) wrong("no such refusal", refusal);
-    bool cleared = refusal == 0 || refusal == 13 || refusal == 14;
+    if (refusal > LAST_REFUSAL) wrong("no such refusal", refusal);
+    bool cleared = refusal == 0 || refusal >= 13;
     for (size_t i = 0; i < lent_count; i++) {
         Slice *s = lent[i];
         if (s->role == WORK && cleared) {
@@ -338,6 +339,7 @@ static void call_algebra(void) {
     (void)pebblelinen_matrix_sizes(odd_count(), odd_count());
     (void)pebblelinen_basis_sizes(odd_count(), odd_count(), odd_count());
     (void)pebblelinen_leakage_sizes(odd_count(), odd_count(), odd_count(), odd_count(), odd_count());
+    (void)pebblelinen_matrix_market_text(odd_count());
     pebblelinen_fitting fitting = pebblelinen_fits_register(p, odd_count());
     if (fitting.status.refusal && fitting.fits) wrong("a word fits a register that was refused", 0);
     check(fitting.status);
@@ -472,9 +474,14 @@ static void call_leakage(void) {
 }
 
 #ifdef WITH_GENERATOR
-static void generate(bool csr) {
-    size_t n = some_qubits(), len = below(12), entries = below(100);
+typedef enum { ENTRIES, BY_ROWS, TEXT } Form;
+
+static void generate(Form form) {
+    bool few = form == TEXT && chance(50);
+    size_t n = few ? 1 : some_qubits(), len = few ? 2 : below(12), entries = below(100);
     Tables t = some_model(n, READ);
+    /* Now and then values that are too large to be written. */
+    for (size_t i = 0; i < t.h_coeffs.len && form == TEXT && chance(30); i++) ((double *)t.h_coeffs.p)[i] *= 0x1p40;
     Slice words = some_words(len, n, READ);
     pebblelinen_generator_lengths sizes = pebblelinen_generator_sizes(n, len, below(40), entries);
     size_t lengths[10];
@@ -482,20 +489,29 @@ static void generate(bool csr) {
     Slice w[10];
     lend_tables(&t), lend(&words);
     for (size_t i = 0; i < 10; i++) w[i] = make(lengths[i], i == 7 || i == 8 ? 4 : 8, WORK), lend(&w[i]);
-    Slice first = csr ? make(len + 1, 8, CHANGED) : make(entries, 4, CHANGED);
+    Slice first = form == TEXT      ? make(chance(70) ? pebblelinen_matrix_market_text(entries) : below(200), 1, CHANGED)
+                  : form == BY_ROWS ? make(len + 1, 8, CHANGED)
+                                    : make(entries, 4, CHANGED);
     Slice columns = make(entries, 4, CHANGED), values = make(entries, 8, CHANGED);
     lend(&first), lend(&columns), lend(&values);
     damage((size_t *[]){MODEL_COUNTS(t), &len}, 5, NULL, 0);
-    check(csr ? pebblelinen_build_csr(MODEL(t), P(words), len, P(w[0]), P(w[1]), P(w[2]), P(w[3]), P(w[4]),
-                                      P(w[5]), P(w[6]), P(w[7]), P(w[8]), P(w[9]), P(first), P(columns), P(values))
-                    .status
-              : pebblelinen_generator(MODEL(t), P(words), len, P(w[0]), P(w[1]), P(w[2]), P(w[3]), P(w[4]),
-                                      P(w[5]), P(w[6]), P(w[7]), P(w[8]), P(w[9]), P(first), P(columns), P(values))
-                    .status);
+#define WORK_TABLES \
+    P(w[0]), P(w[1]), P(w[2]), P(w[3]), P(w[4]), P(w[5]), P(w[6]), P(w[7]), P(w[8]), P(w[9])
+    if (form == TEXT) {
+        pebblelinen_written written = pebblelinen_matrix_market(MODEL(t), P(words), len, WORK_TABLES, P(first));
+        bool ends = written.bytes && ((char *)first.p)[written.bytes - 1] == '\n';
+        if (written.bytes > first.len || ends == !!written.status.refusal) wrong("a text does not end", 0);
+        check(written.status);
+        return;
+    }
+    check(form == BY_ROWS
+              ? pebblelinen_build_csr(MODEL(t), P(words), len, WORK_TABLES, P(first), P(columns), P(values)).status
+              : pebblelinen_generator(MODEL(t), P(words), len, WORK_TABLES, P(first), P(columns), P(values)).status);
 }
 
-static void call_generator(void) { generate(false); }
-static void call_csr(void) { generate(true); }
+static void call_generator(void) { generate(ENTRIES); }
+static void call_csr(void) { generate(BY_ROWS); }
+static void call_market(void) { generate(TEXT); }
 
 static Slice of(const void *from, size_t len, size_t each, Role role) {
     Slice s = make(len, each, role);
@@ -529,16 +545,21 @@ static void call_norm(void) {
     Slice words = some_words(len, n, READ);
     Slice h_index = make(64 * n, 8, WORK), j_index = make(64 * n, 8, WORK), mask = make(64, 8, WORK);
     Slice work = make(WORD * places, 8, WORK), sums = make(2 * places, 8, WORK);
+    Slice heads = make(2 * len, 8, WORK), nexts = make(len, 8, WORK);
     Slice raws = make(len, 8, WORK), diags = make(len, 8, WORK);
-    lend_tables(&t), lend(&words), lend(&h_index), lend(&j_index), lend(&mask), lend(&work), lend(&sums);
-    lend(&raws), lend(&diags);
+    lend_tables(&t), lend(&words), lend(&h_index), lend(&j_index), lend(&mask), lend(&heads), lend(&nexts);
+    lend(&work), lend(&sums), lend(&raws), lend(&diags);
     damage((size_t *[]){MODEL_COUNTS(t), &len}, 5, (double *[]){&dt, &drop_tol}, 2);
-    (void)pebblelinen_select_ms(odd_number(), odd_number());
-    check(chance(50) ? pebblelinen_norm(MODEL(t), P(words), len, P(h_index), P(j_index), P(mask), P(work), P(sums),
-                                        P(raws), P(diags))
+    pebblelinen_degree degree = pebblelinen_select_ms(odd_number(), odd_number());
+    if (degree.status.refusal ? degree.status.refusal != 16 || degree.m || degree.s
+                              : !degree.m || (uint64_t)degree.m * degree.s > PEBBLELINEN_MAX_PRODUCTS)
+        wrong("a degree is above the ceiling", degree.status.refusal);
+    if (chance(10)) dt = 1e6;
+    check(chance(50) ? pebblelinen_norm(MODEL(t), P(words), len, P(h_index), P(j_index), P(mask), P(heads), P(nexts),
+                                        P(work), P(sums), P(raws), P(diags))
                            .status
                      : pebblelinen_expm_degree(MODEL(t), P(words), len, dt, drop_tol, P(h_index), P(j_index),
-                                               P(mask), P(work), P(sums), P(raws), P(diags))
+                                               P(mask), P(heads), P(nexts), P(work), P(sums), P(raws), P(diags))
                            .status);
 }
 #endif
@@ -556,6 +577,7 @@ static const struct {
     {"leakage_with_prune", call_leakage},
 #ifdef WITH_GENERATOR
     {"generator", call_generator}, {"build_csr", call_csr},
+    {"matrix_market", call_market},
     {"dot", call_dot}, {"norm", call_norm},
 #endif
 };
@@ -571,7 +593,7 @@ int main(int count, char **arguments) {
         calls[which].call();
     }
     printf("%llu damaged calls, by refusal:", (unsigned long long)wanted);
-    for (size_t i = 0; i <= 14; i++) printf(" %zu: %llu", i, (unsigned long long)by_refusal[i]);
+    for (size_t i = 0; i <= LAST_REFUSAL; i++) printf(" %zu: %llu", i, (unsigned long long)by_refusal[i]);
     printf("\n");
     return 0;
 }

@@ -197,6 +197,14 @@ class GeneratorLengths(Structure):
 
 
 @_struct
+class Written(Structure):
+    """How long the text is that was written."""
+
+    status: Status
+    bytes: Size
+
+
+@_struct
 class Row(Structure):
     """Where a row stands."""
 
@@ -209,6 +217,7 @@ class Row(Structure):
 class Degree(Structure):
     """Products and stages."""
 
+    status: Status
     m: Small
     s: Small
 
@@ -271,13 +280,15 @@ _FUNCTIONS: dict[str, tuple[Any, list[Any]]] = {
     "generator_sizes": (GeneratorLengths, [c_size_t] * 4),
     "generator": (Listed, [*_LENT_MODEL, *slices(1), c_size_t, *slices(10), *slices(3)]),
     "build_csr": (Listed, [*_LENT_MODEL, *slices(1), c_size_t, *slices(10), *slices(3)]),
+    "matrix_market_text": (c_size_t, [c_size_t]),
+    "matrix_market": (Written, [*_LENT_MODEL, *slices(1), c_size_t, *slices(10), *slices(1)]),
     "csr_row": (Row, [c_size_t, *slices(2), c_size_t]),
     "dot": (Status, [c_size_t, *slices(4), c_bool, *slices(2)]),
     "select_ms": (Degree, [c_double, c_double]),
-    "norm": (Normed, [*_LENT_MODEL, *slices(1), c_size_t, *slices(7)]),
+    "norm": (Normed, [*_LENT_MODEL, *slices(1), c_size_t, *slices(9)]),
     "expm_degree": (
         Partition,
-        [*_LENT_MODEL, *slices(1), c_size_t, c_double, c_double, *slices(7)],
+        [*_LENT_MODEL, *slices(1), c_size_t, c_double, c_double, *slices(9)],
     ),
 }
 

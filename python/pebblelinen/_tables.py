@@ -3,7 +3,7 @@
 """Work tables: lent by the lengths that the library names, and lent again larger where it says that a
 table was too short (refusal 13).
 
-The library leaves work tables zero after an accepted call and after refusals 13 and 14, and as they were
+The library leaves work tables zero after an accepted call and after refusals 13 to 16, and as they were
 after every other refusal. So tables that were zero once stay zero, and are kept for the next call."""
 import ctypes
 from collections.abc import Iterator

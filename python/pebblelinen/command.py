@@ -14,6 +14,7 @@ from collections.abc import Callable, Iterable, Iterator, Sequence
 from typing import Any, NoReturn
 
 from . import _given, demo, modelfile
+from ._files import write_whole
 from ._given import counted
 from ._progress import working
 from ._version import __version__
@@ -34,6 +35,7 @@ How noise moves an observable of a quantum device: the adjoint Lindblad generato
   pebblelinen action chain.toml "Z128"        what the device does to Z on qubit 128
   pebblelinen leakage chain.toml --max-basis 100
   pebblelinen generator chain.toml
+  pebblelinen generator chain.toml --matrix-market chain.mtx
   pebblelinen degree chain.toml --dt 0.1
 
 Every command has its own --help. A qubit is a site of the device, a position is a place in the basis; both
@@ -163,20 +165,24 @@ def _parser() -> argparse.ArgumentParser:
     made.add_argument("--admit-basis", type=int, metavar="N", help="counts instead where it is larger")
     made.add_argument("--tau-add", type=float, metavar="X", help="list sums above X (default 2^-40)")
 
-    command(
+    made = command(
         "generator",
         _generator,
         "the model over the basis, as a sparse matrix",
         "The model over the file's basis, as a sparse matrix whose rows and columns are positions. Entries\n"
-        "stand by column, then by word.",
+        "stand by column, then by word. With --matrix-market they are written to a file for other tools, in\n"
+        "the form `coordinate integer general`: rows and columns are then counted from 1, and values are\n"
+        "whole counts of 2^-32, the nearest, halves away from zero. The file is written whole or not at all.",
     )
+    made.add_argument("--matrix-market", metavar="OUT", help="write it to the file OUT, as Matrix Market")
 
     made = command(
         "degree",
         _degree,
         "norm of the generator, and how to compute its exponential",
         "The norm of the generator over the file's basis, and how the exponential of dt times it is to be\n"
-        "computed: s stages of m products each.",
+        "computed: s stages of m products each. A dt that asks for more than 1,048,576 products, a mistyped\n"
+        "one most likely, is refused, with the largest that does not.",
     )
     made.add_argument("--dt", type=float, required=True, metavar="T", help="the time step")
     made.add_argument(
@@ -270,6 +276,8 @@ def _leakage(options: argparse.Namespace) -> _Answers:
 
 def _generator(options: argparse.Namespace) -> _Answers:
     file = _loaded_with_basis(options)
+    if options.matrix_market is not None:
+        return _matrix_market(options, file)
     with working(f"generator over {len(file.basis)} entries"):
         matrix = file.model.generator(file.basis)
     entries = list(zip(matrix.row.tolist(), matrix.col.tolist(), matrix.data.tolist()))
@@ -299,6 +307,32 @@ def _generator(options: argparse.Namespace) -> _Answers:
             yield row, column, repr(value), words[row], words[column]
 
     return answer, lines, rows
+
+
+def _matrix_market(options: argparse.Namespace, file: modelfile.ModelFile) -> _Answers:
+    out: str = options.matrix_market
+    if options.csv:
+        raise InputError("--matrix-market writes the entries to a file: there is no table of them for --csv")
+    with working(f"generator over {len(file.basis)} entries"):
+        text = file.model.matrix_market(file.basis)
+    write_whole(out, text)
+    # After two lines each entry has one.
+    entries = text.count(b"\n") - 2
+
+    def answer() -> dict[str, Any]:
+        words = [entry.word.by_site for entry in file.basis]
+        return {"qubits": file.model.n, "basis": words, "matrix_market": out, "count": entries, "bytes": len(text)}
+
+    def lines() -> Iterator[str]:
+        yield str(file.model)
+        yield ""
+        yield (
+            f"generator over {counted(len(file.basis), 'position')}:"
+            f" {counted(entries, 'entry', 'entries')}, by column, then by word"
+        )
+        yield f"written to {out} as Matrix Market, values in counts of 2^-32"
+
+    return answer, lines, list
 
 
 def _degree(options: argparse.Namespace) -> _Answers:
@@ -440,7 +474,7 @@ def _largest(x: float) -> float | str | None:
 def _error(error: Exception) -> dict[str, Any]:
     told: dict[str, Any] = {"said": str(error)}
     if isinstance(error, Refusal):
-        values = {name: x if isinstance(x, (int, str)) else int(x) for name, x in error.values.items()}
+        values = {name: x if isinstance(x, (int, float, str)) else int(x) for name, x in error.values.items()}
         told |= {"refusal": error.number, "cause": error.cause, "values": values}
     where = getattr(error, "where", "")
     if where:

@@ -10,17 +10,12 @@ from typing import Any, NamedTuple
 from . import modelfile
 from ._types import NumberTable
 from .basis import Basis
-from .errors import InputError
 from .matrix import product
 from .model import Model
 
 QUBITS = 256
 SITE = 128
 OBSERVABLE = f"Z{SITE}"
-
-# A time step that asks for more products than this is mistyped.
-_MOST_PRODUCTS = 1 << 20
-
 
 def items(n: int = QUBITS) -> tuple[dict[str, float], list[tuple[float, str | dict[str, complex]]]]:
     """Hamiltonian and jumps of the chain: XX + YY couplings and weaker ZZ ones between neighbours, fields
@@ -77,8 +72,6 @@ def evolved(model: Model, basis: Basis, generator: Any, dt: float) -> NumberTabl
     """The coefficients after a time step: the exponential's Taylor series in so many stages of so many
     products as the library chooses, for the generator less mu."""
     degree = model.degree(basis, dt=dt, drop_tol=1e-4)
-    if degree.m * degree.s > _MOST_PRODUCTS:
-        raise InputError(f"a time step of {dt} asks for {degree.m * degree.s} products")
     v = basis.coefficients.copy()
     for _ in range(degree.s):
         b = v.copy()

@@ -22,6 +22,8 @@ CAUSES = {
     12: "basis word again",
     13: "more places needed than lent",
     14: "leakage or product sum not finite",
+    15: "written count of 2^62 or more",
+    16: "more than 1,048,576 matrix products",
 }
 
 

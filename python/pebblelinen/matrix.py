@@ -4,6 +4,7 @@
 
 Columns and values of a matrix are the arrays that the library wrote; scipy counts with sign, and every
 place here is below 2^31, so the same bytes serve both."""
+import struct
 import weakref
 from collections.abc import Callable, Iterable, Mapping
 from typing import Any, NamedTuple
@@ -18,8 +19,9 @@ from ._types import ColumnTable, LaneTable, NumberTable
 from .errors import InputError, LibraryMissing, Refusal
 from .words import Position
 
-# The most rows of a matrix.
+# The most rows of a matrix, and the most products with it that an exponential may take.
 _MAX_ROWS = 65_536
+MAX_PRODUCTS = 1_048_576
 _NO_COLUMN = 0xFFFF_FFFF
 
 
@@ -143,9 +145,42 @@ def _is_accepted(matrix: Any) -> bool:
 
 
 def select_ms(t: float, drop_tol: float = 0.0) -> Choice:
-    """How an exponential whose exponent has the norm t is to be computed: s stages of m products."""
-    degree: _library.Degree = _library.call("select_ms", _given.real(t, "t"), _given.real(drop_tol, "drop_tol"))
+    """How an exponential whose exponent has the norm t is to be computed: s stages of m products. Where these are more
+    than 1,048,576 in all it is refused (refusal 16)."""
+    t, drop_tol = _given.real(t, "t"), _given.real(drop_tol, "drop_tol")
+    degree: _library.Degree = _library.call("select_ms", t, drop_tol)
+    if degree.status.refusal:
+        raise too_many_products(degree.status, f"t = {t!r}", f"t of at most {largest_step(1.0, drop_tol)!r}")
     return Choice(degree.m, degree.s)
+
+
+def too_many_products(status: _library.Status, asking: str, enough: str) -> Refusal:
+    """Refusal 16: what asked for so many products, and what would not."""
+    m, s = status.first, status.second
+    said = (
+        f"{asking} asks for {s} stages of {m} products each, {m * s} in all: at most {MAX_PRODUCTS};"
+        f" a {enough} will do"
+    )
+    return Refusal(16, said, {"m": m, "s": s})
+
+
+def largest_step(norm: float, drop_tol: float) -> float:
+    """The largest step, from 0 on, whose products are not too many at this norm, which is above 0."""
+
+    def step(bits: int) -> float:
+        made: float = struct.unpack("<d", struct.pack("<Q", bits))[0]
+        return made
+
+    def is_accepted(bits: int) -> bool:
+        degree: _library.Degree = _library.call("select_ms", step(bits) * norm, drop_tol)
+        return degree.status.refusal == 0
+
+    # Numbers from 0 to infinity, which is refused, are in the order of their bits.
+    low, high = 0, 0x7FF << 52
+    while high - low > 1:
+        middle = (low + high) // 2
+        low, high = (middle, high) if is_accepted(middle) else (low, middle)
+    return step(low)
 
 
 def _check_matrix(matrix: Any) -> None:

@@ -2,6 +2,8 @@
 # SPDX-License-Identifier: Apache-2.0
 """A model of a device: what it does to words and bases."""
 import functools
+import math
+import os
 from collections.abc import Callable, Iterable, Iterator, Mapping, Sequence
 from typing import Any, NamedTuple
 
@@ -10,6 +12,7 @@ from numpy.typing import NDArray
 
 from . import _building, _given, _library, items, kossakowski, matrix
 from ._building import AnyMatrix, AnyOperator
+from ._files import write_whole
 from ._lanes import WORD_LANES, pickled_before
 from ._sealed import Sealed
 from ._showing import Shown, Table
@@ -433,13 +436,28 @@ class Model(Shown, Sealed):
 
     def _generated(self, name: str, basis: Basis, offsets: LaneTable | None) -> list[NDArray[Any]]:
         """Rows or offsets, columns and values."""
+
+        def tables(entries: int) -> list[NDArray[Any]]:
+            rows: NDArray[Any] = np.empty(entries, np.uint32) if offsets is None else offsets
+            return [rows, np.empty(entries, np.uint32), np.empty(entries)]
+
         self._check(basis)
+        with basis._lock:
+            listed, out = self._staged(name, basis, tables)
+            if listed.status.refusal:
+                raise refusal(listed.status, basis)
+        return [table if table is offsets else table[: listed.count] for table in out]
+
+    def _staged(
+        self, name: str, basis: Basis, tables: Callable[[int], list[NDArray[Any]]]
+    ) -> tuple[Any, list[NDArray[Any]]]:
+        """The answer of a call that makes the generator's entries, and what it wrote to: `tables` has that for so many
+        entries."""
         len_ = len(basis)
         out: list[NDArray[Any]] = []
 
         def attempt(touched: int, entries: int) -> Any:
-            rows: NDArray[Any] = np.empty(entries, np.uint32) if offsets is None else offsets
-            out[:] = rows, np.empty(entries, np.uint32), np.empty(entries)
+            out[:] = tables(entries)
             lengths = _library.call("generator_sizes", self.n, len_, touched, entries)
             with work_tables() as work:
                 return _library.call(name, *self._lent(), basis._lanes, len_, *work.lend(lengths), *out)
@@ -447,24 +465,65 @@ class Model(Shown, Sealed):
         def entries(each: int) -> int:
             return len_ * min(each, len_)
 
+        first = min(max(entries(8), self._entries), entries(self._touched))
+        answer, places = self._lending(attempt, first, entries)
+        self._entries = max(self._entries, places)
+        return answer, out
+
+    def matrix_market(self, basis: Basis) -> bytes:
+        """The generator over a basis in the Matrix Market form `coordinate integer general`, for other linear-algebra
+        tools: the bytes of its text.
+
+        After the header stand the rows, columns and entries in a line; then each entry in one, by column, then by word:
+        its row and column, counted from 1, which are positions plus 1, and its value as the nearest whole count of
+        2^-32, halves away from zero. An entry whose count is 0 is written too. Values of 2^30 or more in magnitude
+        cannot be written (refusal 15)."""
+
+        def tables(entries: int) -> list[NDArray[Any]]:
+            return [np.empty(_library.call("matrix_market_text", entries), np.uint8)]
+
+        self._check(basis)
         with basis._lock:
-            first = min(max(entries(8), self._entries), entries(self._touched))
-            listed, places = self._lending(attempt, first, entries)
-            self._entries = max(self._entries, places)
-            if listed.status.refusal:
-                raise refusal(listed.status, basis)
-        return [table if table is offsets else table[: listed.count] for table in out]
+            written, (text,) = self._staged("matrix_market", basis, tables)
+            if written.status.refusal == 15:
+                raise self._too_large(basis, written.status.first)
+            if written.status.refusal:
+                raise refusal(written.status, basis)
+        return text[: written.bytes].tobytes()
+
+    def write_matrix_market(self, basis: Basis, path: str | os.PathLike[str]) -> None:
+        """Writes the text of matrix_market to a file, whole or not at all: whatever happens, there is either all of it
+        or what was there before."""
+        write_whole(path, self.matrix_market(basis))
+
+    def _too_large(self, basis: Basis, number: int) -> Refusal:
+        """Refusal 15, of an entry by its number from 1: which one it is, and a unit in which all can be written."""
+        rows, columns, values = self._generated("generator", basis, None)
+        row, column = (basis.entry(position=int(places[number - 1])) for places in (rows, columns))
+        value = float(values[number - 1])
+        # The largest is below 2^exponent.
+        exponent = math.frexp(float(abs(values).max()))[1]
+        said = (
+            f"entry {number} of the generator, in the row of {row.word.by_site} ({row.position}) and the"
+            f" column of {column.word.by_site} ({column.position}), is {value!r}: values are written in counts"
+            f" of 2^-32, and from 2^30 on in magnitude they cannot be; in a larger unit, with the model's coefficients,"
+            f" rates and K divided by 2^{exponent - 30}, all can"
+        )
+        found = {"entry": number, "row": row.position, "column": column.position, "value": value}
+        return Refusal(15, said, found)
 
     # ---- the exponential of the generator ----
 
     def norm(self, basis: Basis) -> Norm:
-        """The norm that bounds the generator over a basis: of the largest column, shifted by mu."""
+        """The norm of the generator over a basis, shifted by mu: that of the largest column, the sum of its magnitudes.
+        What an action moves out of the basis is no part of it."""
         found = self._normed("norm", basis, {})
         return Norm(found.norm, found.mu)
 
     def degree(self, basis: Basis, *, dt: float, drop_tol: float = 0.0) -> Degree:
         """How the exponential of dt times the generator is to be computed: s stages of m products, with
-        the norm that they come from. A drop_tol of at least 1e-4 asks for less accuracy."""
+        the norm that they come from. A drop_tol of at least 1e-4 asks for less accuracy. A dt that asks for more than
+        1,048,576 products is refused (refusal 16), with the largest that does not."""
         numbers = {"dt": _given.real(dt, "dt"), "drop_tol": _given.real(drop_tol, "drop_tol")}
         found = self._normed("expm_degree", basis, numbers)
         return Degree(found.m, found.s, found.norm, found.mu)
@@ -475,7 +534,7 @@ class Model(Shown, Sealed):
 
         def attempt(touched: int, _: int) -> Any:
             lengths = _library.call("generator_sizes", self.n, len_, touched, 0)
-            names = "h_index j_index mask work_words work_sums".split()
+            names = "h_index j_index mask heads nexts work_words work_sums".split()
             with work_tables() as work:
                 return _library.call(
                     name,
@@ -492,6 +551,13 @@ class Model(Shown, Sealed):
             answer, _ = self._lending(attempt)
             if answer.status.refusal == 7:
                 raise not_finite(numbers)
+            if answer.status.refusal == 16:
+                raise self._too_many_products(answer.status, basis, **numbers)
             if answer.status.refusal:
                 raise refusal(answer.status, basis)
         return answer
+
+    def _too_many_products(self, status: _library.Status, basis: Basis, dt: float, drop_tol: float) -> Refusal:
+        norm = self.norm(basis).norm
+        enough = f"dt of at most {matrix.largest_step(norm, drop_tol)!r} in magnitude"
+        return matrix.too_many_products(status, f"dt = {dt!r} at the norm {norm!r}", enough)

@@ -35,6 +35,7 @@ from collections.abc import Iterable, Mapping, Sequence
 from typing import Any, NamedTuple
 
 from . import _given, words
+from ._files import write_whole
 from ._lanes import MAX_QUBITS
 from ._types import ItemPath
 from .basis import Basis
@@ -172,14 +173,9 @@ def _number(given: Any, path: ItemPath) -> Any:
 def save(
     path: str | os.PathLike[str], model: Model, basis: Basis | None = None, protected: Iterable[AnyWord] = ()
 ) -> None:
-    """Writes a model file, with a basis and protected words where they are given. Loading it gives the same
-    model, number for number."""
-    name, text = os.fspath(path), text_of(model, basis, protected)
-    try:
-        with open(name, "w", encoding="utf-8") as file:
-            file.write(text)
-    except OSError as error:
-        raise InputError(error.strerror or str(error), where=name) from None
+    """Writes a model file, with a basis and protected words where they are given, whole or not at all. Loading it
+    gives the same model, number for number."""
+    write_whole(path, text_of(model, basis, protected).encode())
 
 
 def text_of(model: Model, basis: Basis | None = None, protected: Iterable[AnyWord] = ()) -> str:

@@ -2,11 +2,12 @@
  * SPDX-License-Identifier: Apache-2.0
  *
  * Calls from C whose answers are known: operators that are too long, calls that need no place and are lent
- * none, tables too short by one, rows of matrices that are wrong, registers that are too large. Writes a line
- * for each answer that is another, and how many were asked.
+ * none, tables too short by one, the generator as a text, rows of matrices that are wrong, registers that are too
+ * large. Writes a line for each answer that is another, and how many were asked.
  */
 #include <stdio.h>
 #include <stdlib.h>
+#include <string.h>
 
 #include "pebblelinen.h"
 
@@ -138,6 +139,9 @@ static const pebblelinen_limits LIMITS = {8, 0, 0, 0, 0};
 /* The lengths of a call's tables, in the order in which they are tested. */
 typedef pebblelinen_status (*Call)(size_t words, const size_t *len);
 
+#define BANNER "%%MatrixMarket matrix coordinate integer general\n"
+enum { UNTOUCHED = 7 };
+
 static const uint64_t X[WORD] = {1};
 static const double ONE[] = {1};
 
@@ -147,15 +151,16 @@ static const double ONE[] = {1};
 #define SUMS lanes[10], words ? INDEX : 0, numbers[0], words ? INDEX : 0
 
 static pebblelinen_status call_norm(size_t words, const size_t *len) {
-    pebblelinen_normed found = pebblelinen_norm(MODEL, X, WORD * words, words, LANES(0), LANES(1), LANES(2), SUMS,
-                                                numbers[1], len[3], numbers[2], len[4]);
+    pebblelinen_normed found = pebblelinen_norm(MODEL, X, WORD * words, words, LANES(0), LANES(1), LANES(2), LANES(3),
+                                                LANES(4), SUMS, numbers[1], len[5], numbers[2], len[6]);
     if (!words) holds("norm over no words", found.norm == 0 && found.mu == 0);
     return found.status;
 }
 
 static pebblelinen_status call_degree(size_t words, const size_t *len) {
-    pebblelinen_partition found = pebblelinen_expm_degree(MODEL, X, WORD * words, words, 1, 0, LANES(0), LANES(1),
-                                                          LANES(2), SUMS, numbers[1], len[3], numbers[2], len[4]);
+    pebblelinen_partition found =
+        pebblelinen_expm_degree(MODEL, X, WORD * words, words, 1, 0, LANES(0), LANES(1), LANES(2), LANES(3), LANES(4),
+                                SUMS, numbers[1], len[5], numbers[2], len[6]);
     if (!words) holds("degree over no words", found.norm == 0 && found.mu == 0 && found.m == 1 && found.s == 1);
     return found.status;
 }
@@ -184,6 +189,25 @@ static pebblelinen_status call_csr(size_t words, const size_t *len) {
         room, numbers[1], room, offsets, len[5], places[3], room, numbers[2], room);
     if (!words && !found.status.refusal)
         holds("offsets over no words", found.count == 0 && offsets[0] == 0 && offsets[1] == 7);
+    return found.status;
+}
+
+/* Whether a text stands in these bytes, and nothing was written past it. */
+static bool stands(const uint8_t *bytes, size_t len, size_t written, const char *text) {
+    bool same = written == strlen(text) && !memcmp(bytes, text, written);
+    for (size_t i = written; i < len; i++) same &= bytes[i] == UNTOUCHED;
+    return same;
+}
+
+static pebblelinen_status call_market(size_t words, const size_t *len) {
+    size_t room = words ? INDEX : 0;
+    uint8_t text[100];
+    memset(text, UNTOUCHED, sizeof text);
+    pebblelinen_written found =
+        pebblelinen_matrix_market(MODEL, X, WORD * words, words, LANES(0), LANES(1), LANES(2), LANES(3), LANES(4), SUMS,
+                                  places[0], room, places[1], room, numbers[1], room, ALL(text));
+    const char *written = found.status.refusal ? "" : words ? BANNER "1 1 0\n" : BANNER "0 0 0\n";
+    holds("a text without entries", stands(ALL(text), found.bytes, written));
     return found.status;
 }
 
@@ -249,16 +273,50 @@ static void tables_of(const char *what, Call call, const size_t *needs, const si
 
 static void words_and_tables(void) {
     const size_t none[8] = {0}, one_offset[8] = {0, 0, 0, 0, 0, 1};
-    tables_of("norm", call_norm, (size_t[]){INDEX, INDEX, MASK, 1, 1}, none, 5);
-    tables_of("degree", call_degree, (size_t[]){INDEX, INDEX, MASK, 1, 1}, none, 5);
+    tables_of("norm", call_norm, (size_t[]){INDEX, INDEX, MASK, 1, 1, 1, 1}, none, 7);
+    tables_of("degree", call_degree, (size_t[]){INDEX, INDEX, MASK, 1, 1, 1, 1}, none, 7);
     tables_of("counting", call_count, (size_t[]){INDEX, INDEX, MASK}, none, 3);
     tables_of("generator", call_generator, (size_t[]){INDEX, INDEX, MASK, 1, 1}, none, 5);
     tables_of("CSR", call_csr, (size_t[]){INDEX, INDEX, MASK, 1, 1, 2}, one_offset, 6);
+    tables_of("Matrix Market", call_market, (size_t[]){INDEX, INDEX, MASK, 1, 1}, none, 5);
     expect("CSR over no words, without offsets", call_csr(0, none), 9, 1, 0);
     tables_of("leakage", call_leakage, (size_t[]){INDEX, INDEX, MASK, 1, 1, 1, 1, 1}, none, 8);
     accepted("leakage over no words, nothing protected", leak_unprotected(0, none));
     tables_of("prune", call_prune, (size_t[]){1, 1, 1, 1}, none, 4);
     tables_of("cap", call_cap, (size_t[]){1, 1, 1, 1}, none, 4);
+}
+
+/* ---- the generator as Matrix Market: 0.5 Z, or another field, over X and Y ---- */
+
+static pebblelinen_written market(double field, size_t entries, uint8_t *text, size_t text_len) {
+    enum { WORD = sizeof(pebblelinen_word) / 8 };
+    const pebblelinen_word z = {{0}, {1}}, xy[] = {{{1}, {0}}, {{1}, {1}}};
+    memset(text, UNTOUCHED, text_len);
+    return pebblelinen_matrix_market((pebblelinen_model){1, 1, 0, 0}, (const uint64_t *)&z, WORD, &field, 1, NO_LANES,
+                                     NO_NUMBERS, NO_LANES, NO_NUMBERS, (const uint64_t *)xy, 2 * WORD, 2, lanes[0],
+                                     64, lanes[1], 64, lanes[2], MASK, lanes[3], 2, lanes[4], 2, lanes[5], WORD,
+                                     numbers[0], 2, places[0], entries, places[1], entries, numbers[1], entries, text,
+                                     text_len);
+}
+
+static void matrix_market(void) {
+    uint8_t text[128];
+    pebblelinen_written found = market(0.5, 2, ALL(text));
+    accepted("0.5 Z over X and Y", found.status);
+    holds("its text",
+          stands(ALL(text), found.bytes, BANNER "2 2 2\n2 1 -4294967296\n1 2 4294967296\n"));
+    holds("in just enough bytes", found.bytes == 86 && market(0.5, 2, text, 86).bytes == 86);
+    found = market(0.5, 1, ALL(text));
+    expect("a place for one entry", found.status, 13, 3, 1);
+    holds("no byte beside 13", stands(ALL(text), found.bytes, ""));
+    found = market(0.5, 2, text, 85);
+    expect("a byte too few", found.status, 13, 5, 85);
+    holds("no byte beside 13 for the text", stands(text, 85, found.bytes, ""));
+    found = market(0x1p29, 2, ALL(text));
+    expect("a value of 2^30", found.status, 15, 1, 0);
+    holds("no byte beside 15", stands(ALL(text), found.bytes, ""));
+    expect("15 before 13 for the text", market(0x1p29, 2, text, 0).status, 15, 1, 0);
+    expect("13 for the entries before 15", market(0x1p29, 1, text, 0).status, 13, 3, 1);
 }
 
 /* ---- rows of a lent matrix ---- */
@@ -315,6 +373,7 @@ int main(void) {
     long_operators();
     nothing_to_build();
     words_and_tables();
+    matrix_market();
     rows_of_a_matrix();
     registers();
     printf("%d asked, %d wrong\n", asked, wrong);

@@ -199,7 +199,7 @@ def all_hold(number: int, *tables: Table) -> None:
 
 def check_work(status: _library.Status, *tables: Table) -> None:
     """Work tables are all zero after a call that came to use them, and else as they were."""
-    all_hold(0 if status.refusal in (0, 13, 14) else FILLER, *tables)
+    all_hold(0 if status.refusal in (0, 13, 14, 15, 16) else FILLER, *tables)
 
 
 # ---- Words
@@ -412,7 +412,7 @@ def norm(case: Case) -> None:
     lent = lent_model(case)
     length, touched, dt, drop_tol = case.take(4)
     words = case.words(length)
-    work = [*lanes(INDEX, INDEX, MASK, WORD_LANES * touched), *reals(2 * TOUCHED, WORDS, WORDS)]
+    work = [*lanes(INDEX, INDEX, MASK, 2 * WORDS, WORDS, WORD_LANES * touched), *reals(2 * TOUCHED, WORDS, WORDS)]
     answer = _library.call("expm_degree", *lent, words, length, real(dt), real(drop_tol), *work)
     case.agree(answer)
     check_work(answer.status, *work)
@@ -469,7 +469,7 @@ KINDS: dict[int, tuple[str, Callable[[Case], None]]] = {
     21: ("norms and degrees", norm),
     22: ("products of matrices", product_of_matrix),
     23: ("degrees", degree),
-    24: ("generators, norms and products without the Rust", partial(named, kinds=(19, 20, 21, 22))),
+    24: ("generators, norms, products and degrees without the Rust", partial(named, kinds=(19, 20, 21, 22, 23))),
 }
 
 

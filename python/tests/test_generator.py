@@ -1,7 +1,10 @@
 # SPDX-FileCopyrightText: 2026 The PPVM Authors
 # SPDX-License-Identifier: Apache-2.0
 """Generators, their products, norms and degrees, against full matrices and the rules written plainly."""
+import json
+import math
 import random
+import re
 import unittest
 from unittest import mock
 
@@ -12,9 +15,21 @@ import scipy.sparse
 import any_k
 import dense
 import pebblelinen.model
+import replay
 import test_command
 import test_refusals
-from pebblelinen import Basis, Choice, InputError, Model, Position, demo, product, row, select_ms
+from pebblelinen import (
+    Basis,
+    Choice,
+    InputError,
+    Model,
+    Position,
+    _library,
+    demo,
+    product,
+    row,
+    select_ms,
+)
 
 NAN, INF = float("nan"), float("inf")
 
@@ -248,28 +263,132 @@ class Refusals(test_refusals.Case):
 
 
 class Degrees(unittest.TestCase):
+    def expected(self, model, basis, everywhere=False):
+        """The norm and mu as they are written: magnitudes of terms whose word is in the basis, or anywhere, are summed
+        from 0 in word order."""
+        words = {entry.word for entry in basis}
+        columns = [dict(model.action(entry.word)) for entry in basis]
+        diagonal = [column.get(entry.word, 0.0) for entry, column in zip(basis, columns)]
+        mu, norms = 0.0, [0.0]
+        for d in diagonal:
+            mu += d
+        mu /= len(basis)
+        for column, d in zip(columns, diagonal):
+            raw = 0.0
+            for word, x in column.items():
+                raw += abs(x) if everywhere or word in words else 0.0
+            norms.append(raw - abs(d) + abs(d - mu))
+        return max(norms), mu
+
     def test_norm(self):
+        """Over some words, over all, and over words that come again."""
         rng = random.Random(8)
-        for _ in range(30):
-            model = Model(3, *dense.random_model(rng, 3, True))
-            basis = some(rng, 3, rng.randint(1, 20))
-            columns = [dict(model.action(entry.word)) for entry in basis]
-            diagonal = [column.get(entry.word, 0.0) for entry, column in zip(basis, columns)]
-            mu = sum(diagonal) / len(basis)
-            sums = [sum(map(abs, column.values())) for column in columns]
-            norms = [raw - abs(d) + abs(d - mu) for raw, d in zip(sums, diagonal)]
-            self.assertEqual(model.norm(basis), (max(norms), mu))
+        for case in range(90):
+            n, whole = 1 + case % 3, case % 2 == 0
+            model = Model(n, *dense.random_model(rng, n, whole))
+            basis = everything(n) if case % 10 == 0 else some(rng, n, rng.randint(1, 4**n // 2))
+            if case % 3 == 0:
+                again = rng.choices(list(basis), k=3)
+                basis = Basis(n, [(entry.word, 0.0) for entry in [*basis, *again]])
+            norm, mu = self.expected(model, basis)
+            self.assertEqual(model.norm(basis), (norm, mu))
             degree = model.degree(basis, dt=-0.25, drop_tol=1e-3)
-            self.assertEqual((degree.norm, degree.mu), (max(norms), mu))
-            self.assertEqual((degree.m, degree.s), select_ms(0.25 * max(norms), 1e-3))
+            self.assertEqual(degree, (*select_ms(0.25 * norm, 1e-3), norm, mu))
+            # With what leaves the basis it was never smaller.
+            self.assertLessEqual(norm, self.expected(model, basis, everywhere=True)[0])
+
+    def test_it_is_that_of_the_generator(self):
+        rng = random.Random(10)
+        for _ in range(20):
+            model, basis = Model(3, *dense.random_model(rng, 3, True)), some(rng, 3, 30)
+            norm, mu = model.norm(basis)
+            shifted = model.generator(basis).toarray() - mu * np.eye(30)
+            self.assertAlmostEqual(norm, np.linalg.norm(shifted, 1), delta=1e-12 * (1 + norm))
+
+    def test_small_bases_need_fewer_products(self):
+        """As the guide says of the demonstration's chain."""
+        model = demo.chain()
+        basis = Basis(model.n, {demo.OBSERVABLE: 1.0})
+        before, now = [], []
+        for _ in demo.rounds(model, basis, limit=4096, count=4, dt=0.25):
+            m, s, *_ = model.degree(basis, dt=0.25, drop_tol=1e-4)
+            now.append(m * s)
+            before.append(math.prod(select_ms(0.25 * self.expected(model, basis, everywhere=True)[0], 1e-4)))
+        self.assertEqual((before, now), ([17, 18, 24, 30], [13, 17, 18, 24]))
+
+    def test_repeated_words(self):
+        model = Model(1, {"Z": 0.5}, [(0.25, "Z")])
+        for texts, norm in ("XXY", 1.0), ("XY", 1.0), ("X", 0.0), ("XX", 0.0), ("YX", 1.0), ("XZ", 0.25):
+            self.assertEqual(model.norm(Basis(1, [(text, 0.0) for text in texts])).norm, norm, texts)
 
     def test_examples(self):
-        for t, choice in [(0.3, (12, 1)), (1, (18, 1)), (4, (23, 2)), (INF, (1, 4294967295)), (NAN, (1, 1)), (-1, (1, 1))]:
+        for t, choice in [(0.3, (12, 1)), (1, (18, 1)), (4, (23, 2)), (NAN, (1, 1)), (-1, (1, 1)), (-INF, (1, 1))]:
             self.assertEqual(select_ms(t), Choice(*choice))
         self.assertEqual(select_ms(1, 1e-4), (9, 1))
         for t in "1", None, 1j, True:
             with self.assertRaises(InputError):
                 select_ms(t)
+
+
+class Ceiling(test_refusals.Case):
+    """At most 1,048,576 products."""
+
+    # The largest norms that are accepted, with their pairs, at a drop_tol of 0 and at one of 1e-4.
+    LAST = [(0.0, 123730.08, (30, 34952)), (1e-4, 238722.16, (30, 34952))]
+
+    def test_select_ms(self):
+        for drop_tol, last, choice in self.LAST:
+            self.assertEqual(select_ms(last, drop_tol), choice)
+            enough = f"a t of at most {last} will do"
+            for t, m, s in [
+                (math.nextafter(last, INF), 30, 34953),
+                (1e6, *((30, 282486) if drop_tol == 0 else (30, 146413))),
+                (INF, 1, 4294967295),
+                (1e300, 1, 4294967295),
+            ]:
+                said = f"t = {t} asks for {s} stages of {m} products each, {m * s} in all: at most 1048576; {enough}"
+                self.refused(16, {"m": m, "s": s}, said, lambda: select_ms(t, drop_tol))
+
+    def test_degree(self):
+        model, basis = Model(1, {"Z": 0.5}), Basis(1, {"X": 1.0, "Y": 0.0})
+        for drop_tol, last, choice in self.LAST:
+            for dt in last, -last:
+                self.assertEqual(model.degree(basis, dt=dt, drop_tol=drop_tol), (*choice, 1.0, 0.0))
+            dt = -math.nextafter(last, INF)
+            said = (
+                f"dt = {dt} at the norm 1.0 asks for 34953 stages of 30 products each, 1048590 in all: at most 1048576;"
+                f" a dt of at most {last} in magnitude will do"
+            )
+            call = lambda: model.degree(basis, dt=dt, drop_tol=drop_tol)  # noqa: E731
+            self.refused(16, {"m": 30, "s": 34953}, said, call)
+        self.assertEqual(model.degree(Basis(1), dt=1e300)[:2], (1, 1))
+
+    def test_the_largest_dt(self):
+        """It is accepted, and the next number is not."""
+        rng = random.Random(9)
+        for _ in range(20):
+            model, basis = Model(3, *dense.random_model(rng, 3, False)), some(rng, 3, 20)
+            with self.assertRaises(pebblelinen.Refusal) as caught:
+                model.degree(basis, dt=1e9)
+            dt = float(re.search("a dt of at most (.*) in magnitude will do", caught.exception.said)[1])
+            degree = model.degree(basis, dt=-dt)
+            self.assertLessEqual(degree.m * degree.s, 1_048_576)
+            with self.assertRaises(pebblelinen.Refusal):
+                model.degree(basis, dt=math.nextafter(dt, INF))
+
+    def test_order(self):
+        """After all tests and 13; work tables are zero."""
+        model, basis = Model(1, {"Z": 0.5}), Basis(1, {"X": 1.0, "Y": 0.0})
+        names = "h_index j_index mask heads nexts work_words work_sums".split()
+        for touched, dt, answer in [(0, 1e300, (13, 1, 0)), (1, 1e300, (16, 1, 4294967295)), (1, 1e6, (16, 30, 282486))]:
+            lengths = _library.call("generator_sizes", 1, 2, touched, 0)
+            work = [replay.lanes(getattr(lengths, name))[0] for name in names[:-1]]
+            work += replay.reals(lengths.work_sums, 2, 2)
+            found = _library.call("expm_degree", *model._lent(), basis.lanes, 2, dt, 0.0, *work)
+            status = found.status
+            self.assertEqual((status.refusal, status.first, status.second), answer)
+            self.assertEqual((found.mu, found.norm, found.m, found.s), (0.0, 0.0, 0, 0))
+            replay.check_work(status, *work)
 
 
 class Demo(test_command.Case):
@@ -284,12 +403,17 @@ class Demo(test_command.Case):
     def test_degree(self):
         lines = self.answered("degree", self.path, "--dt", "0.1").splitlines()
         self.assertEqual(lines[1], "generator over 2 positions:")
-        self.assertEqual(lines[2].split(), ["norm", "2.75"])
-        self.assertEqual(lines[4], "  degree   m = 12, s = 1 for dt = 0.1: 12 products")
+        self.assertEqual(lines[2].split(), ["norm", "0.25"])
+        self.assertEqual(lines[4], "  degree   m = 8, s = 1 for dt = 0.1: 8 products")
         answer = self.json("degree", self.path, "--dt", "0.1")
-        self.assertEqual(answer, {"qubits": 3, "positions": 2, "m": 12, "s": 1, "norm": 2.75, "mu": -0.25})
+        self.assertEqual(answer, {"qubits": 3, "positions": 2, "m": 8, "s": 1, "norm": 0.25, "mu": -0.25})
 
     def test_errors(self):
+        status, _, error = self.run_command("degree", self.path, "--dt", "1e6")
+        self.assertEqual(status, 1)
+        self.assertIn(f"a dt of at most {123730.08 / 0.25} in magnitude will do\n", error)
+        status, out, _ = self.run_command("degree", self.path, "--dt", "1e300", "--json")
+        self.assertEqual((status, json.loads(out)["error"]["values"]), (1, {"m": 1, "s": 4294967295}))
         status, _, error = self.run_command("degree", self.path, "--dt", "nan")
         self.assertEqual((status, error), (1, "pebblelinen: refusal 7: dt is nan: a finite number is needed\n"))
         self.write('qubits = 1\nbasis = [["X", 1], ["X", 1]]')
@@ -307,8 +431,8 @@ class Demo(test_command.Case):
         self.assertEqual([each["words"] for each in answer["rounds"]], [6, 26, 96, 200])
         self.assertEqual(answer["rounds"][0]["largest_leakage"], 2.0)
         status, _, error = self.run_command("demo", "--dt", "1e9")
-        self.assertEqual(status, 2)
-        self.assertIn("products", error)
+        self.assertEqual(status, 1)
+        self.assertIn("refusal 16: dt = 1000000000.0 at the norm", error)
 
     def test_the_time_step(self):
         model = demo.chain(4)

@@ -6,7 +6,7 @@ import re
 import unittest
 from pathlib import Path
 
-from pebblelinen import CAUSES, _building, _library, basis, words
+from pebblelinen import CAUSES, _building, _library, basis, matrix, words
 
 HEADER = Path(__file__).resolve().parent.parent.parent / "include" / "pebblelinen.h"
 
@@ -77,12 +77,13 @@ class Header(unittest.TestCase):
 
     def test_causes_and_limits(self):
         table = re.findall(r"^ \* +(\d+)   (.*?)(?:   .*)?$", HEADER.read_text(), re.MULTILINE)
-        causes = {int(number): cause.replace("`", "") for number, cause in table[:14]}
+        causes = {int(number): cause.replace("`", "") for number, cause in table[: len(CAUSES)]}
         self.assertEqual(causes, CAUSES)
         limits = dict(re.findall(r"#define PEBBLELINEN_MAX_(\w+) (\d+)", HEADER.read_text()))
         limits = {name.lower(): int(limit) for name, limit in limits.items()}
         self.assertEqual(limits.pop("words"), basis.MAX_WORDS)
         self.assertEqual(limits.pop("qubits"), words.MAX_QUBITS)
+        self.assertEqual(limits.pop("products"), matrix.MAX_PRODUCTS)
         self.assertEqual(limits, _building._LIMITS)
 
 

@@ -24,7 +24,8 @@ class Case(unittest.TestCase):
         self.assertEqual(refusal.cause, CAUSES[number])
         self.assertEqual(str(refusal), f"refusal {number}: {said}")
         for name, value in values.items():
-            kinds = {"position": Position, "qubit": Qubit, "threshold": str, "table": (int, str)}
+            kinds = {"position": Position, "qubit": Qubit, "threshold": str, "table": (int, str), "value": float}
+            kinds |= dict.fromkeys(["row", "column"], (int, Position))
             self.assertIsInstance(value, kinds.get(name, int))
         again = pickle.loads(pickle.dumps(refusal))
         self.assertEqual((str(again), again.values), (str(refusal), values))

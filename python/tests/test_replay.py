@@ -36,10 +36,10 @@ CASES = {
     "leakage without the Rust": 38,
     "generators": 23,
     "matrices by rows": 23,
-    "norms and degrees": 23,
+    "norms and degrees": 20,
     "products of matrices": 25,
-    "degrees": 432,
-    "generators, norms and products without the Rust": 70,
+    "degrees": 314,
+    "generators, norms, products and degrees without the Rust": 129,
 }
 
 WIDE = {
@@ -82,7 +82,7 @@ WRITTEN = {
     "leakage_with_prune": 21,
     "generator": 13,
     "build_csr": 13,
-    "expm_degree": 7,
+    "expm_degree": 9,
     "dot": 2,
 }
 BASES = "prune_basis", "cap_basis", "add_leakage_capped"
@@ -265,21 +265,21 @@ class Damage(unittest.TestCase):
             "",
             " 1",
             "4 ",
-            "17  0 0 1 1",
-            "17 0 0 1 1 ",
-            "17 0 0 1 1 # degrees",
-            "17 0 0 1 -1",
-            "17 0 0 1 0x1",
-            "17 0 0 1 A",
-            "17 0 0 1 1_0",
-            "17 0 0 1 10000000000000000",
-            "17\t0 0 1 1",
+            "17  0 0 0 0 0 1 1",
+            "17 0 0 0 0 0 1 1 ",
+            "17 0 0 0 0 0 1 1 # degrees",
+            "17 0 0 0 0 0 1 -1",
+            "17 0 0 0 0 0 1 0x1",
+            "17 0 0 0 0 0 1 A",
+            "17 0 0 0 0 0 1 1_0",
+            "17 0 0 0 0 0 1 10000000000000000",
+            "17\t0 0 0 0 0 1 1",
         ]:
             self.malformed(line)
-        replay.replay(replay.parsed("17 0 0 1 1"))
+        replay.replay(replay.parsed("17 0 0 0 0 0 1 1"))
 
     def test_kinds(self) -> None:
-        for line in "0", "19 0 0 1 1", "ff", "f b 0", "f f c", "18 12 0", "18 17 0 0 1 1", "18 18 13":
+        for line in "0", "19 0 0 1 1", "ff", "f b 0", "f f c", "18 12 0", "18 18 13":
             self.malformed(line)
 
     def test_numbers_that_lack_or_are_too_many(self) -> None:

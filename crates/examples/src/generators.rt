@@ -126,6 +126,8 @@ fn partition(dt: f64) -> Partition {
     let mut h_index = [0u64; 128];
     let mut j_index = [0u64; 128];
     let mut mask = [0u64; 64];
+    let mut heads = [0u64; 8];
+    let mut nexts = [0u64; 4];
     let mut work_words = [0u64; WORD_LANES * 4];
     let mut work_sums = [0f64; 8];
     let mut raws = [0f64; 4];
@@ -145,6 +147,8 @@ fn partition(dt: f64) -> Partition {
         &mut h_index,
         &mut j_index,
         &mut mask,
+        &mut heads,
+        &mut nexts,
         &mut work_words,
         &mut work_sums,
         &mut raws,
@@ -276,6 +280,12 @@ fn print_degree(m: u32, s: u32) {
 
 fn print_norm(dt: f64) {
     let answer = partition(dt);
+    let status = answer.status;
+    if status.refusal != 0 {
+        print::refusal(status);
+        print::end_line();
+        return;
+    }
     print::value(answer.mu);
     print::text(b" and ");
     print::value(answer.norm);
@@ -288,6 +298,12 @@ fn print_degree_of(text: &[u8], t: f64, drop_tol: f64) {
     print::text(text);
     print::text(b": ");
     let degree = pebblelinen::norms::pebblelinen_select_ms(t, drop_tol);
+    let status = degree.status;
+    if status.refusal != 0 {
+        print::refusal(status);
+        print::end_line();
+        return;
+    }
     print_degree(degree.m, degree.s);
 }
 
@@ -297,9 +313,19 @@ pub fn run() {
     print_rows();
     print::text(b"mu and norm for a step of 0.5: ");
     print_norm(0.5);
+    print::text(b"for a step of 1e300: ");
+    print_norm(1e300);
     print_degree_of(b"0.3", 0.3, 0.0);
     print_degree_of(b"1", 1.0, 0.0);
     print_degree_of(b"4", 4.0, 0.0);
+    print_degree_of(b"123730.08", 123730.08, 0.0);
+    print_degree_of(b"the next number", 123730.08000000002, 0.0);
     print_degree_of(b"infinity", 1.0 / 0.0, 0.0);
     print_degree_of(b"1 by the loose table", 1.0, 1e-4);
+    print_degree_of(b"238722.16 by the loose table", 238722.16, 1e-4);
+    print_degree_of(
+        b"the next number by the loose table",
+        238722.16000000003,
+        1e-4,
+    );
 }

@@ -119,7 +119,7 @@ steps-none f (fin false m e) (fin false n d) p h =
     rw (ne-eqb n 0 (λ z. lt-irrefl 0 (subst (λ (k : ℕ). 0 < k) z (ltb→lt 0 n p))), z) (round-zero f (n * up d * down e) (mul-pos (mul-pos (ltb→lt 0 n p) (up-pos d)) (down-pos e)))
 
 -- ---- a table of degrees from 1 on, with thresholds above 0
-sound : List Row → Bool
+unfoldable pub sound : List Row → Bool
 sound [] = true
 sound (r ∷ rs) = (ltb 0 (r .m) && positive (r .threshold)) && sound rs
 

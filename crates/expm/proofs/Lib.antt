@@ -5,3 +5,5 @@
 pub mod StepLaws
 pub mod SelectLaws
 pub mod LeastLaws
+pub mod CeilingLaws
+pub mod GrowthLaws

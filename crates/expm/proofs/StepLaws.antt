@@ -23,7 +23,7 @@ module _ (a b : ℕ) (B : 0 < b) where
   ceiling-by z e = ap (λ (c : Bool). cond c (a / b) (suc (a / b))) e
 
   -- it is the least whole number not below the fraction
-  ceiling-le : (k : ℕ) → a ≤ k * b → ceiling a b ≤ k
+  pub ceiling-le : (k : ℕ) → a ≤ k * b → ceiling a b ≤ k
   ceiling-le k h = go (eqb (a % b) 0) refl
     where
       less : (a % b ≡ 0 → ⊥) → a < k * b
@@ -33,7 +33,7 @@ module _ (a b : ℕ) (B : 0 < b) where
       go true e = rw (ceiling-by true e) (div-le-of-le-mul b (rw (mul-comm b k) h))
       go false e = rw (ceiling-by false e) (div-lt-iff-lt-mul B .1 (less (eqb-false (a % b) 0 e)))
 
-  ceiling-gt : (k : ℕ) → k * b < a → k < ceiling a b
+  pub ceiling-gt : (k : ℕ) → k * b < a → k < ceiling a b
   ceiling-gt k h = go (eqb (a % b) 0) refl
     where
       go : (z : Bool) → eqb (a % b) 0 ≡ z → k < ceiling a b

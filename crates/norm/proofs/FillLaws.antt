@@ -102,13 +102,13 @@ module _ (m : Model) (t : ModelTables) (ps : List Word) (room len : ℕ) (raws d
         diags-are = λ z. absurd (refused-not (TableFull 1 room) z);
       }
 
-  pub fill-done : FillState (touchedBy m t) (rawBy m t) (diagBy m t) ps room raws diags k → length ps ≡ len → length ps ≤ k → Fills room m t ps len raws diags Accepted
+  pub fill-done : FillState (touchedBy m t) (rawBy m t ps) (diagBy m t) ps room raws diags k → length ps ≡ len → length ps ≤ k → Fills room m t ps len raws diags Accepted
   fill-done s n h =
       let z = most-none (touchedBy m t) ps k h in
       let i : k ≡ len = omega (arith, s .high) in
       let all : take k ps ≡ ps = take-all k ps h in
       record {
         answers = rw (le-ltb room (most (touchedBy m t) ps) (omega (arith, z, s .fits)));
-        raws-are = λ e. ap (λ (j : ℕ). take j raws) (sym i) ∙ s .raws-so-far ∙ ap (map (rawBy m t)) all;
+        raws-are = λ e. ap (λ (j : ℕ). take j raws) (sym i) ∙ s .raws-so-far ∙ ap (map (rawBy m t ps)) all;
         diags-are = λ e. ap (λ (j : ℕ). take j diags) (sym i) ∙ s .diags-so-far ∙ ap (map (diagBy m t)) all;
       }

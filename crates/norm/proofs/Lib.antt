@@ -3,6 +3,7 @@
 
 -- Laws of this crate.
 pub mod AnswerLaws
+pub mod BasisLaws
 pub mod CheckLaws
 pub mod ColumnLaws
 pub mod EmptyLaws

@@ -12,8 +12,9 @@ use lib.ListN.{length, take}
 use Rattle.refusal.specs.declared.Refusal.the-variants.{TableFull}
 use Rattle.refusal.specs.declared.Answer.{Answer}
 use Rattle.refusal.specs.declared.Answer.the-variants.{Accepted, Refused}
-use Rattle.word.specs.Flat.{wordLanes}
+use Rattle.word.specs.Flat.{words, wordLanes}
 use Rattle.word.specs.declared.word.Word.{Word}
+use Rattle.slots.specs.Between.{Slotted}
 use Rattle.model.specs.Stored.{ModelTables}
 use Rattle.model.specs.Tested.{testModel}
 use Rattle.model.specs.declared.stored.Model.{Model}
@@ -25,9 +26,15 @@ use Rattle.norm.specs.declared.norm.Normed.{Normed}
 use Rattle.norm.specs.declared.norm.Normed.the-variants.{Norm, Refused}
 use Rattle.refusal.specs.declared.Answer.the-variants as Tests
 
+-- the slots of the first so many words
+pub record BasisSlots (lanes : List ℕ) (len : ℕ) (heads nexts : List ℕ) : Type 0 where
+  pub lanes-long : wordLanes * len ≤ length lanes
+  pub nexts-long : len ≤ length nexts
+  pub slots : Slotted (take len (words lanes)) heads (take len nexts)
+
 -- a tested model, its index and a mask where there is a word to act on, places for the words of one action, and for each of so many
--- basis words a raw and a diagonal
-pub record ColumnRoom (m : Model) (t : ModelTables) (hIndex jIndex mask workWords : List ℕ) (workSums : List Float) (room : ℕ) (lanes : List ℕ) (len : ℕ) (raws diags : List Float) : Type 0 where
+-- basis words, slotted, a raw and a diagonal
+pub record ColumnRoom (m : Model) (t : ModelTables) (hIndex jIndex mask workWords : List ℕ) (workSums : List Float) (room : ℕ) (lanes : List ℕ) (len : ℕ) (heads nexts : List ℕ) (raws diags : List Float) : Type 0 where
   pub tested : testModel m t ≡ Accepted
   pub indexed : 0 < len → ModelIndexed m t hIndex jIndex
   pub h-rows : 0 < len → 64 * m .qubits ≤ length hIndex
@@ -36,7 +43,7 @@ pub record ColumnRoom (m : Model) (t : ModelTables) (hIndex jIndex mask workWord
   pub work-words : wordLanes * room ≤ length workWords
   pub work-sums : 2 * room ≤ length workSums
   pub few : len ≤ maxWords
-  pub lanes-long : wordLanes * len ≤ length lanes
+  pub slotted : BasisSlots lanes len heads nexts
   pub inside : (k : ℕ) → k < len → outsideAt lanes (m .qubits) k ≡ false
   pub raws-long : len ≤ length raws
   pub diags-long : len ≤ length diags
@@ -48,7 +55,7 @@ roomFor room m t ps = cond (ltb room (most (touchedBy m t) ps)) (Refused (TableF
 -- what filling the columns answers, and leaves in the two tables
 pub record Fills (room : ℕ) (m : Model) (t : ModelTables) (ps : List Word) (len : ℕ) (raws diags : List Float) (r : Answer) : Type 0 where
   pub answers : r ≡ roomFor room m t ps
-  pub raws-are : r ≡ Accepted → take len raws ≡ map (rawBy m t) ps
+  pub raws-are : r ≡ Accepted → take len raws ≡ map (rawBy m t ps) ps
   pub diags-are : r ≡ Accepted → take len diags ≡ map (diagBy m t) ps
 
 -- the column norms of raws and diagonals side by side

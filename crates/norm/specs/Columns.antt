@@ -9,6 +9,7 @@ use lib.Ieee.{Float, binary64, div, ofInt}
 use lib.ListN.{length}
 use Rattle.word.specs.Order.{same}
 use Rattle.word.specs.declared.word.Word.{Word}
+use Rattle.order.specs.Places.{isAmong}
 use Rattle.number.specs.Floats.{floats, float0, magnitude}
 use Rattle.model.specs.Stored.{ModelTables}
 use Rattle.model.specs.Terms.{Term}
@@ -24,9 +25,14 @@ abbrev pub total : List Float → Float
 total l = sumFrom float0 l
 
 -- ---- one column, from the terms of its word's action
--- raw sums all term magnitudes in word order, inside the basis or not
-unfoldable pub rawOf : List Term → Float
-rawOf L = total (map (λ c. magnitude (c .num .re)) L)
+-- the terms whose word is in the basis, in word order
+unfoldable pub insideOf : List Word → List Term → List Term
+insideOf bs [] = []
+insideOf bs (c ∷ L) = cond (isAmong (c .word) bs) (c ∷ insideOf bs L) (insideOf bs L)
+
+-- raw adds their magnitudes, in that order, each term once
+unfoldable pub rawOf : List Word → List Term → Float
+rawOf bs L = total (map (λ c. magnitude (c .num .re)) (insideOf bs L))
 
 -- diag: the coefficient onto the column's own word, or 0
 unfoldable pub diagOf : Word → List Term → Float
@@ -52,8 +58,8 @@ abbrev pub largest : List Float → Float
 largest l = largestFrom float0 l
 
 module _ (m : Model) (t : ModelTables) where
-  abbrev pub rawBy : Word → Float
-  rawBy p = rawOf (actionOf m t p)
+  abbrev pub rawBy : List Word → Word → Float
+  rawBy ps p = rawOf ps (actionOf m t p)
 
   abbrev pub diagBy : Word → Float
   diagBy p = diagOf p (actionOf m t p)
@@ -62,6 +68,4 @@ module _ (m : Model) (t : ModelTables) where
   muOf ps = meanOf (map diagBy ps)
 
   unfoldable pub normOf : List Word → Float
-  normOf ps = largest (map (λ p. columnNorm (muOf ps) (rawBy p) (diagBy p)) ps)
-
--- ---- for the functions that work on lent tables
+  normOf ps = largest (map (λ p. columnNorm (muOf ps) (rawBy ps p) (diagBy p)) ps)

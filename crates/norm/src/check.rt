@@ -32,10 +32,12 @@ pub fn check_norm(
     h_index: usize,
     j_index: usize,
     mask: usize,
+    heads: usize,
+    nexts: usize,
     raws: usize,
     diags: usize,
 ) -> Answer
-    ensures { λ r. ⌜ r ≡ normTests m (modelTables (now («h_words» .entry)) (now («h_coeffs» .entry)) (now (jumps .entry)) (now (rates .entry)) (now («t_words» .entry)) (now («t_numbers» .entry))) (now (words .entry)) len «h_index» «j_index» mask raws diags ⌝ }
+    ensures { λ r. ⌜ r ≡ normTests m (modelTables (now («h_words» .entry)) (now («h_coeffs» .entry)) (now (jumps .entry)) (now (rates .entry)) (now («t_words» .entry)) (now («t_numbers» .entry))) (now (words .entry)) len «h_index» «j_index» mask heads nexts raws diags ⌝ }
 {
     let model = test_model(m, h_words, h_coeffs, jumps, rates, t_words, t_numbers);
     let Answer::Accepted = model else {
@@ -58,6 +60,12 @@ pub fn check_norm(
     }
     if mask < row {
         return mismatch(row, mask);
+    }
+    if heads < len {
+        return mismatch(len, heads);
+    }
+    if nexts < len {
+        return mismatch(len, nexts);
     }
     if raws < len {
         return mismatch(len, raws);
@@ -102,10 +110,12 @@ pub fn check_degree(
     h_index: usize,
     j_index: usize,
     mask: usize,
+    heads: usize,
+    nexts: usize,
     raws: usize,
     diags: usize,
 ) -> Answer
-    ensures { λ r. ⌜ r ≡ andThen (normTests m (modelTables (now («h_words» .entry)) (now («h_coeffs» .entry)) (now (jumps .entry)) (now (rates .entry)) (now («t_words» .entry)) (now («t_numbers» .entry))) (now (words .entry)) len «h_index» «j_index» mask raws diags) (finiteTests dt «drop_tol») ⌝ }
+    ensures { λ r. ⌜ r ≡ andThen (normTests m (modelTables (now («h_words» .entry)) (now («h_coeffs» .entry)) (now (jumps .entry)) (now (rates .entry)) (now («t_words» .entry)) (now («t_numbers» .entry))) (now (words .entry)) len «h_index» «j_index» mask heads nexts raws diags) (finiteTests dt «drop_tol») ⌝ }
 {
     let lent = check_norm(
         m,
@@ -120,6 +130,8 @@ pub fn check_degree(
         h_index,
         j_index,
         mask,
+        heads,
+        nexts,
         raws,
         diags,
     );

@@ -2,16 +2,17 @@
 // SPDX-License-Identifier: Apache-2.0
 
 // Raw and diagonal of each column of the generator: one action for each basis word. The model is tested
-// and indexed once, before.
+// and indexed once, before, and the slots of the basis are laid.
 ghost use mathlib.Core.Path.{_≡_};
 ghost use Prim.Native.Nat.{_*_, _≤_};
 ghost use lib.ListN.{length, take};
 ghost use Rattle.word.specs.Flat.{words as wordsIn, wordLanes};
 ghost use Rattle.sums.specs.Sums.{sumRows};
 ghost use Rattle.model.specs.Between.{modelTables};
-ghost use Rattle.norm.specs.Between.{ColumnRoom, Fills};
+ghost use Rattle.norm.specs.Between.{BasisSlots, ColumnRoom, Fills};
 ghost use Rattle.action.specs.Acts.{listed};
 ghost use Rattle.norm.specs.Columns.{rawOf, diagOf};
+use crate::basis::in_basis;
 use lent::sizes::SUMS_TABLE;
 use model::stored::Model;
 use model::term::term_at;
@@ -25,21 +26,35 @@ use word::flat::word_at;
 use word::word::Word;
 use word::word::same_word;
 
-// The magnitudes of the first `len` sums, added in word order.
-fn raw_of(words: &[u64], sums: &[f64], len: usize) -> f64
-    requires { ⌜ (wordLanes * len ≤ length (now words)) × (2 * len ≤ length (now sums)) ⌝ }
-    ensures { λ r. ⌜ r ≡ rawOf (listed (sumRows len (now (words .entry)) (now (sums .entry)))) ⌝ }
+// The magnitudes of those of the first `count` sums whose words are among the first `len` basis words,
+// added in word order.
+fn raw_of(
+    sum_words: &[u64],
+    sums: &[f64],
+    count: usize,
+    words: &[u64],
+    len: usize,
+    heads: &[u64],
+    nexts: &[u64],
+) -> f64
+    requires { ⌜ (wordLanes * count ≤ length (now «sum_words»)) × (2 * count ≤ length (now sums)) × BasisSlots (now words) len (now heads) (now nexts) ⌝ }
+    ensures { λ r. ⌜ r ≡ rawOf (take len (wordsIn (now (words .entry)))) (listed (sumRows count (now («sum_words» .entry)) (now (sums .entry)))) ⌝ }
 {
     let mut raw = 0.0;
     let mut i = 0;
-    while i < len {
-        let t = term_at(words, sums, i);
+    while i < count {
+        let t = term_at(sum_words, sums, i);
         let x = t.number.re;
+        let w = t.word;
         if is_zero(x) {
             i += 1;
         } else {
-            raw = raw + magnitude(x);
-            i += 1;
+            if in_basis(words, len, heads, nexts, w) {
+                raw = raw + magnitude(x);
+                i += 1;
+            } else {
+                i += 1;
+            }
         }
     }
     raw
@@ -77,6 +92,8 @@ pub fn fill_columns(
     t_numbers: &[f64],
     words: &[u64],
     len: usize,
+    heads: &[u64],
+    nexts: &[u64],
     h_index: &[u64],
     j_index: &[u64],
     mask: &mut [u64],
@@ -86,7 +103,7 @@ pub fn fill_columns(
     raws: &mut [f64],
     diags: &mut [f64],
 ) -> Answer
-    requires { ⌜ ColumnRoom m (modelTables (now «h_words») (now «h_coeffs») (now jumps) (now rates) (now «t_words») (now «t_numbers»)) (now «h_index») (now «j_index») (now mask) (now «work_words») (now «work_sums») room (now words) len (now raws) (now diags) ⌝ }
+    requires { ⌜ ColumnRoom m (modelTables (now «h_words») (now «h_coeffs») (now jumps) (now rates) (now «t_words») (now «t_numbers»)) (now «h_index») (now «j_index») (now mask) (now «work_words») (now «work_sums») room (now words) len (now heads) (now nexts) (now raws) (now diags) ⌝ }
     ensures { λ r. ⌜ Fills room m (modelTables (now («h_words» .entry)) (now («h_coeffs» .entry)) (now (jumps .entry)) (now (rates .entry)) (now («t_words» .entry)) (now («t_numbers» .entry))) (take len (wordsIn (now (words .entry)))) len (now (raws .exit)) (now (diags .exit)) r ⌝ }
 {
     let mut k = 0;
@@ -114,7 +131,7 @@ pub fn fill_columns(
                 places: room,
             });
         };
-        let raw = raw_of(work_words, work_sums, count);
+        let raw = raw_of(work_words, work_sums, count, words, len, heads, nexts);
         let diag = diagonal_of(work_words, work_sums, count, p);
         raws[k] = raw;
         diags[k] = diag;

@@ -5,20 +5,35 @@
 // its diagonal shifted by mu.
 ghost use mathlib.Core.Path.{_≡_};
 ghost use Rattle.model.specs.Between.{modelTables};
-ghost use Rattle.norm.specs.Norms.{workOf, degreeAnswer, selecting};
+ghost use Rattle.norm.specs.Norms.{workOf, partition, degreeAnswer, selecting};
 use crate::check::check_degree;
 use crate::norm::Normed;
 use crate::norm::norm_tested;
+use expm::Chosen;
 use expm::select_degree;
 use model::stored::Model;
 use number::scalar::magnitude;
 use refusal::Answer;
 use refusal::Refusal;
 
-// The norm with its mean diagonal, and the pair (m, s) for it.
+// The norm with its mean diagonal, and the pair (m, s) that was chosen for it.
 pub enum Selected {
     Partition { mu: f64, norm: f64, m: u32, s: u32 },
     Refused(Refusal),
+}
+
+fn with_pair(mu: f64, norm: f64, chosen: Chosen) -> Selected
+    ensures { λ r. ⌜ r ≡ partition mu norm chosen ⌝ }
+{
+    match chosen {
+        Chosen::Pair(d) => Selected::Partition {
+            mu,
+            norm,
+            m: d.m,
+            s: d.s,
+        },
+        Chosen::Refused(refusal) => Selected::Refused(refusal),
+    }
 }
 
 fn degree_of(normed: Normed, dt: f64, drop_tol: f64) -> Selected
@@ -26,13 +41,8 @@ fn degree_of(normed: Normed, dt: f64, drop_tol: f64) -> Selected
 {
     match normed {
         Normed::Norm { mu, norm } => {
-            let d = select_degree(magnitude(dt) * norm, drop_tol);
-            Selected::Partition {
-                mu,
-                norm,
-                m: d.m,
-                s: d.s,
-            }
+            let chosen = select_degree(magnitude(dt) * norm, drop_tol);
+            with_pair(mu, norm, chosen)
         }
         Normed::Refused(refusal) => Selected::Refused(refusal),
     }
@@ -53,12 +63,14 @@ pub fn expm_degree(
     h_index: &mut [u64],
     j_index: &mut [u64],
     mask: &mut [u64],
+    heads: &mut [u64],
+    nexts: &mut [u64],
     work_words: &mut [u64],
     work_sums: &mut [f64],
     raws: &mut [f64],
     diags: &mut [f64],
 ) -> Selected
-    ensures { λ r. ⌜ record { answer = r; work = workOf (now («h_index» .exit)) (now («j_index» .exit)) (now (mask .exit)) (now («work_words» .exit)) (now («work_sums» .exit)) (now (raws .exit)) (now (diags .exit)) } ≡ selecting (workOf (now («h_index» .entry)) (now («j_index» .entry)) (now (mask .entry)) (now («work_words» .entry)) (now («work_sums» .entry)) (now (raws .entry)) (now (diags .entry))) m (modelTables (now («h_words» .entry)) (now («h_coeffs» .entry)) (now (jumps .entry)) (now (rates .entry)) (now («t_words» .entry)) (now («t_numbers» .entry))) (now (words .entry)) len dt «drop_tol» ⌝ }
+    ensures { λ r. ⌜ record { answer = r; work = workOf (now («h_index» .exit)) (now («j_index» .exit)) (now (mask .exit)) (now (heads .exit)) (now (nexts .exit)) (now («work_words» .exit)) (now («work_sums» .exit)) (now (raws .exit)) (now (diags .exit)) } ≡ selecting (workOf (now («h_index» .entry)) (now («j_index» .entry)) (now (mask .entry)) (now (heads .entry)) (now (nexts .entry)) (now («work_words» .entry)) (now («work_sums» .entry)) (now (raws .entry)) (now (diags .entry))) m (modelTables (now («h_words» .entry)) (now («h_coeffs» .entry)) (now (jumps .entry)) (now (rates .entry)) (now («t_words» .entry)) (now («t_numbers» .entry))) (now (words .entry)) len dt «drop_tol» ⌝ }
 {
     let answer = check_degree(
         m,
@@ -75,6 +87,8 @@ pub fn expm_degree(
         h_index.len(),
         j_index.len(),
         mask.len(),
+        heads.len(),
+        nexts.len(),
         raws.len(),
         diags.len(),
     );
@@ -92,6 +106,8 @@ pub fn expm_degree(
             h_index,
             j_index,
             mask,
+            heads,
+            nexts,
             work_words,
             work_sums,
             raws,

@@ -9,10 +9,11 @@ ghost use Rattle.refusal.specs.declared.Answer.the-variants.{Accepted};
 ghost use Rattle.word.specs.Flat.{words as wordsIn};
 ghost use Rattle.number.specs.Floats.{float0};
 ghost use Rattle.model.specs.Between.{modelTables};
-ghost use Rattle.norm.specs.Between.{columnNorms, Fills, normFrom};
+ghost use Rattle.norm.specs.Between.{BasisSlots, columnNorms, Fills, normFrom};
 ghost use Rattle.action.specs.Acts.{sumPlaces};
 ghost use Rattle.norm.specs.Columns.{columnNorm, meanOf, largest};
 ghost use Rattle.norm.specs.Norms.{workOf, zeroed, normTests, normCourse, norming};
+use crate::basis::lay_basis;
 use crate::check::check_norm;
 use crate::columns::fill_columns;
 use lent::clear::clear_lanes;
@@ -94,6 +95,8 @@ fn fill_and_clear(
     t_numbers: &[f64],
     words: &[u64],
     len: usize,
+    heads: &[u64],
+    nexts: &[u64],
     h_index: &mut [u64],
     j_index: &mut [u64],
     mask: &mut [u64],
@@ -102,7 +105,7 @@ fn fill_and_clear(
     raws: &mut [f64],
     diags: &mut [f64],
 ) -> Answer
-    requires { ⌜ normTests m (modelTables (now «h_words») (now «h_coeffs») (now jumps) (now rates) (now «t_words») (now «t_numbers»)) (now words) len (length (now «h_index»)) (length (now «j_index»)) (length (now mask)) (length (now raws)) (length (now diags)) ≡ Accepted ⌝ }
+    requires { ⌜ (normTests m (modelTables (now «h_words») (now «h_coeffs») (now jumps) (now rates) (now «t_words») (now «t_numbers»)) (now words) len (length (now «h_index»)) (length (now «j_index»)) (length (now mask)) (length (now heads)) (length (now nexts)) (length (now raws)) (length (now diags)) ≡ Accepted) × BasisSlots (now words) len (now heads) (now nexts) ⌝ }
     ensures { λ r. ⌜ Fills (sumPlaces (now («work_words» .entry)) (now («work_sums» .entry))) m (modelTables (now («h_words» .entry)) (now («h_coeffs» .entry)) (now (jumps .entry)) (now (rates .entry)) (now («t_words» .entry)) (now («t_numbers» .entry))) (take len (wordsIn (now (words .entry)))) len (now (raws .exit)) (now (diags .exit)) r × (now («h_index» .exit) ≡ replicate (length (now («h_index» .entry))) 0) × (now («j_index» .exit) ≡ replicate (length (now («j_index» .entry))) 0) × (now (mask .exit) ≡ replicate (length (now (mask .entry))) 0) × (now («work_words» .exit) ≡ replicate (length (now («work_words» .entry))) 0) × (now («work_sums» .exit) ≡ replicate (length (now («work_sums» .entry))) float0) ⌝ }
 {
     index_model(h_index, j_index, m, h_words, jumps, rates, t_words, len);
@@ -117,6 +120,8 @@ fn fill_and_clear(
         t_numbers,
         words,
         len,
+        heads,
+        nexts,
         h_index,
         j_index,
         mask,
@@ -134,6 +139,56 @@ fn fill_and_clear(
     filled
 }
 
+// The same with the slots of the basis laid before, and zero after.
+fn fill_slotted(
+    m: Model,
+    h_words: &[u64],
+    h_coeffs: &[f64],
+    jumps: &[u64],
+    rates: &[f64],
+    t_words: &[u64],
+    t_numbers: &[f64],
+    words: &[u64],
+    len: usize,
+    h_index: &mut [u64],
+    j_index: &mut [u64],
+    mask: &mut [u64],
+    heads: &mut [u64],
+    nexts: &mut [u64],
+    work_words: &mut [u64],
+    work_sums: &mut [f64],
+    raws: &mut [f64],
+    diags: &mut [f64],
+) -> Answer
+    requires { ⌜ normTests m (modelTables (now «h_words») (now «h_coeffs») (now jumps) (now rates) (now «t_words») (now «t_numbers»)) (now words) len (length (now «h_index»)) (length (now «j_index»)) (length (now mask)) (length (now heads)) (length (now nexts)) (length (now raws)) (length (now diags)) ≡ Accepted ⌝ }
+    ensures { λ r. ⌜ Fills (sumPlaces (now («work_words» .entry)) (now («work_sums» .entry))) m (modelTables (now («h_words» .entry)) (now («h_coeffs» .entry)) (now (jumps .entry)) (now (rates .entry)) (now («t_words» .entry)) (now («t_numbers» .entry))) (take len (wordsIn (now (words .entry)))) len (now (raws .exit)) (now (diags .exit)) r × (now («h_index» .exit) ≡ replicate (length (now («h_index» .entry))) 0) × (now («j_index» .exit) ≡ replicate (length (now («j_index» .entry))) 0) × (now (mask .exit) ≡ replicate (length (now (mask .entry))) 0) × (now (heads .exit) ≡ replicate (length (now (heads .entry))) 0) × (now (nexts .exit) ≡ replicate (length (now (nexts .entry))) 0) × (now («work_words» .exit) ≡ replicate (length (now («work_words» .entry))) 0) × (now («work_sums» .exit) ≡ replicate (length (now («work_sums» .entry))) float0) ⌝ }
+{
+    lay_basis(words, len, heads, nexts);
+    let filled = fill_and_clear(
+        m,
+        h_words,
+        h_coeffs,
+        jumps,
+        rates,
+        t_words,
+        t_numbers,
+        words,
+        len,
+        heads,
+        nexts,
+        h_index,
+        j_index,
+        mask,
+        work_words,
+        work_sums,
+        raws,
+        diags,
+    );
+    clear_lanes(heads);
+    clear_lanes(nexts);
+    filled
+}
+
 // The norm over a model and a basis that passed their tests.
 pub fn norm_tested(
     m: Model,
@@ -148,15 +203,17 @@ pub fn norm_tested(
     h_index: &mut [u64],
     j_index: &mut [u64],
     mask: &mut [u64],
+    heads: &mut [u64],
+    nexts: &mut [u64],
     work_words: &mut [u64],
     work_sums: &mut [f64],
     raws: &mut [f64],
     diags: &mut [f64],
 ) -> Normed
-    requires { ⌜ normTests m (modelTables (now «h_words») (now «h_coeffs») (now jumps) (now rates) (now «t_words») (now «t_numbers»)) (now words) len (length (now «h_index»)) (length (now «j_index»)) (length (now mask)) (length (now raws)) (length (now diags)) ≡ Accepted ⌝ }
-    ensures { λ r. ⌜ (r ≡ normCourse (workOf (now («h_index» .entry)) (now («j_index» .entry)) (now (mask .entry)) (now («work_words» .entry)) (now («work_sums» .entry)) (now (raws .entry)) (now (diags .entry))) m (modelTables (now («h_words» .entry)) (now («h_coeffs» .entry)) (now (jumps .entry)) (now (rates .entry)) (now («t_words» .entry)) (now («t_numbers» .entry))) (now (words .entry)) len) × (workOf (now («h_index» .exit)) (now («j_index» .exit)) (now (mask .exit)) (now («work_words» .exit)) (now («work_sums» .exit)) (now (raws .exit)) (now (diags .exit)) ≡ zeroed (workOf (now («h_index» .entry)) (now («j_index» .entry)) (now (mask .entry)) (now («work_words» .entry)) (now («work_sums» .entry)) (now (raws .entry)) (now (diags .entry)))) ⌝ }
+    requires { ⌜ normTests m (modelTables (now «h_words») (now «h_coeffs») (now jumps) (now rates) (now «t_words») (now «t_numbers»)) (now words) len (length (now «h_index»)) (length (now «j_index»)) (length (now mask)) (length (now heads)) (length (now nexts)) (length (now raws)) (length (now diags)) ≡ Accepted ⌝ }
+    ensures { λ r. ⌜ (r ≡ normCourse (workOf (now («h_index» .entry)) (now («j_index» .entry)) (now (mask .entry)) (now (heads .entry)) (now (nexts .entry)) (now («work_words» .entry)) (now («work_sums» .entry)) (now (raws .entry)) (now (diags .entry))) m (modelTables (now («h_words» .entry)) (now («h_coeffs» .entry)) (now (jumps .entry)) (now (rates .entry)) (now («t_words» .entry)) (now («t_numbers» .entry))) (now (words .entry)) len) × (workOf (now («h_index» .exit)) (now («j_index» .exit)) (now (mask .exit)) (now (heads .exit)) (now (nexts .exit)) (now («work_words» .exit)) (now («work_sums» .exit)) (now (raws .exit)) (now (diags .exit)) ≡ zeroed (workOf (now («h_index» .entry)) (now («j_index» .entry)) (now (mask .entry)) (now (heads .entry)) (now (nexts .entry)) (now («work_words» .entry)) (now («work_sums» .entry)) (now (raws .entry)) (now (diags .entry)))) ⌝ }
 {
-    let filled = fill_and_clear(
+    let filled = fill_slotted(
         m,
         h_words,
         h_coeffs,
@@ -169,6 +226,8 @@ pub fn norm_tested(
         h_index,
         j_index,
         mask,
+        heads,
+        nexts,
         work_words,
         work_sums,
         raws,
@@ -193,12 +252,14 @@ pub fn norm(
     h_index: &mut [u64],
     j_index: &mut [u64],
     mask: &mut [u64],
+    heads: &mut [u64],
+    nexts: &mut [u64],
     work_words: &mut [u64],
     work_sums: &mut [f64],
     raws: &mut [f64],
     diags: &mut [f64],
 ) -> Normed
-    ensures { λ r. ⌜ record { answer = r; work = workOf (now («h_index» .exit)) (now («j_index» .exit)) (now (mask .exit)) (now («work_words» .exit)) (now («work_sums» .exit)) (now (raws .exit)) (now (diags .exit)) } ≡ norming (workOf (now («h_index» .entry)) (now («j_index» .entry)) (now (mask .entry)) (now («work_words» .entry)) (now («work_sums» .entry)) (now (raws .entry)) (now (diags .entry))) m (modelTables (now («h_words» .entry)) (now («h_coeffs» .entry)) (now (jumps .entry)) (now (rates .entry)) (now («t_words» .entry)) (now («t_numbers» .entry))) (now (words .entry)) len ⌝ }
+    ensures { λ r. ⌜ record { answer = r; work = workOf (now («h_index» .exit)) (now («j_index» .exit)) (now (mask .exit)) (now (heads .exit)) (now (nexts .exit)) (now («work_words» .exit)) (now («work_sums» .exit)) (now (raws .exit)) (now (diags .exit)) } ≡ norming (workOf (now («h_index» .entry)) (now («j_index» .entry)) (now (mask .entry)) (now (heads .entry)) (now (nexts .entry)) (now («work_words» .entry)) (now («work_sums» .entry)) (now (raws .entry)) (now (diags .entry))) m (modelTables (now («h_words» .entry)) (now («h_coeffs» .entry)) (now (jumps .entry)) (now (rates .entry)) (now («t_words» .entry)) (now («t_numbers» .entry))) (now (words .entry)) len ⌝ }
 {
     let answer = check_norm(
         m,
@@ -213,6 +274,8 @@ pub fn norm(
         h_index.len(),
         j_index.len(),
         mask.len(),
+        heads.len(),
+        nexts.len(),
         raws.len(),
         diags.len(),
     );
@@ -230,6 +293,8 @@ pub fn norm(
             h_index,
             j_index,
             mask,
+            heads,
+            nexts,
             work_words,
             work_sums,
             raws,

@@ -189,6 +189,8 @@ pub record NormLent (s : GeneratorSizes) (len : ℕ) (w : Norm.Work) : Type 0 wh
   pub h-index : s .«h_index» ≤ length (w .hIndex)
   pub j-index : s .«j_index» ≤ length (w .jIndex)
   pub mask : s .mask ≤ length (w .mask)
+  pub heads : s .heads ≤ length (w .heads)
+  pub nexts : s .nexts ≤ length (w .nexts)
   pub raws : len ≤ length (w .raws)
   pub diags : len ≤ length (w .diags)
 
@@ -197,15 +199,19 @@ module _ (qubits len touched entries : ℕ) (w : Norm.Work) (a : NormLent (gener
     h-index : ltb (length (w .hIndex)) (whereAny len (rowLanes * qubits)) ≡ false
     j-index : ltb (length (w .jIndex)) (whereAny len (rowLanes * qubits)) ≡ false
     mask : ltb (length (w .mask)) (whereAny len rowLanes) ≡ false
+    heads : ltb (length (w .heads)) len ≡ false
+    nexts : ltb (length (w .nexts)) len ≡ false
     raws : ltb (length (w .raws)) len ≡ false
     diags : ltb (length (w .diags)) len ≡ false
 
-  norm-passes : qubits ≤ maxQubits → NormPasses
+  norm-passes : qubits ≤ maxQubits → len ≤ maxWords → NormPasses
   unfolding generatorSizes
-  norm-passes q = record {
+  norm-passes q e = record {
     h-index = le-ltb (length (w .hIndex)) (whereAny len (rowLanes * qubits)) (rows-asked qubits len q (a .h-index));
     j-index = le-ltb (length (w .jIndex)) (whereAny len (rowLanes * qubits)) (rows-asked qubits len q (a .j-index));
     mask = le-ltb (length (w .mask)) (whereAny len rowLanes) (a .mask);
+    heads = le-ltb (length (w .heads)) len (omega (arith, a .heads));
+    nexts = le-ltb (length (w .nexts)) len (omega (arith, a .nexts));
     raws = le-ltb (length (w .raws)) len (a .raws);
     diags = le-ltb (length (w .diags)) len (a .diags);
   }
@@ -216,7 +222,7 @@ pub norm-enough : (m : Model) (t : ModelTables) (lanes : List ℕ) (len touched 
     → Norm.normTested m t lanes len w ≡ Norm.normTested m t lanes len w′
 unfolding Norm.normTests
 norm-enough m t lanes len touched entries w w′ x y =
-    then-alike (testModel m t) (λ e.
-    let p = norm-passes (m .qubits) len touched entries w x (tested-stands m t e .qubits) in
-    let q = norm-passes (m .qubits) len touched entries w′ y (tested-stands m t e .qubits) in
-    rw (p .h-index, p .j-index, p .mask, p .raws, p .diags, q .h-index, q .j-index, q .mask, q .raws, q .diags))
+    then-alike (testModel m t) (λ e. counted-alike maxWords len (λ f.
+    let p = norm-passes (m .qubits) len touched entries w x (tested-stands m t e .qubits) f in
+    let q = norm-passes (m .qubits) len touched entries w′ y (tested-stands m t e .qubits) f in
+    rw (p .h-index, p .j-index, p .mask, p .heads, p .nexts, p .raws, p .diags, q .h-index, q .j-index, q .mask, q .heads, q .nexts, q .raws, q .diags)))

@@ -3,10 +3,10 @@
 
 // The norm of the generator over a lent basis, and the Taylor degree for it.
 ghost use mathlib.Core.Path.{_≡_};
-ghost use Rattle.expm.specs.Selects.{degreeBy, tableFor};
+ghost use Rattle.expm.specs.Selects.{chosen};
 ghost use Rattle.norm.specs.Norms.{workOf, norming, selecting};
-ghost use Rattle.pebblelinen.specs.Norms.{normedOf, LeavesNorm, partitionOf, LeavesPartition};
-use expm::Degree;
+ghost use Rattle.pebblelinen.specs.Norms.{normedOf, LeavesNorm, partitionOf, LeavesPartition, choiceOf};
+use expm::Chosen;
 use model::stored::Model;
 use norm::degree::Selected;
 use norm::norm::Normed;
@@ -55,12 +55,14 @@ pub extern "C" fn pebblelinen_norm(
     h_index: &mut [u64],
     j_index: &mut [u64],
     mask: &mut [u64],
+    heads: &mut [u64],
+    nexts: &mut [u64],
     work_words: &mut [u64],
     work_sums: &mut [f64],
     raws: &mut [f64],
     diags: &mut [f64],
 ) -> NormOfBasis
-    ensures { λ r. ⌜ LeavesNorm (norming (workOf (now («h_index» .entry)) (now («j_index» .entry)) (now (mask .entry)) (now («work_words» .entry)) (now («work_sums» .entry)) (now (raws .entry)) (now (diags .entry))) model (record { hWords = now («h_words» .entry); hCoeffs = now («h_coeffs» .entry); jumps = now (jumps .entry); rates = now (rates .entry); tWords = now («t_words» .entry); tNumbers = now («t_numbers» .entry) }) (now (words .entry)) len) r (workOf (now («h_index» .exit)) (now («j_index» .exit)) (now (mask .exit)) (now («work_words» .exit)) (now («work_sums» .exit)) (now (raws .exit)) (now (diags .exit))) ⌝ }
+    ensures { λ r. ⌜ LeavesNorm (norming (workOf (now («h_index» .entry)) (now («j_index» .entry)) (now (mask .entry)) (now (heads .entry)) (now (nexts .entry)) (now («work_words» .entry)) (now («work_sums» .entry)) (now (raws .entry)) (now (diags .entry))) model (record { hWords = now («h_words» .entry); hCoeffs = now («h_coeffs» .entry); jumps = now (jumps .entry); rates = now (rates .entry); tWords = now («t_words» .entry); tNumbers = now («t_numbers» .entry) }) (now (words .entry)) len) r (workOf (now («h_index» .exit)) (now («j_index» .exit)) (now (mask .exit)) (now (heads .exit)) (now (nexts .exit)) (now («work_words» .exit)) (now («work_sums» .exit)) (now (raws .exit)) (now (diags .exit))) ⌝ }
 {
     normed_of(norm::norm::norm(
         model,
@@ -75,6 +77,8 @@ pub extern "C" fn pebblelinen_norm(
         h_index,
         j_index,
         mask,
+        heads,
+        nexts,
         work_words,
         work_sums,
         raws,
@@ -133,12 +137,14 @@ pub extern "C" fn pebblelinen_expm_degree(
     h_index: &mut [u64],
     j_index: &mut [u64],
     mask: &mut [u64],
+    heads: &mut [u64],
+    nexts: &mut [u64],
     work_words: &mut [u64],
     work_sums: &mut [f64],
     raws: &mut [f64],
     diags: &mut [f64],
 ) -> Partition
-    ensures { λ r. ⌜ LeavesPartition (selecting (workOf (now («h_index» .entry)) (now («j_index» .entry)) (now (mask .entry)) (now («work_words» .entry)) (now («work_sums» .entry)) (now (raws .entry)) (now (diags .entry))) model (record { hWords = now («h_words» .entry); hCoeffs = now («h_coeffs» .entry); jumps = now (jumps .entry); rates = now (rates .entry); tWords = now («t_words» .entry); tNumbers = now («t_numbers» .entry) }) (now (words .entry)) len dt «drop_tol») r (workOf (now («h_index» .exit)) (now («j_index» .exit)) (now (mask .exit)) (now («work_words» .exit)) (now («work_sums» .exit)) (now (raws .exit)) (now (diags .exit))) ⌝ }
+    ensures { λ r. ⌜ LeavesPartition (selecting (workOf (now («h_index» .entry)) (now («j_index» .entry)) (now (mask .entry)) (now (heads .entry)) (now (nexts .entry)) (now («work_words» .entry)) (now («work_sums» .entry)) (now (raws .entry)) (now (diags .entry))) model (record { hWords = now («h_words» .entry); hCoeffs = now («h_coeffs» .entry); jumps = now (jumps .entry); rates = now (rates .entry); tWords = now («t_words» .entry); tNumbers = now («t_numbers» .entry) }) (now (words .entry)) len dt «drop_tol») r (workOf (now («h_index» .exit)) (now («j_index» .exit)) (now (mask .exit)) (now (heads .exit)) (now (nexts .exit)) (now («work_words» .exit)) (now («work_sums» .exit)) (now (raws .exit)) (now (diags .exit))) ⌝ }
 {
     partition_of(norm::degree::expm_degree(
         model,
@@ -155,6 +161,8 @@ pub extern "C" fn pebblelinen_expm_degree(
         h_index,
         j_index,
         mask,
+        heads,
+        nexts,
         work_words,
         work_sums,
         raws,
@@ -162,9 +170,38 @@ pub extern "C" fn pebblelinen_expm_degree(
     ))
 }
 
-#[no_mangle]
-pub extern "C" fn pebblelinen_select_ms(t: f64, drop_tol: f64) -> Degree
-    ensures { λ r. ⌜ r ≡ degreeBy (tableFor «drop_tol») t ⌝ }
+// The degree for a norm; 0 where the status is a refusal.
+#[repr(C)]
+pub struct DegreeChoice {
+    pub status: Status,
+    pub m: u32,
+    pub s: u32,
+}
+
+fn choice_of(answer: Chosen) -> DegreeChoice
+    ensures { λ r. ⌜ r ≡ choiceOf answer ⌝ }
 {
-    expm::select_degree(t, drop_tol)
+    match answer {
+        Chosen::Pair(d) => DegreeChoice {
+            status: Status {
+                refusal: 0,
+                first: 0,
+                second: 0,
+            },
+            m: d.m,
+            s: d.s,
+        },
+        Chosen::Refused(refusal) => DegreeChoice {
+            status: refusal::status_of(refusal),
+            m: 0,
+            s: 0,
+        },
+    }
+}
+
+#[no_mangle]
+pub extern "C" fn pebblelinen_select_ms(t: f64, drop_tol: f64) -> DegreeChoice
+    ensures { λ r. ⌜ r ≡ choiceOf (chosen «drop_tol» t) ⌝ }
+{
+    choice_of(expm::select_degree(t, drop_tol))
 }

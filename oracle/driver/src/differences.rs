@@ -210,7 +210,7 @@ fn refused(status: Status) -> String {
     } = status;
     match refusal {
         0 => "accepted".into(),
-        1..=3 | 9 | 10 | 13 => format!("{refusal} ({first}, {second})"),
+        1..=3 | 9 | 10 | 13 | 16 => format!("{refusal} ({first}, {second})"),
         _ => format!("{refusal} ({first})"),
     }
 }

@@ -93,9 +93,9 @@ pub fn run(seed: u64, cases: usize, from: usize) -> ExitCode {
         products::record(seed, cases / 16);
     }
     println!(
-        "# 18 and 13, 14, 15 or 16, then as these: answers of document 01 that the Rust does not"
+        "# 18 and 13, 14, 15, 16 or 17, then as these: answers of the documents that the Rust does"
     );
-    println!("#   give");
+    println!("#   not give");
     generators::record_not_of_the_rust(seed, cases / 40, from);
     if from == 0 {
         products::record_not_of_the_rust(seed, cases / 10);

@@ -17,7 +17,7 @@ use crate::inputs::models as model_inputs;
 use crate::inputs::products::{Sort, vector};
 use crate::port::Word;
 use crate::port::actions::{CountRoom, count_action_terms};
-use crate::port::generators::{self as port, GeneratorRoom, GeneratorSizes};
+use crate::port::generators::{self as port, GeneratorRoom};
 use crate::port::models::{Lent, Model, build_model, model_sizes};
 use crate::port::norms::{NormRoom, norm};
 use crate::port::products::{Csr, ProductRoom, dot};
@@ -82,26 +82,10 @@ impl<'a> Sides<'a> {
         let counted = count_action_terms(model, &lent, &lanes, &mut room);
         let entries = count * counted.listed;
         let lengths = port::generator_sizes(model.qubits, count, counted.touched, entries);
-        let GeneratorSizes {
-            h_index,
-            j_index,
-            mask,
-            work_words,
-            work_sums,
-            ..
-        } = lengths;
         Self {
             rust: RustGenerator::new(rust, words),
             room: GeneratorRoom::of(&lengths, count, entries),
-            norm_room: NormRoom {
-                h_index: vec![0; h_index],
-                j_index: vec![0; j_index],
-                mask: vec![0; mask],
-                work_words: vec![0; work_words],
-                work_sums: vec![0.0; work_sums],
-                raws: vec![0.0; count],
-                diags: vec![0.0; count],
-            },
+            norm_room: NormRoom::of(&lengths, count),
             model,
             lent,
             lanes,

@@ -39,7 +39,7 @@ pub fn compare(seed: u64, cases: usize) -> Vec<Tally> {
 }
 
 /// The operations: the first where document 01 accepts, then by the number of its refusal.
-const OPERATIONS: [&str; 15] = [
+const OPERATIONS: [&str; 17] = [
     "",
     "  refusal 1",
     "  refusal 2",
@@ -55,6 +55,8 @@ const OPERATIONS: [&str; 15] = [
     "  refusal 12",
     "  refusal 13",
     "  refusal 14",
+    "  refusal 15",
+    "  refusal 16",
 ];
 
 struct Tallies {

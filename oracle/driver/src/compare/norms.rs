@@ -3,7 +3,8 @@
 
 //! The degree for any norm, and norm and degree over lent bases, every lent table bit for bit.
 //!
-//! Cases are counted by what document 01 answers to them. The Rust is asked where the document accepts. Its mu
+//! Cases are counted by what the documents answer to them. The Rust is asked where they accept, and where every word that
+//! an action lists is in the basis: it sums what leaves the basis too. Its mu
 //! and its degree are those that it hands to the exponential; its norm is held to the rules' by two steps at
 //! which the degree tells that norm from its neighbours. A difference is expected where the magnitudes of an
 //! action's terms have another sum in the Rust's order, by hash, and where a number of the model is near a
@@ -18,8 +19,11 @@ use crate::inputs::{generators, norms as inputs};
 use crate::port::norms::{self as port, Degree, NormRoom, Normed, Partition};
 use crate::port::{Status, Word};
 use crate::published::generators::RustGenerator;
+use crate::published::models::RustModel;
 use crate::published::norms::{self as published, has_norm, in_hash_order, partition};
-use crate::rules::norms::{self as rules, basis_norm, most_touched, norm_of, select_ms, terms};
+use crate::rules::norms::{
+    self as rules, Pair, basis_norm, is_closed, least_pair, most_touched, norm_of, select_ms, terms,
+};
 use crate::rules::word_of;
 
 /// One in so many cases has something wrong.
@@ -27,6 +31,9 @@ const SPOILT: usize = 3;
 
 /// Each basis is asked about several times, so there are fewer bases than cases.
 const CASES_A_BASIS: usize = 3;
+
+/// The most words of a basis that is to have all that its words reach.
+const CLOSED: usize = 256;
 
 pub fn compare(seed: u64, cases: usize) -> Vec<Tally> {
     let rng = &mut Rng::new(seed);
@@ -69,12 +76,17 @@ struct Tallies {
     no_probe: usize,
 }
 
-/// The degree for a norm.
+/// The degree for a norm. The Rust has no ceiling on products, and is asked below it.
 fn degree(tally: &mut Tally, t: f64, drop_tol: f64) {
+    let rules = select_ms(t, drop_tol);
+    let rust = (rules.status.refusal == 0).then(|| {
+        let Pair { m, s } = published::select_ms(t, drop_tol);
+        Degree { m, s, ..rules }
+    });
     let answers: Answers<Degree> = Answers {
-        rust: Some(published::select_ms(t, drop_tol)),
+        rust,
         port: port::select_ms(t, drop_tol),
-        rules: select_ms(t, drop_tol),
+        rules,
         listed: false,
     };
     tally.count(0, || format!("{t:?} at {drop_tol:?}"), answers);
@@ -114,6 +126,16 @@ impl Case<'_> {
         format!("{}, {len} of {lanes:x?}, {step:?}, {room:?}", over.input())
     }
 
+    /// The Rust's model, where it is to be asked about a call that ends so.
+    fn rust(&self, refusal: u64) -> Option<&RustModel> {
+        let over = self.over;
+        let asked = refusal == 0 && self.len > 0 && {
+            let terms = terms(over.model(), over.lent(), &over.words, &over.acts);
+            is_closed(&terms, &over.words)
+        };
+        over.rust.as_ref().filter(|_| asked)
+    }
+
     fn norm(&self, rng: &mut Rng, tallies: &mut Tallies) {
         let Self {
             over, lanes, len, ..
@@ -124,10 +146,13 @@ impl Case<'_> {
         let mut rules_room = self.room.clone();
         let rules = rules::norm(model, lent, lanes, *len, &mut rules_room, &over.acts);
         let refusal = rules.status.refusal;
-        let rust = match &over.rust {
-            Some(model) if refusal == 0 && *len > 0 => Some(RustGenerator::new(model, &over.words)),
-            _ => None,
-        };
+        let rust = self.rust(refusal);
+        let rust = rust.map(|model| RustGenerator::new(model, &over.words));
+        if refusal == 0 {
+            // With what leaves the basis it is never smaller.
+            let terms = terms(model, lent, &over.words, &over.acts);
+            assert!(rules.norm <= norm_of(&terms, &|terms| terms).1);
+        }
         // The Rust's answer is taken for the rules' where it has their mu and their norm.
         let mut listed = false;
         let mut unknown = false;
@@ -177,16 +202,16 @@ impl Case<'_> {
         let rules = rules::expm_degree(model, lent, lanes, *len, *step, &mut rules_room, acts);
         let refusal = rules.status.refusal;
         // The norm itself is compared above.
-        let rust = over.rust.as_ref().filter(|_| refusal == 0 && *len > 0);
+        let rust = self.rust(refusal);
         let rust = rust.and_then(|model| {
             let generator = RustGenerator::new(model, &over.words);
-            let (mu, Degree { m, s }) = partition(&generator, step.0, step.1)?;
+            let (mu, Pair { m, s }) = partition(&generator, step.0, step.1)?;
             Some(Partition { mu, m, s, ..rules })
         });
         let differs = rust.filter(|rust| *rust != rules);
         let listed = differs.is_some_and(|rust| {
             let has = |(mu, norm): (f64, f64)| {
-                let Degree { m, s } = select_ms(step.0.abs() * norm, step.1);
+                let Pair { m, s } = least_pair(step.0.abs() * norm, step.1);
                 mu.to_bits() == rust.mu.to_bits() && (m, s) == (rust.m, rust.s)
             };
             others(rng, over).into_iter().any(has)
@@ -205,6 +230,12 @@ impl Case<'_> {
 /// wrong.
 fn random(rng: &mut Rng, tallies: &mut Tallies) {
     let mut over = OverBasis::random(rng);
+    if rng.one_in(2) {
+        let mut few = over.words.clone();
+        few.truncate(1 + rng.below(4));
+        let closed = generators::closed(few, CLOSED, |words| over.reached(words));
+        over.words = closed.unwrap_or(over.words);
+    }
     // Words may come again here.
     if over.words.len() > 1 && rng.one_in(6) {
         let w = over.words[rng.below(over.words.len())];
@@ -258,18 +289,33 @@ fn random(rng: &mut Rng, tallies: &mut Tallies) {
     ask(rng, tallies, case);
 }
 
-/// The degrees of document 01, an empty basis, raw over words outside of the basis, and a raw whose sum is another in the
-/// Rust's order.
+/// The degrees of the documents, an empty basis, words outside of the basis, and words that come again.
 fn known(rng: &mut Rng, tallies: &mut Tallies) {
     for (t, drop_tol, m, s) in [
         (0.3, 0.0, 12, 1),
         (1.0, 0.0, 18, 1),
         (4.0, 0.0, 23, 2),
-        (f64::INFINITY, 0.0, 1, u32::MAX),
         (1.0, 1e-4, 9, 1),
+        (123730.08, 0.0, 30, 34_952),
+        (238722.16, 1e-4, 30, 34_952),
+        (f64::NAN, 0.0, 1, 1),
     ] {
-        assert_eq!(select_ms(t, drop_tol), Degree { m, s });
-        assert_eq!(published::select_ms(t, drop_tol), Degree { m, s });
+        let status = Status::default();
+        assert_eq!(select_ms(t, drop_tol), Degree { status, m, s });
+        assert_eq!(published::select_ms(t, drop_tol), Pair { m, s });
+    }
+    for (t, drop_tol, m, s) in [
+        (123730.08f64.next_up(), 0.0, 30, 34_953),
+        (238722.16f64.next_up(), 1e-4, 30, 34_953),
+        (f64::INFINITY, 0.0, 1, u32::MAX),
+    ] {
+        let status = Status {
+            refusal: 16,
+            first: u64::from(m),
+            second: u64::from(s),
+        };
+        assert_eq!(select_ms(t, drop_tol).status, status);
+        assert_eq!(published::select_ms(t, drop_tol), Pair { m, s });
     }
     let mut ask = |h: &[(&str, f64)], texts: &[&str], norm: f64, rust: Option<f64>| {
         let n_qubits = h[0].0.len();
@@ -302,10 +348,12 @@ fn known(rng: &mut Rng, tallies: &mut Tallies) {
     };
     ask(&[("Z", 0.5)], &[], 0.0, None);
     ask(&[("Z", 0.5)], &["Z"], 0.0, Some(0.0));
-    ask(&[("Z", 0.5)], &["X"], 1.0, Some(1.0));
+    ask(&[("Z", 0.5)], &["X"], 0.0, Some(1.0));
     ask(&[("Z", 0.5)], &["X", "Y"], 1.0, Some(1.0));
+    ask(&[("Z", 0.5)], &["X", "Y", "X", "X"], 1.0, None);
     let three = [("ZII", 0.3), ("IZI", 0.2), ("IIZ", 0.1)];
-    ask(&three, &["XXX"], 1.2, Some(1.2000000000000002));
+    ask(&three, &["XXX"], 0.0, Some(1.2000000000000002));
+    ask(&three, &["XXX", "XXY", "YXX"], 0.8, None);
     let empty = Partition {
         status: Status::default(),
         mu: 0.0,

@@ -9,13 +9,16 @@ use super::{
 };
 use crate::compare::standing::Standing;
 use crate::inputs::bases::lanes_of;
+use crate::inputs::models::Items;
 use crate::port::Word;
 use crate::port::generators::{GeneratorRoom, build_csr, generator, generator_sizes};
 use crate::port::norms::{self as port, NormRoom};
 use crate::port::products::{Csr, ProductRoom, dot};
 use crate::published::generators::RustGenerator;
 use crate::published::models::RustModel;
-use crate::published::norms::has_norm;
+use crate::published::norms::{self as published, has_norm, partition};
+use crate::rules::models::Complex;
+use crate::rules::norms::Pair;
 use crate::rules::word_of;
 use ppvm_lindblad::open::{Product, Questions};
 
@@ -72,28 +75,29 @@ impl Over {
         [self.by_port(ENOUGH, ENOUGH), list(&entries)]
     }
 
+    /// The tables for a norm, with so many places for the numbers of columns.
+    fn norm_room(&self, columns: usize) -> NormRoom {
+        NormRoom::of(&self.room(ENOUGH, 0).lengths(), columns)
+    }
+
     /// The port's norm, with so many places for the numbers of columns.
     fn norm(&self, columns: usize) -> port::Normed {
         let Standing { model, lent, .. } = &self.standing;
-        let GeneratorRoom {
-            h_index,
-            j_index,
-            mask,
-            work_words,
-            work_sums,
-            ..
-        } = self.room(ENOUGH, 0);
-        let mut room = NormRoom {
-            h_index,
-            j_index,
-            mask,
-            work_words,
-            work_sums,
-            raws: vec![0.0; columns],
-            diags: vec![0.0; columns],
-        };
-        let words = lanes_of(&self.words);
-        port::norm(*model, lent, &words, self.words.len(), &mut room)
+        let (words, len) = (lanes_of(&self.words), self.words.len());
+        port::norm(*model, lent, &words, len, &mut self.norm_room(columns))
+    }
+
+    /// Both degrees for a step.
+    fn degrees(&self, dt: f64) -> [String; 2] {
+        let Standing { model, lent, .. } = &self.standing;
+        let (words, len) = (lanes_of(&self.words), self.words.len());
+        let mut room = self.norm_room(len);
+        let found = port::expm_degree(*model, lent, &words, len, (dt, 0.0), &mut room);
+        let (m, s) = (found.m, found.s);
+        let rust_model = self.rust();
+        let seen = partition(&RustGenerator::new(&rust_model, &self.words), dt, 0.0);
+        let (_, rust) = seen.expect("there are words");
+        [answer(found.status, || pair(Pair { m, s })), pair(rust)]
     }
 
     /// Both norms. That of the Rust shows in nothing but the degree, so it is only asked whether it is
@@ -160,16 +164,31 @@ fn list(entries: &[(usize, usize, f64)]) -> String {
 }
 
 pub fn cases() -> Vec<Case> {
-    [differing(), near(), refusals()]
+    [differing(), above_the_ceiling(), near(), refusals()]
         .into_iter()
         .flatten()
         .collect()
 }
 
+/// A jump (X + iY)/2 on each of three qubits.
+fn three_decays(rate: f64) -> Items {
+    let term = |text: &str, x: Complex| (text.as_bytes().to_vec(), x);
+    let decay = |x, y| (rate, vec![term(x, (0.5, 0.0)), term(y, (0.0, 0.5))]);
+    Items {
+        jumps: vec![
+            decay("XII", "YII"),
+            decay("IXI", "IYI"),
+            decay("IIX", "IIY"),
+        ],
+        ..items(3, &[], &[])
+    }
+}
+
 fn differing() -> Vec<Case> {
     let again = Over::new(standing(items(1, &[], &[(0.25, &["Z"])])), &["X", "X"]);
-    let three = [("ZII", 0.3), ("IZI", 0.2), ("IIZ", 0.1)];
-    let sums = Over::new(standing(items(3, &three, &[])), &["XXX"]);
+    let all = ["III", "ZII", "IZI", "ZZI", "IIZ", "ZIZ", "IZZ", "ZZZ"];
+    let sums = Over::new(standing(three_decays(0.1)), &all);
+    let outside = Over::new(standing(items(1, &[("Z", 0.5)], &[])), &["X"]);
     let turn = Over::new(standing(items(1, &[("Z", 1.0)], &[])), &["X", "Y"]);
     vec![
         Case {
@@ -180,9 +199,15 @@ fn differing() -> Vec<Case> {
         },
         Case {
             place: "raw's adding order",
-            input: "H 0.3 ZII + 0.2 IZI + 0.1 IIZ, basis XXX",
-            expected: ["norm 1.2", "norm 1.2000000000000002"],
-            found: sums.norms(1.2000000000000002),
+            input: "jumps (X + iY)/2 on each of three qubits at rate 0.1, basis of the eight words of I and Z",
+            expected: ["norm 0.45000000000000007", "norm 0.44999999999999996"],
+            found: sums.norms(0.44999999999999996),
+        },
+        Case {
+            place: "norm where words leave the basis",
+            input: "H 0.5 Z, basis X",
+            expected: ["norm 0", "norm 1"],
+            found: outside.norms(1.0),
         },
         Case {
             place: "product, not finite",
@@ -193,8 +218,52 @@ fn differing() -> Vec<Case> {
     ]
 }
 
-/// The models of the action, over the word that they act on and, but for the norm, the word that only one
-/// side lists.
+/// A degree.
+fn pair(pair: Pair) -> String {
+    format!("({}, {})", pair.m, pair.s)
+}
+
+/// Both degrees for a norm.
+fn degrees(t: f64, drop_tol: f64) -> [String; 2] {
+    let found = port::select_ms(t, drop_tol);
+    let (m, s) = (found.m, found.s);
+    let port = answer(found.status, || pair(Pair { m, s }));
+    [port, pair(published::select_ms(t, drop_tol))]
+}
+
+fn above_the_ceiling() -> Vec<Case> {
+    let place = "a ceiling on products";
+    let turn = Over::new(standing(items(1, &[("Z", 0.5)], &[])), &["X", "Y"]);
+    vec![
+        Case {
+            place,
+            input: "the degree for the norm 123730.08000000002",
+            expected: ["16 (30, 34953)", "(30, 34953)"],
+            found: degrees(123730.08f64.next_up(), 0.0),
+        },
+        Case {
+            place,
+            input: "the degree for the norm 238722.16000000003 at drop_tol 1e-4",
+            expected: ["16 (30, 34953)", "(30, 34953)"],
+            found: degrees(238722.16f64.next_up(), 1e-4),
+        },
+        Case {
+            place,
+            input: "the degree for an infinite norm",
+            expected: ["16 (1, 4294967295)", "(1, 4294967295)"],
+            found: degrees(f64::INFINITY, 0.0),
+        },
+        Case {
+            place,
+            input: "the degree of H 0.5 Z over X, Y for dt 1e6",
+            expected: ["16 (30, 282486)", "(30, 282486)"],
+            found: turn.degrees(1e6),
+        },
+    ]
+}
+
+/// The models of the action, over the word that they act on and the word that only one side lists. With thinning both
+/// have one norm: that of the other column.
 fn near() -> Vec<Case> {
     let over = |matrix, texts: &[&str]| Over::new(standing_of(matrix), texts);
     let thin = over(thinned(), &["IZ", "XY"]);
@@ -233,21 +302,15 @@ fn near() -> Vec<Case> {
         },
         Case {
             place: norm,
-            input: "the model of thinning over IZ",
-            expected: ["norm 3.2e-14", "norm 0"],
-            found: over(thinned(), &["IZ"]).norms(0.0),
-        },
-        Case {
-            place: norm,
-            input: "that of the skip rule over ZZ",
+            input: "the model of the skip rule over ZZ, YY",
             expected: ["norm 2.8066438062523957e-13", "norm 0"],
-            found: over(skipped(), &["ZZ"]).norms(0.0),
+            found: skip.norms(0.0),
         },
         Case {
             place: norm,
-            input: "that of the skip rule the other way over ZZ",
+            input: "that of the skip rule the other way over ZZ, YY",
             expected: ["norm 0", "norm 2.1671553440683056e-13"],
-            found: over(not_skipped(), &["ZZ"]).norms(2.1671553440683056e-13),
+            found: other.norms(2.1671553440683056e-13),
         },
         Case {
             place: product,

@@ -43,6 +43,23 @@ pub fn words(
     distinct(words)
 }
 
+/// Words with all that they reach, and all that these reach, unless they are more than so many.
+pub fn closed(
+    words: Vec<Word>,
+    most: usize,
+    reached: impl Fn(&[Word]) -> Vec<Word>,
+) -> Option<Vec<Word>> {
+    let mut words = distinct(words);
+    loop {
+        let count = words.len();
+        words.extend(reached(&words));
+        words = distinct(words);
+        if words.len() == count || words.len() > most {
+            return (words.len() == count).then_some(words);
+        }
+    }
+}
+
 /// The words in a table with something past them.
 pub fn lent_words(rng: &mut Rng, words: &[Word]) -> Vec<u64> {
     let mut table = lanes_of(words);

@@ -18,11 +18,23 @@ fn about(x: f64) -> [f64; 5] {
     [down.next_down(), down, x, up, up.next_up()]
 }
 
-/// Every threshold, small multiples of it and those about the largest count of steps, each with its
-/// neighbours; 0, negative, subnormal, infinite and NaN.
+/// Every threshold, small multiples of it, those about the ceiling on products and those about the largest count of
+/// steps, each with its neighbours; 0, negative, subnormal, infinite and NaN.
 pub fn thresholds() -> Vec<f64> {
     let large = f64::from(u32::MAX);
-    let factors = [1.0, 2.0, 3.0, 7.0, 1000.0, large - 1.0, large, large + 1.0];
+    let ceiling = 34_952.0; // steps of the last degree
+    let factors = [
+        1.0,
+        2.0,
+        3.0,
+        7.0,
+        1000.0,
+        ceiling,
+        ceiling + 1.0,
+        large - 1.0,
+        large,
+        large + 1.0,
+    ];
     let at = |threshold: f64| factors.into_iter().flat_map(move |k| about(k * threshold));
     let mut list: Vec<f64> = THETA.into_iter().chain(THETA_LOOSE).flat_map(at).collect();
     list.extend(about(0.0));
@@ -79,12 +91,15 @@ pub fn room(rng: &mut Rng, n_qubits: usize, len: usize, touched: usize) -> NormR
     let needed = generator_sizes(n_qubits, len, touched, 0);
     let mut more = |least: usize| least + rng.pick(&[0, 0, 0, 1, 3, 100]);
     let (h_index, j_index, mask) = (more(needed.h_index), needed.j_index, more(needed.mask));
+    let (heads, nexts) = (more(len), more(needed.nexts));
     let (work_words, work_sums) = (more(needed.work_words), needed.work_sums);
     let (raws, diags) = (more(len), more(len));
     NormRoom {
         h_index: lanes(rng, h_index),
         j_index: lanes(rng, j_index),
         mask: lanes(rng, mask),
+        heads: lanes(rng, heads),
+        nexts: lanes(rng, nexts),
         work_words: lanes(rng, work_words),
         work_sums: numbers(work_sums),
         raws: numbers(raws),
@@ -109,11 +124,13 @@ pub fn spoil(
         3 => shorten(rng, words, WORD_LANES * places),
         4 => step.0 = rng.pick(&NOT_FINITE),
         5 => step.1 = rng.pick(&NOT_FINITE),
-        _ => match rng.below(5) {
+        _ => match rng.below(7) {
             0 => shorten(rng, &mut room.h_index, rows),
             1 => shorten(rng, &mut room.j_index, rows),
             2 => shorten(rng, &mut room.mask, 64),
-            3 => shorten(rng, &mut room.raws, places),
+            3 => shorten(rng, &mut room.heads, places),
+            4 => shorten(rng, &mut room.nexts, places),
+            5 => shorten(rng, &mut room.raws, places),
             _ => shorten(rng, &mut room.diags, places),
         },
     }

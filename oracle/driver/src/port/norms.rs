@@ -4,6 +4,7 @@
 //! The norm of the generator over a lent basis, and the Taylor degree for it.
 
 use super::Status;
+use super::generators::GeneratorSizes;
 use super::models::{Lent, Model};
 use std::fmt::{Debug, Formatter};
 
@@ -18,6 +19,7 @@ pub struct Normed {
 #[repr(C)]
 #[derive(Clone, Copy, Debug, PartialEq, Eq)]
 pub struct Degree {
+    pub status: Status,
     pub m: u32,
     pub s: u32,
 }
@@ -54,6 +56,8 @@ pub struct NormRoom {
     pub h_index: Vec<u64>,
     pub j_index: Vec<u64>,
     pub mask: Vec<u64>,
+    pub heads: Vec<u64>,
+    pub nexts: Vec<u64>,
     pub work_words: Vec<u64>,
     pub work_sums: Vec<f64>,
     pub raws: Vec<f64>,
@@ -61,12 +65,29 @@ pub struct NormRoom {
 }
 
 impl NormRoom {
+    /// Tables of these lengths that are all zero, and places for the numbers of so many columns.
+    pub fn of(lengths: &GeneratorSizes, columns: usize) -> Self {
+        Self {
+            h_index: vec![0; lengths.h_index],
+            j_index: vec![0; lengths.j_index],
+            mask: vec![0; lengths.mask],
+            heads: vec![0; lengths.heads],
+            nexts: vec![0; lengths.nexts],
+            work_words: vec![0; lengths.work_words],
+            work_sums: vec![0.0; lengths.work_sums],
+            raws: vec![0.0; columns],
+            diags: vec![0.0; columns],
+        }
+    }
+
     /// All tables become zero.
     pub fn clear(&mut self) {
         for table in [
             &mut self.h_index,
             &mut self.j_index,
             &mut self.mask,
+            &mut self.heads,
+            &mut self.nexts,
             &mut self.work_words,
         ] {
             table.fill(0);
@@ -77,12 +98,14 @@ impl NormRoom {
     }
 
     /// Numbers by their bits.
-    fn bits(&self) -> [Vec<u64>; 7] {
+    fn bits(&self) -> [Vec<u64>; 9] {
         let bits = |numbers: &[f64]| numbers.iter().map(|x| x.to_bits()).collect();
         [
             self.h_index.clone(),
             self.j_index.clone(),
             self.mask.clone(),
+            self.heads.clone(),
+            self.nexts.clone(),
             self.work_words.clone(),
             bits(&self.work_sums),
             bits(&self.raws),
@@ -134,6 +157,10 @@ unsafe extern "C" {
         j_index_len: usize,
         mask: *mut u64,
         mask_len: usize,
+        heads: *mut u64,
+        heads_len: usize,
+        nexts: *mut u64,
+        nexts_len: usize,
         work_words: *mut u64,
         work_words_len: usize,
         work_sums: *mut f64,
@@ -168,6 +195,10 @@ unsafe extern "C" {
         j_index_len: usize,
         mask: *mut u64,
         mask_len: usize,
+        heads: *mut u64,
+        heads_len: usize,
+        nexts: *mut u64,
+        nexts_len: usize,
         work_words: *mut u64,
         work_words_len: usize,
         work_sums: *mut f64,
@@ -210,6 +241,10 @@ pub fn norm(model: Model, lent: &Lent, words: &[u64], len: usize, room: &mut Nor
             room.j_index.len(),
             room.mask.as_mut_ptr(),
             room.mask.len(),
+            room.heads.as_mut_ptr(),
+            room.heads.len(),
+            room.nexts.as_mut_ptr(),
+            room.nexts.len(),
             room.work_words.as_mut_ptr(),
             room.work_words.len(),
             room.work_sums.as_mut_ptr(),
@@ -257,6 +292,10 @@ pub fn expm_degree(
             room.j_index.len(),
             room.mask.as_mut_ptr(),
             room.mask.len(),
+            room.heads.as_mut_ptr(),
+            room.heads.len(),
+            room.nexts.as_mut_ptr(),
+            room.nexts.len(),
             room.work_words.as_mut_ptr(),
             room.work_words.len(),
             room.work_sums.as_mut_ptr(),

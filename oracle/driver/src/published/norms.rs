@@ -6,17 +6,16 @@
 use super::generators::RustGenerator;
 use super::rust_word;
 use crate::port::Word;
-use crate::port::norms::Degree;
-use crate::rules::norms::{LOOSE_FROM, select_ms as by_rules};
+use crate::rules::norms::{LOOSE_FROM, Pair, least_pair as by_rules};
 use crate::rules::order;
 use ppvm_lindblad::open::{self, Questions};
 
-pub fn select_ms(t: f64, drop_tol: f64) -> Degree {
+pub fn select_ms(t: f64, drop_tol: f64) -> Pair {
     let (m, s) = match drop_tol >= LOOSE_FROM {
         true => open::select_ms_loose(t),
         false => open::select_ms(t),
     };
-    Degree { m, s }
+    Pair { m, s }
 }
 
 /// The terms of an action in the order in which the Rust sums their magnitudes: by hash.
@@ -27,13 +26,13 @@ pub fn in_hash_order(n_qubits: usize, mut terms: Vec<(Word, f64)>) -> Vec<(Word,
 }
 
 /// mu, and the degree for a step. Nothing over an empty basis.
-pub fn partition(generator: &RustGenerator, dt: f64, drop_tol: f64) -> Option<(f64, Degree)> {
+pub fn partition(generator: &RustGenerator, dt: f64, drop_tol: f64) -> Option<(f64, Pair)> {
     let seen = generator.exponential(dt, drop_tol, Questions::default())?;
-    let degree = Degree {
+    let pair = Pair {
         m: seen.degree.m as u32,
         s: seen.degree.s as u32,
     };
-    Some((seen.mu, degree))
+    Some((seen.mu, pair))
 }
 
 /// Whether the Rust's norm has these bits; nothing where no probe tells it from its neighbours.
@@ -45,8 +44,8 @@ pub fn partition(generator: &RustGenerator, dt: f64, drop_tol: f64) -> Option<(f
 pub fn has_norm(generator: &RustGenerator, norm: f64) -> Option<bool> {
     let is = |dt: f64| {
         let seen = partition(generator, dt, 0.0);
-        let (_, degree) = seen.expect("a norm is asked over words only");
-        degree == by_rules(dt * norm, 0.0)
+        let (_, pair) = seen.expect("a norm is asked over words only");
+        pair == by_rules(dt * norm, 0.0)
     };
     if norm == 0.0 {
         // Any number above 0 has a degree of its own here.

@@ -13,15 +13,15 @@ use crate::inputs::generators as inputs;
 use crate::inputs::models::Items;
 use crate::inputs::norms as norm_inputs;
 use crate::port::generators::GeneratorRoom;
-use crate::port::norms::{Degree, NormRoom};
-use crate::port::{WORD_LANES, Word};
+use crate::port::Word;
+use crate::port::norms::NormRoom;
 use crate::published::generators::RustGenerator;
 use crate::published::norms::{has_norm, partition};
 use crate::rules::generators::{
     Acts, Entry, all_entries, build_csr, by_rows, generator, generator_sizes,
 };
 use crate::rules::models::Complex;
-use crate::rules::norms::{expm_degree, most_touched, terms};
+use crate::rules::norms::{Pair, expm_degree, is_closed, most_touched, terms};
 use crate::rules::{MAX_QUBITS, word_of};
 
 /// The kinds: of a generator, of a matrix by rows, of a norm and degree, and answers which the Rust does not
@@ -62,10 +62,16 @@ pub fn record_not_of_the_rust(seed: u64, cases: usize, from: usize) {
     let rng = &mut Rng::new(seed);
     for kind in [GENERATOR, BY_ROWS, NORM] {
         let mut list = refused_tempting(rng, kind);
+        list.extend(
+            tempting(rng, kind)
+                .into_iter()
+                .filter(|case| !case.is_comparable()),
+        );
         if from > 0 {
             list.clear();
         }
-        while list.len() < cases {
+        let count = list.len().max(cases) + cases / 2;
+        while list.len() < count {
             let case = random(rng, kind, from);
             list.extend(case.and_then(|case| spoilt(rng, from, case)));
         }
@@ -79,7 +85,8 @@ pub fn record_not_of_the_rust(seed: u64, cases: usize, from: usize) {
 
 /// Tempting cases, then so many random ones, all as the Rust has them.
 fn kind(rng: &mut Rng, kind: u64, cases: usize, from: usize) {
-    for case in tempting(rng, kind).into_iter().filter(|_| from == 0) {
+    let comparable = |case: &Case| from == 0 && case.is_comparable();
+    for case in tempting(rng, kind).into_iter().filter(comparable) {
         assert!(case.fits(from) && case.is_of_the_rust(), "a sound case");
         case.line().print();
     }
@@ -153,15 +160,7 @@ impl Case {
             let (dt, drop_tol) = self.step;
             let line = line.floats(&[dt, drop_tol]).numbers(&lanes);
             let sizes = generator_sizes(model.qubits, len, self.touched, 0);
-            let mut room = NormRoom {
-                h_index: vec![0; sizes.h_index],
-                j_index: vec![0; sizes.j_index],
-                mask: vec![0; sizes.mask],
-                work_words: vec![0; sizes.work_words],
-                work_sums: vec![0.0; sizes.work_sums],
-                raws: vec![0.0; len],
-                diags: vec![0.0; len],
-            };
+            let mut room = NormRoom::of(&sizes, len);
             let found = expm_degree(*model, lent, &lanes, len, self.step, &mut room, &self.acts);
             let line = line.status(found.status).floats(&[found.mu, found.norm]);
             return line.numbers(&[found.m, found.s].map(u64::from));
@@ -191,9 +190,19 @@ impl Case {
             .floats(&room.values[..count])
     }
 
+    /// Whether the Rust is to give the same: of norms, only where every word that an action lists is in the basis.
+    fn is_comparable(&self) -> bool {
+        let Standing { model, lent, .. } = &self.standing;
+        let terms = || terms(*model, lent, &self.words, &self.acts);
+        self.kind != NORM || is_closed(&terms(), &self.words)
+    }
+
     /// Whether the Rust has the same entries, or the same mu, norm and degree.
     fn is_of_the_rust(&self) -> bool {
         let Standing { model, lent, .. } = &self.standing;
+        if !self.is_comparable() {
+            return false;
+        }
         let Some(rust_model) = self.standing.rust() else {
             return false;
         };
@@ -208,22 +217,16 @@ impl Case {
             BY_ROWS => bits(rust.by_rows()) == bits(by_rows(entries())),
             _ => {
                 let acts = &self.acts;
-                let mut room = NormRoom {
-                    h_index: vec![0; 64 * MAX_QUBITS],
-                    j_index: vec![0; 64 * MAX_QUBITS],
-                    mask: vec![0; 64],
-                    work_words: vec![0; WORD_LANES * self.touched],
-                    work_sums: vec![0.0; 2 * self.touched],
-                    raws: vec![0.0; self.words.len()],
-                    diags: vec![0.0; self.words.len()],
-                };
                 let (lanes, len) = (lanes_of(&self.words), self.words.len());
+                let mut room =
+                    NormRoom::of(&generator_sizes(model.qubits, len, self.touched, 0), len);
                 let found = expm_degree(*model, lent, &lanes, len, self.step, &mut room, acts);
-                let Some((mu, degree)) = partition(&rust, self.step.0, self.step.1) else {
+                let Some((mu, pair)) = partition(&rust, self.step.0, self.step.1) else {
                     return false;
                 };
-                let Degree { m, s } = degree;
-                (mu.to_bits(), m, s) == (found.mu.to_bits(), found.m, found.s)
+                let Pair { m, s } = pair;
+                found.status.refusal == 0
+                    && (mu.to_bits(), m, s) == (found.mu.to_bits(), found.m, found.s)
                     && has_norm(&rust, found.norm) == Some(true)
             }
         }
@@ -249,6 +252,10 @@ fn random(rng: &mut Rng, kind: u64, from: usize) -> Option<Case> {
     let mut words = inputs::words(rng, items, matrices, reached);
     let most = 1 + rng.below(16);
     words.truncate(most);
+    if kind == NORM && !rng.one_in(4) {
+        words.truncate(1 + rng.below(3));
+        words = inputs::closed(words, WORDS / 2, reached)?;
+    }
     let step = (norm_inputs::dt(rng), norm_inputs::drop_tol(rng));
     Some(Case::new(kind, standing, words, step))
 }
@@ -270,9 +277,12 @@ fn spoilt(rng: &mut Rng, from: usize, mut case: Case) -> Option<Case> {
                 return None;
             }
         }
-        4 if case.kind == NORM => match rng.below(2) {
+        3 if case.is_comparable() => return None,
+        3 => {} // accepted, and no answer of the Rust
+        4 if case.kind == NORM => match rng.below(3) {
             0 => case.step.0 = f64::NAN,
-            _ => case.step.1 = f64::INFINITY,
+            1 => case.step.1 = f64::INFINITY,
+            _ => case.step.0 = -f64::MAX,
         },
         _ => return None,
     }
@@ -303,7 +313,7 @@ fn tempting(rng: &mut Rng, kind: u64) -> Vec<Case> {
         list.push(Case::new(kind, standing, words, (dt, drop_tol)));
     };
     // Rows and columns exchanged; words in another order than positions; a word outside of the basis, which the
-    // norm counts all the same; a row without entries.
+    // norm does not count; a row without entries.
     let turning = one(&[("Z", 0.5)], &[]);
     over(turning.clone(), &["X", "Y"], 1.0, 0.0);
     over(turning.clone(), &["Y", "Z", "X"], 0.3, 0.0);
@@ -319,7 +329,7 @@ fn tempting(rng: &mut Rng, kind: u64) -> Vec<Case> {
     );
     over(damped.clone(), &["X", "Y", "Z"], 1.0, 0.0);
     over(damped.clone(), &["I", "X", "Y", "Z"], 1.0, 1e-4);
-    over(damped, &["Z", "I"], 1e300, 1e-4f64.next_down());
+    over(damped, &["Z", "I"], 1e4, 1e-4f64.next_down());
     list
 }
 
@@ -337,5 +347,10 @@ fn refused_tempting(rng: &mut Rng, kind: u64) -> Vec<Case> {
     short.entries = 0;
     let mut few = over(&["X", "Y"]);
     few.entries -= 1;
-    vec![again, empty, short, few]
+    let mut long = over(&["X", "Y"]);
+    long.step.0 = 1e300;
+    let mut long_and_short = over(&["X", "Y"]);
+    long_and_short.step.0 = 1e300;
+    long_and_short.touched -= 1;
+    vec![again, empty, short, few, long, long_and_short]
 }

@@ -11,12 +11,11 @@ use crate::inputs::generators::words;
 use crate::inputs::norms as norm_inputs;
 use crate::inputs::products::{self as inputs, Sort};
 use crate::port::Word;
-use crate::port::norms::Degree;
 use crate::port::products::{Csr, ProductRoom};
 use crate::published::generators::RustGenerator;
 use crate::published::norms::select_ms as rust_degree;
 use crate::rules::generators::{Acts, all_entries, by_rows, offsets};
-use crate::rules::norms::{select_ms, terms};
+use crate::rules::norms::{Pair, select_ms, terms};
 use crate::rules::products::dot;
 use ppvm_lindblad::open::{Product, Questions};
 
@@ -42,13 +41,22 @@ pub fn record(seed: u64, cases: usize) {
             recorded += 1;
         }
     }
-    println!("# 17 t drop_tol m s");
+    println!("# 17 t drop_tol refusal first second m s");
     for (t, drop_tol) in degrees(rng, cases) {
-        let Degree { m, s } = select_ms(t, drop_tol);
-        assert_eq!(rust_degree(t, drop_tol), Degree { m, s }, "the Rust's too");
-        let line = Line::new(DEGREE).floats(&[t, drop_tol]);
-        line.numbers(&[m, s].map(u64::from)).print();
+        let found = select_ms(t, drop_tol);
+        if found.status.refusal == 0 {
+            let Pair { m, s } = rust_degree(t, drop_tol);
+            assert_eq!((found.m, found.s), (m, s), "the Rust's too");
+            degree(Line::new(DEGREE), t, drop_tol).print();
+        }
     }
+}
+
+/// A degree with what it is chosen for.
+fn degree(line: Line, t: f64, drop_tol: f64) -> Line {
+    let found = select_ms(t, drop_tol);
+    let line = line.floats(&[t, drop_tol]).status(found.status);
+    line.numbers(&[found.m, found.s].map(u64::from))
 }
 
 /// Answers which the Rust does not give; the kind that they are of stands second.
@@ -73,6 +81,18 @@ pub fn record_not_of_the_rust(seed: u64, cases: usize) {
             case.line(Line::new(NOT_RUST).number(PRODUCT)).print();
             recorded += 1;
         }
+    }
+    let above = [
+        (123730.08f64.next_up(), 0.0),
+        (238722.16f64.next_up(), 1e-4),
+        (f64::INFINITY, 0.0),
+        (f64::INFINITY, 1.0),
+    ];
+    let mut list = degrees(rng, cases);
+    list.retain(|&(t, drop_tol)| select_ms(t, drop_tol).status.refusal != 0);
+    list.truncate(cases);
+    for (t, drop_tol) in above.into_iter().chain(list) {
+        degree(Line::new(NOT_RUST).number(DEGREE), t, drop_tol).print();
     }
 }
 
@@ -185,16 +205,18 @@ fn of_generator(rng: &mut Rng) -> Option<(Case, Vec<f64>)> {
     (list.len() >= rows).then_some((case, product))
 }
 
-/// The degrees of document 01, one in so many of those about the thresholds, and random ones.
+/// The degrees of documents 01 and 02, some of those about the thresholds, and random ones.
 fn degrees(rng: &mut Rng, cases: usize) -> Vec<(f64, f64)> {
     let mut list = vec![
         (0.3, 0.0),
         (1.0, 0.0),
         (4.0, 0.0),
-        (f64::INFINITY, 0.0),
         (1.0, 1e-4),
         (1.0, 1e-4f64.next_down()),
         (1.0, f64::NAN),
+        (123730.08, 0.0),
+        (238722.16, 1e-4),
+        (f64::NAN, 0.0),
     ];
     let thresholds = norm_inputs::thresholds();
     list.extend((0..16 * cases).map(|_| (rng.pick(&thresholds), norm_inputs::drop_tol(rng))));

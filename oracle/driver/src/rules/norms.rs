@@ -10,6 +10,7 @@ use super::models::{Answer, at_most, lent_places, refuse, tested};
 use crate::port::models::{Lent, Model};
 use crate::port::norms::{Degree, NormRoom, Normed, Partition};
 use crate::port::{Status, WORD_LANES, Word};
+use std::collections::BTreeSet;
 
 /// `THETA` of the published file, from Al-Mohy and Higham (2011), and `THETA_LOOSE`: the threshold of each
 /// degree from 1 on.
@@ -27,22 +28,54 @@ pub const THETA_LOOSE: [f64; 30] = [
 /// From here on the loose table is taken.
 pub const LOOSE_FROM: f64 = 1e-4;
 
-/// The first pair of least product.
-pub fn select_ms(t: f64, drop_tol: f64) -> Degree {
+/// The most products.
+const MAX_PRODUCTS: u64 = 1_048_576;
+
+/// The degree of a Taylor polynomial, and into how many steps the exponential is cut.
+#[derive(Clone, Copy, Debug, PartialEq, Eq)]
+pub struct Pair {
+    pub m: u32,
+    pub s: u32,
+}
+
+impl Pair {
+    fn products(&self) -> u64 {
+        u64::from(self.m) * u64::from(self.s)
+    }
+}
+
+/// The first pair of least product, however large that is.
+pub fn least_pair(t: f64, drop_tol: f64) -> Pair {
     if t.is_nan() || t <= 0.0 {
-        return Degree { m: 1, s: 1 };
+        return Pair { m: 1, s: 1 };
     }
     let table = match drop_tol >= LOOSE_FROM {
         true => THETA_LOOSE,
         false => THETA,
     };
     let steps = |threshold: f64| (t / threshold).ceil().clamp(1.0, u32::MAX.into()) as u32;
-    let pairs = (1..).zip(table).map(|(m, threshold)| Degree {
+    let pairs = (1..).zip(table).map(|(m, threshold)| Pair {
         m,
         s: steps(threshold),
     });
-    let product = |degree: &Degree| u64::from(degree.m) * u64::from(degree.s);
-    pairs.min_by_key(product).expect("a table has rows")
+    pairs.min_by_key(Pair::products).expect("a table has rows")
+}
+
+/// That pair, unless it asks for too many products.
+fn chosen(t: f64, drop_tol: f64) -> Answer<Pair> {
+    let pair = least_pair(t, drop_tol);
+    match pair.products() > MAX_PRODUCTS {
+        true => refuse(16, pair.m as usize, pair.s as usize),
+        false => Ok(pair),
+    }
+}
+
+pub fn select_ms(t: f64, drop_tol: f64) -> Degree {
+    let (status, Pair { m, s }) = match chosen(t, drop_tol) {
+        Ok(pair) => (Status::default(), pair),
+        Err(status) => (status, Pair { m: 0, s: 0 }),
+    };
+    Degree { status, m, s }
 }
 
 // ---- norm
@@ -73,9 +106,27 @@ pub fn norm_of(acts: &[(Word, Vec<(Word, f64)>)], in_order: InOrder) -> (f64, f6
     (mu, norm)
 }
 
-/// The same over a basis, with the terms in word order, as document 01 has them.
+/// The same over a basis, of the terms whose words are in it, each once, in word order, as the documents have it.
 pub fn basis_norm(model: Model, lent: &Lent, basis: &[Word], known: &Acts) -> (f64, f64) {
-    norm_of(&terms(model, lent, basis, known), &|terms| terms)
+    let is_in = in_set(basis);
+    let mut terms = terms(model, lent, basis, known);
+    for (_, list) in &mut terms {
+        list.retain(|(w, _)| is_in(w));
+    }
+    norm_of(&terms, &|terms| terms)
+}
+
+/// Whether the actions on all words of a basis list words of it alone.
+pub fn is_closed(acts: &[(Word, Vec<(Word, f64)>)], basis: &[Word]) -> bool {
+    let is_in = in_set(basis);
+    let mut lists = acts.iter().flat_map(|(_, terms)| terms);
+    lists.all(|(w, _)| is_in(w))
+}
+
+/// Whether a word is among these.
+fn in_set(words: &[Word]) -> impl Fn(&Word) -> bool {
+    let set: BTreeSet<_> = words.iter().map(|w| w.lanes()).collect();
+    move |w| set.contains(&w.lanes())
 }
 
 /// What the actions on all words of a basis list.
@@ -112,6 +163,8 @@ fn norm_tested(
     lent_places(rows, room.h_index.len())?;
     lent_places(rows, room.j_index.len())?;
     lent_places(where_any(len, ROW_LANES), room.mask.len())?;
+    lent_places(len, room.heads.len())?;
+    lent_places(len, room.nexts.len())?;
     lent_places(len, room.raws.len())?;
     lent_places(len, room.diags.len())?;
     let basis = words(lanes, len);
@@ -170,17 +223,16 @@ pub fn expm_degree(
     room: &mut NormRoom,
     known: &Acts,
 ) -> Partition {
-    match found(model, lent, (lanes, len), room, known, &[dt, drop_tol]) {
-        Ok((mu, norm)) => {
-            let Degree { m, s } = select_ms(dt.abs() * norm, drop_tol);
-            Partition {
-                status: Status::default(),
-                mu,
-                norm,
-                m,
-                s,
-            }
-        }
+    let found = found(model, lent, (lanes, len), room, known, &[dt, drop_tol]);
+    let found = found.and_then(|(mu, norm)| Ok((mu, norm, chosen(dt.abs() * norm, drop_tol)?)));
+    match found {
+        Ok((mu, norm, Pair { m, s })) => Partition {
+            status: Status::default(),
+            mu,
+            norm,
+            m,
+            s,
+        },
         Err(status) => Partition {
             status,
             mu: 0.0,

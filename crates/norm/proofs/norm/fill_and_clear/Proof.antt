@@ -12,26 +12,26 @@ use Rattle.model.specs.Stored.{ModelTables}
 use Rattle.model.proofs.StandsLaws.{tested-stands}
 use Rattle.norm.proofs.CheckLaws.{norm-passed}
 use Rattle.norm.proofs.FillLaws.{fills-places}
+use Rattle.model.specs.Between.{modelTables}
 use borrow.Author.Needs.{needs}
 use Rattle.norm.proofs.norm.fill_and_clear.Statement.{statement}
 use Rattle.norm.proofs.norm.fill_and_clear.Tie as tie
-use Rattle.model.specs.Between.{modelTables}
 
 index-model-requires : tie.Need-index-model-requires
 index-model-requires c κs =
-    let s = c .before .before .before .before .before .before .before .before .before .before .before .before .before .before .before .before in
-    let a = c .before .before .before .before .before .before .before .before .before .before .before .before .before .before .before .before .args in
+    let s = c .before .before .before .before .before .before .before .before .before .before .before .before .before .before .before .before .before .before in
+    let a = c .before .before .before .before .before .before .before .before .before .before .before .before .before .before .before .before .before .before .args in
     let t : ModelTables = modelTables (a .h-words .now) (a .h-coeffs .now) (a .jumps .now) (a .rates .now) (a .t-words .now) (a .t-numbers .now) in
-    let h = norm-passed (a .m) t (a .words .now) (a .len) (length (a .h-index .now)) (length (a .j-index .now)) (length (a .mask .now)) (length (a .raws .now)) (length (a .diags .now)) (s .pre) in
+    let h = norm-passed (a .m) t (a .words .now) (a .len) (length (a .h-index .now)) (length (a .j-index .now)) (length (a .mask .now)) (length (a .heads .now)) (length (a .nexts .now)) (length (a .raws .now)) (length (a .diags .now)) (s .pre .0) in
     let k = tested-stands (a .m) t (h .model) in
     λ w. (h .h-long w, h .j-long w, k .few-reals, k .few-jumps, k .h-words-room, k .jumps-room, k .rates-room, k .t-words-room, k .fits)
 
 fill-columns-requires : tie.Need-fill-columns-requires
 fill-columns-requires c κs =
-    let s = c .before .before .before .before .before .before .before .before .before .before .before .before .before .before .before .before .before .before .before .before .before .before .before .before .before .before .before .before .before in
-    let a = c .before .before .before .before .before .before .before .before .before .before .before .before .before .before .before .before .before .before .before .before .before .before .before .before .before .before .before .before .before .args in
+    let s = c .before .before .before .before .before .before .before .before .before .before .before .before .before .before .before .before .before .before .before .before .before .before .before .before .before .before .before .before .before .before .before in
+    let a = c .before .before .before .before .before .before .before .before .before .before .before .before .before .before .before .before .before .before .before .before .before .before .before .before .before .before .before .before .before .before .before .args in
     let t : ModelTables = modelTables (a .h-words .now) (a .h-coeffs .now) (a .jumps .now) (a .rates .now) (a .t-words .now) (a .t-numbers .now) in
-    let h = norm-passed (a .m) t (a .words .now) (a .len) (length (a .h-index .now)) (length (a .j-index .now)) (length (a .mask .now)) (length (a .raws .now)) (length (a .diags .now)) (s .pre) in
+    let h = norm-passed (a .m) t (a .words .now) (a .len) (length (a .h-index .now)) (length (a .j-index .now)) (length (a .mask .now)) (length (a .heads .now)) (length (a .nexts .now)) (length (a .raws .now)) (length (a .diags .now)) (s .pre .0) in
     let q = c .before .before .before .before .before .before .before .before .before .before .before .before .index-model in
     let e = c .before .before .before .before .before .before .before .smaller .ensures in
     record {
@@ -43,26 +43,22 @@ fill-columns-requires c κs =
       work-words = omega (arith, e);
       work-sums = omega (arith, e);
       few = h .few;
-      lanes-long = omega (arith, h .words-long);
+      slotted = s .pre .1;
       inside = h .inside;
       raws-long = h .raws-long;
       diags-long = h .diags-long;
     }
 
--- where the columns are filled, seen from the return
-abbrev filled-of : tie.After-slice-known19 → tie.After-fill-columns
-filled-of c = c .before .before .before .before .before .before .before .before .before .before .before .before .before .before .before .before .before .before .before .before .before .before .before .before .before .before .before .before .before .before
-
 returns : tie.Need-returns
 returns c =
     let q = c .before .before .before .before .before .before .before .before .before .before .before .before .before .before .before .before .before .before .before .before .before .before .before .before .before .before .before .before .before .before .before .before .before .before .before .before .before .before .before .before .before .before .before .index-model in
-    let f = filled-of c .fill-columns in (
+    let f = c .before .before .before .before .before .before .before .before .before .before .before .before .before .before .before .before .before .before .before .before .before .before .before .before .before .before .before .before .before .before .fill-columns in (
       fills-places _ _ _ _ _ _ _ (c .before .before .before .before .before .before .before .before .before .before .before .before .before .before .before .before .before .before .before .before .before .before .before .before .before .before .before .before .before .before .before .before .before .before .before .before .before .before .smaller .ensures) (f .ensures),
       c .before .before .before .before .before .before .before .before .before .before .before .before .before .before .before .before .before .before .clear-lanes .ensures ∙ ap (λ (n : ℕ). replicate n 0) (q .kept .0),
       c .before .before .before .before .before .before .before .before .before .before .before .before .before .before .clear-lanes2 .ensures ∙ ap (λ (n : ℕ). replicate n 0) (q .kept .1 .0),
-      c .before .before .before .before .before .before .before .before .before .before .clear-lanes3 .ensures ∙ ap (λ (n : ℕ). replicate n 0) (f .kept .1 .1 .1 .1 .1 .1 .1 .1 .1 .1 .1 .0),
-      c .before .before .before .before .before .before .clear-lanes4 .ensures ∙ ap (λ (n : ℕ). replicate n 0) (f .kept .1 .1 .1 .1 .1 .1 .1 .1 .1 .1 .1 .1 .0),
-      c .before .before .clear-numbers .ensures ∙ ap (λ (n : ℕ). replicate n float0) (f .kept .1 .1 .1 .1 .1 .1 .1 .1 .1 .1 .1 .1 .1 .0),
+      c .before .before .before .before .before .before .before .before .before .before .clear-lanes3 .ensures ∙ ap (λ (n : ℕ). replicate n 0) (f .kept .1 .1 .1 .1 .1 .1 .1 .1 .1 .1 .1 .1 .1 .0),
+      c .before .before .before .before .before .before .clear-lanes4 .ensures ∙ ap (λ (n : ℕ). replicate n 0) (f .kept .1 .1 .1 .1 .1 .1 .1 .1 .1 .1 .1 .1 .1 .1 .0),
+      c .before .before .clear-numbers .ensures ∙ ap (λ (n : ℕ). replicate n float0) (f .kept .1 .1 .1 .1 .1 .1 .1 .1 .1 .1 .1 .1 .1 .1 .1 .0),
     )
 
 pub fill-and-clear-spec : {M : Type 1} → statement M
@@ -79,9 +75,9 @@ fill-and-clear-spec =
     (λ c κs. search needs)
     (λ c. c .before .before .before .before .before .before .before .before .before .before .before .before .before .before .before .before .before .before .clear-lanes .kept .0 ∙ c .before .before .before .before .before .before .before .before .before .before .before .before .before .before .before .before .before .before .before .before .before .before .before .before .before .before .before .before .before .before .before .before .before .before .before .before .before .before .before .before .before .before .before .index-model .kept .0)
     (λ c. c .before .before .before .before .before .before .before .before .before .before .before .before .before .before .clear-lanes2 .kept .0 ∙ c .before .before .before .before .before .before .before .before .before .before .before .before .before .before .before .before .before .before .before .before .before .before .before .before .before .before .before .before .before .before .before .before .before .before .before .before .before .before .before .before .before .before .before .index-model .kept .1 .0)
-    (λ c. c .before .before .before .before .before .before .before .before .before .before .clear-lanes3 .kept .0 ∙ filled-of c .fill-columns .kept .1 .1 .1 .1 .1 .1 .1 .1 .1 .1 .1 .0)
-    (λ c. c .before .before .before .before .before .before .clear-lanes4 .kept .0 ∙ filled-of c .fill-columns .kept .1 .1 .1 .1 .1 .1 .1 .1 .1 .1 .1 .1 .0)
-    (λ c. c .before .before .clear-numbers .kept .0 ∙ filled-of c .fill-columns .kept .1 .1 .1 .1 .1 .1 .1 .1 .1 .1 .1 .1 .1 .0)
-    (λ c. filled-of c .fill-columns .kept .1 .1 .1 .1 .1 .1 .1 .1 .1 .1 .1 .1 .1 .1 .1 .0)
-    (λ c. filled-of c .fill-columns .kept .1 .1 .1 .1 .1 .1 .1 .1 .1 .1 .1 .1 .1 .1 .1 .1 .0)
+    (λ c. c .before .before .before .before .before .before .before .before .before .before .clear-lanes3 .kept .0 ∙ c .before .before .before .before .before .before .before .before .before .before .before .before .before .before .before .before .before .before .before .before .before .before .before .before .before .before .before .before .before .before .fill-columns .kept .1 .1 .1 .1 .1 .1 .1 .1 .1 .1 .1 .1 .1 .0)
+    (λ c. c .before .before .before .before .before .before .clear-lanes4 .kept .0 ∙ c .before .before .before .before .before .before .before .before .before .before .before .before .before .before .before .before .before .before .before .before .before .before .before .before .before .before .before .before .before .before .fill-columns .kept .1 .1 .1 .1 .1 .1 .1 .1 .1 .1 .1 .1 .1 .1 .0)
+    (λ c. c .before .before .clear-numbers .kept .0 ∙ c .before .before .before .before .before .before .before .before .before .before .before .before .before .before .before .before .before .before .before .before .before .before .before .before .before .before .before .before .before .before .fill-columns .kept .1 .1 .1 .1 .1 .1 .1 .1 .1 .1 .1 .1 .1 .1 .1 .0)
+    (λ c. c .before .before .before .before .before .before .before .before .before .before .before .before .before .before .before .before .before .before .before .before .before .before .before .before .before .before .before .before .before .before .fill-columns .kept .1 .1 .1 .1 .1 .1 .1 .1 .1 .1 .1 .1 .1 .1 .1 .1 .1 .0)
+    (λ c. c .before .before .before .before .before .before .before .before .before .before .before .before .before .before .before .before .before .before .before .before .before .before .before .before .before .before .before .before .before .before .fill-columns .kept .1 .1 .1 .1 .1 .1 .1 .1 .1 .1 .1 .1 .1 .1 .1 .1 .1 .1 .0)
     returns)

@@ -8,7 +8,7 @@ use Rattle.pebblelinen.proofs.norms.pebblelinen_expm_degree.Statement.{
 use Rattle.pebblelinen.proofs.norms.pebblelinen_expm_degree.Tie as tie
 
 returns : tie.Need-returns
-returns c = leaves-partition _ _ _ (c .partition-of .ensures) (c .before .before .before .before .before .before .before .before .before .before .before .before .before .before .before .expm-degree .ensures)
+returns c = leaves-partition _ _ _ (c .partition-of .ensures) (c .before .before .before .before .before .before .before .before .before .before .before .before .before .before .before .before .before .before .before .expm-degree .ensures)
 
 pub pebblelinen-expm-degree-spec : {M : Type 1} → statement M
 pebblelinen-expm-degree-spec =
@@ -16,6 +16,8 @@ pebblelinen-expm-degree-spec =
     (tie.spec
     (λ c κs. search needs)
     (λ c κs. search needs)
+    (λ c. search needs)
+    (λ c. search needs)
     (λ c. search needs)
     (λ c. search needs)
     (λ c. search needs)

@@ -8,7 +8,7 @@ use Rattle.pebblelinen.proofs.norms.pebblelinen_norm.Statement.{stateme
 use Rattle.pebblelinen.proofs.norms.pebblelinen_norm.Tie as tie
 
 returns : tie.Need-returns
-returns c = leaves-norm _ _ _ (c .normed-of .ensures) (c .before .before .before .before .before .before .before .before .before .before .before .before .before .before .before .norm .ensures)
+returns c = leaves-norm _ _ _ (c .normed-of .ensures) (c .before .before .before .before .before .before .before .before .before .before .before .before .before .before .before .before .before .before .before .norm .ensures)
 
 pub pebblelinen-norm-spec : {M : Type 1} → statement M
 pebblelinen-norm-spec =
@@ -16,6 +16,8 @@ pebblelinen-norm-spec =
     (tie.spec
     (λ c κs. search needs)
     (λ c κs. search needs)
+    (λ c. search needs)
+    (λ c. search needs)
     (λ c. search needs)
     (λ c. search needs)
     (λ c. search needs)
