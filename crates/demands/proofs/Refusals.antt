@@ -377,7 +377,9 @@ module _ (text : List ℕ) (w : Work) where
 
   writes-kept : (n : ℕ) (rows columns : List ℕ) (values : List Float) → SafeText (Markets.writes n rows columns values text)
   unfolding Markets.writes
-  writes-kept n rows columns values = after-kept _ (textOf n (Markets.linesOf rows columns values))
+  writes-kept n rows columns values =
+      let bytes : List ℕ = textOf n (Markets.linesOf rows columns values) in
+      after-kept (Markets.countsWritten values (Markets.textRoom (length text) (length bytes) Tests.Accepted)) bytes
 
   entries-text-kept : (n : ℕ) (a : Acted) (E : List Entry) → SafeText (Exports.entriesText n text a E)
   entries-text-kept n (Acted.Listed k) E = writes-kept n (map (λ e. e .row) E) (map (λ e. e .column) E) (map (λ e. e .value) E)
