@@ -46,6 +46,7 @@ extern "C" {
  *   12   basis word again                        later position
  *   13   more places needed than lent            table        places lent
  *   14   leakage or product sum not finite       position
+ *   16   more than 1,048,576 matrix products     m            s
  */
 typedef struct {
     uint64_t refusal;
@@ -765,8 +766,8 @@ pebblelinen_status pebblelinen_dot(size_t rows, const uint64_t *offsets, size_t 
 
 /* ---- Norm and degree ---- */
 
-/* A bound on the 1-norm of the generator less mu times the identity, and mu, the mean of its
- * diagonal. Where the status is a refusal, both are 0. */
+/* The 1-norm of the generator less mu times the identity, as columns sum in f64, and mu, the mean of
+ * its diagonal. Where the status is a refusal, both are 0. */
 typedef struct {
     pebblelinen_status status;
     double mu;
@@ -774,16 +775,18 @@ typedef struct {
 } pebblelinen_normed;
 
 /* The norm of the generator over a basis: the largest of the columns' norms, raw - |diag| +
- * |diag - mu|, where raw sums the magnitudes of all terms of the action on the column's word, in the
- * basis or not, and diag is the number that it lists for the word itself. An empty basis has mu 0 and
- * norm 0. Words may come again.
+ * |diag - mu|, where raw sums from 0, in word order, the magnitudes of those terms of the action on the
+ * column's word whose words are in the basis, each term once, and diag is the number that the action
+ * lists for the word itself. An empty basis has mu 0 and norm 0. Words may come again: a term counts
+ * once all the same, and mu divides by len.
  *
  * The tables are those of pebblelinen_generator; raws and diags are work tables of a number for each
  * word. Refusals, in this order:
  *
  *       those of pebblelinen_test_model for the model
  *    8  (count): more than 65,536 words
- *    9  (len, places lent) for words; then (needed, lent) for h_index, j_index, mask, raws, diags
+ *    9  (len, places lent) for words; then (needed, lent) for h_index, j_index, mask, heads, nexts, raws,
+ *       diags
  *   11  (position): the first word with a letter at or above the register
  *   13  (1, places) at the first word whose action touches more words than table 1 has places
  *
@@ -795,11 +798,17 @@ pebblelinen_normed pebblelinen_norm(
     size_t rates_len, const uint64_t *t_words, size_t t_words_len, const double *t_numbers,
     size_t t_numbers_len, const uint64_t *words, size_t words_len, size_t len, uint64_t *h_index,
     size_t h_index_len, uint64_t *j_index, size_t j_index_len, uint64_t *mask, size_t mask_len,
-    uint64_t *work_words, size_t work_words_len, double *work_sums, size_t work_sums_len,
-    double *raws, size_t raws_len, double *diags, size_t diags_len);
+    uint64_t *heads, size_t heads_len, uint64_t *nexts, size_t nexts_len, uint64_t *work_words,
+    size_t work_words_len, double *work_sums, size_t work_sums_len, double *raws, size_t raws_len,
+    double *diags, size_t diags_len);
 
-/* The degree of a Taylor polynomial, and into how many steps the exponential is cut. */
+/* The most products with the matrix, m x s, that a degree may ask for. */
+#define PEBBLELINEN_MAX_PRODUCTS 1048576
+
+/* The degree of a Taylor polynomial, and into how many steps the exponential is cut. Where the status
+ * is a refusal, both are 0. */
 typedef struct {
+    pebblelinen_status status;
     uint32_t m;
     uint32_t s;
 } pebblelinen_degree;
@@ -807,7 +816,9 @@ typedef struct {
 /* The degree for a norm t: of the pairs m, s with s = t / threshold of m, rounded up, at least 1 and
  * at most 4294967295, the first of least m x s, over the thresholds of Al-Mohy and Higham (2011) for
  * double precision, or, where drop_tol is 1e-4 or above, over those for the tolerance 1e-6. (1, 1)
- * where t is 0, below, or NaN. Nothing is refused. */
+ * where t is 0, below, or NaN.
+ * Refusals: 16 (m, s) where this pair has m x s above 1,048,576; no other pair is looked for. An
+ * infinite t is refused so, with (1, 4294967295). */
 pebblelinen_degree pebblelinen_select_ms(double t, double drop_tol);
 
 /* mu, norm and degree for a step dt: t is |dt| x norm. Where the status is a refusal, all are 0. */
@@ -821,16 +832,17 @@ typedef struct {
 
 /* The norm of the generator over a basis, and the degree for a step dt at drop_tol. An empty basis has
  * degree (1, 1). Tables and refusals are those of pebblelinen_norm, with 7 (0) after 11 for a dt, then
- * for a drop_tol, that is infinite or NaN. */
+ * for a drop_tol, that is infinite or NaN; and 16 (m, s) after 13, as in pebblelinen_select_ms, after
+ * which the work tables are all zero too. */
 pebblelinen_partition pebblelinen_expm_degree(
     pebblelinen_model model, const uint64_t *h_words, size_t h_words_len, const double *h_coeffs,
     size_t h_coeffs_len, const uint64_t *jumps, size_t jumps_len, const double *rates,
     size_t rates_len, const uint64_t *t_words, size_t t_words_len, const double *t_numbers,
     size_t t_numbers_len, const uint64_t *words, size_t words_len, size_t len, double dt,
     double drop_tol, uint64_t *h_index, size_t h_index_len, uint64_t *j_index, size_t j_index_len,
-    uint64_t *mask, size_t mask_len, uint64_t *work_words, size_t work_words_len,
-    double *work_sums, size_t work_sums_len, double *raws, size_t raws_len, double *diags,
-    size_t diags_len);
+    uint64_t *mask, size_t mask_len, uint64_t *heads, size_t heads_len, uint64_t *nexts,
+    size_t nexts_len, uint64_t *work_words, size_t work_words_len, double *work_sums,
+    size_t work_sums_len, double *raws, size_t raws_len, double *diags, size_t diags_len);
 
 /* ---- Evolution ---- */
 

@@ -65,6 +65,9 @@ use Rattle.generator.specs.Generators as Generators
 use Rattle.csr.specs.Products as Products
 use Rattle.csr.specs.declared.reader.RowRead.{RowRead}
 use Rattle.csr.specs.declared.reader.RowRead.the-variants as RowRead
+use Rattle.expm.specs.declared.Chosen.{Chosen}
+use Rattle.expm.specs.declared.Chosen.the-variants as Chosen
+use Rattle.expm.specs.Selects.{chosen}
 use Rattle.norm.specs.declared.norm.Normed.{Normed}
 use Rattle.norm.specs.declared.norm.Normed.the-variants as Normed
 use Rattle.norm.specs.declared.degree.Selected.{Selected}
@@ -74,13 +77,14 @@ use Rattle.pebblelinen.specs.Models.{builtOf}
 use Rattle.pebblelinen.specs.Actions.{listedOf, countedOf}
 use Rattle.pebblelinen.specs.Bases.{keptOf}
 use Rattle.pebblelinen.specs.Products.{foundOf}
-use Rattle.pebblelinen.specs.Norms.{normedOf, partitionOf}
+use Rattle.pebblelinen.specs.Norms.{normedOf, partitionOf, choiceOf}
 use Rattle.pebblelinen.specs.declared.words.Parsed.{Parsed}
 use Rattle.pebblelinen.specs.declared.words.Fitting.{Fitting}
 use Rattle.pebblelinen.specs.declared.actions.CountedPlaces.{CountedPlaces}
 use Rattle.pebblelinen.specs.declared.products.FoundRow.{FoundRow}
 use Rattle.pebblelinen.specs.declared.norms.NormOfBasis.{NormOfBasis}
 use Rattle.pebblelinen.specs.declared.norms.Partition.{Partition}
+use Rattle.pebblelinen.specs.declared.norms.DegreeChoice.{DegreeChoice}
 use Rattle.pebblelinen.specs.declared.actions.ListedWords.{ListedWords}
 use Rattle.pebblelinen.specs.declared.bases.KeptEntries.{KeptEntries}
 use Rattle.pebblelinen.specs.declared.models.BuiltModel.{BuiltModel}
@@ -144,6 +148,10 @@ degree-refused (Selected.Refused q) r e h = record {
   numbered = ap (λ (x : Partition). x .status) e;
   unchanged = (ap (λ (x : Partition). x .mu) e, ap (λ (x : Partition). x .norm) e, ap (λ (x : Partition). x .m) e, ap (λ (x : Partition). x .s) e);
 }
+
+choice-refused : (d : Chosen) (r : DegreeChoice) → r ≡ choiceOf d → Refused (r .status) → Refuses (r .status) (λ q. d ≡ Chosen.Refused q) ((r .m ≡ 0) × (r .s ≡ 0))
+choice-refused (Chosen.Pair d) r e h = absurd (h (ap (λ (x : DegreeChoice). x .status .refusal) e))
+choice-refused (Chosen.Refused q) r e h = record { cause = q; named = refl; numbered = ap (λ (x : DegreeChoice). x .status) e; unchanged = (ap (λ (x : DegreeChoice). x .m) e, ap (λ (x : DegreeChoice). x .s) e) }
 
 row-refused : (d : RowRead) (r : FoundRow) → r ≡ foundOf d → Refused (r .status) → Refuses (r .status) (λ q. d ≡ RowRead.Refused q) ((r .start ≡ 0) × (r .end ≡ 0))
 row-refused (RowRead.At row) r e h = absurd (h (ap (λ (x : FoundRow). x .status .refusal) e))
@@ -411,5 +419,6 @@ refused-changes-nothing = record {
   counting = λ d r h j m w x l. count-refused (d .answer) r (l .answers);
   norming = λ d r w l. norm-refused (d .answer) r (l .answers);
   selecting = λ d r w l. degree-refused (d .answer) r (l .answers);
+  choosing = λ dropTol t r. choice-refused (chosen dropTol t) r;
   row-read = row-refused;
 }

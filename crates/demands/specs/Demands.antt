@@ -52,6 +52,8 @@ use Rattle.generator.specs.Generators.{Generating, CsrBuilding, generate, build
 use Rattle.csr.specs.Products.{Multiplying, lengthTests, tableTests, multiply}
 use Rattle.csr.specs.declared.reader.RowRead.{RowRead}
 use Rattle.csr.specs.declared.reader.RowRead.the-variants as RowRead
+use Rattle.expm.specs.Selects.{chosen}
+use Rattle.expm.specs.declared.Chosen.the-variants as Chosen
 use Rattle.norm.specs.Norms as Norm
 use Rattle.norm.specs.Norms.{Norming, Selecting}
 use Rattle.norm.specs.declared.norm.Normed.the-variants as Normed
@@ -63,13 +65,14 @@ use Rattle.pebblelinen.specs.Bases.{LeavesBasis, LeavesAdmitted}
 use Rattle.pebblelinen.specs.Leakages.{LeavesLeakage}
 use Rattle.pebblelinen.specs.Generators.{LeavesGenerator, LeavesCsr}
 use Rattle.pebblelinen.specs.Products.{foundOf, LeavesProduct}
-use Rattle.pebblelinen.specs.Norms.{LeavesNorm, LeavesPartition}
+use Rattle.pebblelinen.specs.Norms.{LeavesNorm, LeavesPartition, choiceOf}
 use Rattle.pebblelinen.specs.declared.words.Parsed.{Parsed}
 use Rattle.pebblelinen.specs.declared.words.Fitting.{Fitting}
 use Rattle.pebblelinen.specs.declared.actions.CountedPlaces.{CountedPlaces}
 use Rattle.pebblelinen.specs.declared.products.FoundRow.{FoundRow}
 use Rattle.pebblelinen.specs.declared.norms.NormOfBasis.{NormOfBasis}
 use Rattle.pebblelinen.specs.declared.norms.Partition.{Partition}
+use Rattle.pebblelinen.specs.declared.norms.DegreeChoice.{DegreeChoice}
 use Rattle.pebblelinen.specs.declared.actions.ListedWords.{ListedWords}
 use Rattle.pebblelinen.specs.declared.bases.KeptEntries.{KeptEntries}
 use Rattle.pebblelinen.specs.declared.models.BuiltModel.{BuiltModel}
@@ -164,6 +167,9 @@ pub record ChangesNothing : Type 0 where
       → Refuses (r .status) (λ q. d .answer ≡ Normed.Refused q) ((r .mu ≡ float0) × (r .norm ≡ float0))
   pub selecting : (d : Selecting) (r : Partition) (w : Norm.Work) → LeavesPartition d r w → Refused (r .status)
       → Refuses (r .status) (λ q. d .answer ≡ Selected.Refused q) ((r .mu ≡ float0) × (r .norm ≡ float0) × (r .m ≡ 0) × (r .s ≡ 0))
+  -- the degree for a norm
+  pub choosing : (dropTol t : Float) (r : DegreeChoice) → r ≡ choiceOf (chosen dropTol t) → Refused (r .status)
+      → Refuses (r .status) (λ q. chosen dropTol t ≡ Chosen.Refused q) ((r .m ≡ 0) × (r .s ≡ 0))
   -- a row of a lent matrix
   pub row-read : (d : RowRead) (r : FoundRow) → r ≡ foundOf d → Refused (r .status) → Refuses (r .status) (λ q. d ≡ RowRead.Refused q) ((r .start ≡ 0) × (r .end ≡ 0))
 

@@ -263,6 +263,12 @@ fn print_degree(m: u32, s: u32) {
 
 fn print_norm(dt: f64) {
     let answer = partition(dt);
+    let status = answer.status;
+    if status.refusal != 0 {
+        print::refusal(status);
+        print::end_line();
+        return;
+    }
     print::value(answer.mu);
     print::text(b" and ");
     print::value(answer.norm);
@@ -275,6 +281,12 @@ fn print_degree_of(text: &[u8], t: f64, drop_tol: f64) {
     print::text(text);
     print::text(b": ");
     let degree = pebblelinen::norms::pebblelinen_select_ms(t, drop_tol);
+    let status = degree.status;
+    if status.refusal != 0 {
+        print::refusal(status);
+        print::end_line();
+        return;
+    }
     print_degree(degree.m, degree.s);
 }
 
@@ -284,9 +296,19 @@ pub fn run() {
     print_rows();
     print::text(b"mu and norm for a step of 0.5: ");
     print_norm(0.5);
+    print::text(b"for a step of 1e300: ");
+    print_norm(1e300);
     print_degree_of(b"0.3", 0.3, 0.0);
     print_degree_of(b"1", 1.0, 0.0);
     print_degree_of(b"4", 4.0, 0.0);
+    print_degree_of(b"123730.08", 123730.08, 0.0);
+    print_degree_of(b"the next number", 123730.08000000002, 0.0);
     print_degree_of(b"infinity", 1.0 / 0.0, 0.0);
     print_degree_of(b"1 by the loose table", 1.0, 1e-4);
+    print_degree_of(b"238722.16 by the loose table", 238722.16, 1e-4);
+    print_degree_of(
+        b"the next number by the loose table",
+        238722.16000000003,
+        1e-4,
+    );
 }

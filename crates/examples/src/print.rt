@@ -43,7 +43,7 @@ pub fn end_line() {
 // Whether a cause has two values, and not one.
 fn has_two(cause: u64) -> bool {
     match cause {
-        1 | 2 | 3 | 9 | 10 | 13 => true,
+        1 | 2 | 3 | 9 | 10 | 13 | 16 => true,
         _ => false,
     }
 }

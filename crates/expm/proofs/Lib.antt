@@ -5,3 +5,4 @@
 pub mod StepLaws
 pub mod SelectLaws
 pub mod LeastLaws
+pub mod CeilingLaws

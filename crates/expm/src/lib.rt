@@ -2,17 +2,23 @@
 // SPDX-License-Identifier: Apache-2.0
 
 // The Taylor partition of exp(t·A): the degree m and the number of steps s of least cost m·s, by the
-// thresholds of Al-Mohy and Higham (2011).
+// thresholds of Al-Mohy and Higham (2011), refused where it costs more products than the ceiling.
 ghost use mathlib.Core.Path.{_≡_};
 ghost use Prim.Native.Nat.{_≤_, _<_};
 ghost use lib.ListN.{length};
 ghost use Rattle.expm.specs.Theta.{theta, thetaLoose};
-ghost use Rattle.expm.specs.Selects.{stepsOf, cost, better, degreeBy, tableFor, rowsFrom};
+ghost use Rattle.expm.specs.Selects.{stepsOf, cost, better, degreeBy, tableFor, rowsFrom, underCeiling, chosen};
+use refusal::Refusal;
 
-#[repr(C)]
 pub struct Degree {
     pub m: u32,
     pub s: u32,
+}
+
+// The pair that was chosen, or why it is not accepted.
+pub enum Chosen {
+    Pair(Degree),
+    Refused(Refusal),
 }
 
 // The thresholds of degrees 1 to 30 at double precision (unit roundoff 2^-53), Table A.3.
@@ -86,6 +92,9 @@ const THETA_LOOSE: [f64; 30] = [
 // From this drop_tol on the state is cut so coarsely that the looser table serves.
 const LOOSE_FROM: f64 = 1e-4;
 
+// The most products with A that a pair may cost.
+const MAX_PRODUCTS: u64 = 1_048_576;
+
 // x rounded up to a whole number, at least 1 and at most 4294967295; a NaN gives 1.
 fn steps(x: f64) -> u32
     ensures { λ r. ⌜ r ≡ stepsOf x ⌝ }
@@ -143,14 +152,14 @@ fn select_ms_with(t: f64, thresholds: &[f64]) -> Degree
     best
 }
 
-pub fn select_ms(t: f64) -> Degree
+fn select_ms(t: f64) -> Degree
     ensures { λ r. ⌜ r ≡ degreeBy theta t ⌝ }
 {
     let thresholds = THETA;
     select_ms_with(t, &thresholds)
 }
 
-pub fn select_ms_loose(t: f64) -> Degree
+fn select_ms_loose(t: f64) -> Degree
     ensures { λ r. ⌜ r ≡ degreeBy thetaLoose t ⌝ }
 {
     let thresholds = THETA_LOOSE;
@@ -158,11 +167,30 @@ pub fn select_ms_loose(t: f64) -> Degree
 }
 
 // The table that fits how coarsely the state is cut. A NaN takes the tight one.
-pub fn select_degree(t: f64, drop_tol: f64) -> Degree
+fn select_pair(t: f64, drop_tol: f64) -> Degree
     ensures { λ r. ⌜ r ≡ degreeBy (tableFor «drop_tol») t ⌝ }
 {
     if LOOSE_FROM <= drop_tol {
         return select_ms_loose(t);
     }
     select_ms(t)
+}
+
+// A pair, unless it costs too much.
+fn under_ceiling(d: Degree) -> Chosen
+    ensures { λ r. ⌜ r ≡ underCeiling d ⌝ }
+{
+    if MAX_PRODUCTS < cost_of(d) {
+        return Chosen::Refused(Refusal::TooManyProducts {
+            m: d.m as usize,
+            s: d.s as usize,
+        });
+    }
+    Chosen::Pair(d)
+}
+
+pub fn select_degree(t: f64, drop_tol: f64) -> Chosen
+    ensures { λ r. ⌜ r ≡ chosen «drop_tol» t ⌝ }
+{
+    under_ceiling(select_pair(t, drop_tol))
 }

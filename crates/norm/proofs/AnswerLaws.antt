@@ -14,8 +14,10 @@ use Rattle.refusal.specs.declared.Answer.{Answer}
 use Rattle.refusal.specs.declared.Answer.the-variants as Tests
 use Rattle.word.specs.declared.word.Word.{Word}
 use Rattle.number.specs.Floats.{floats, float0, magnitude}
-use Rattle.expm.specs.Selects.{degreeBy, tableFor}
+use Rattle.expm.specs.Selects.{chosen}
 use Rattle.expm.specs.declared.Degree.{Degree}
+use Rattle.expm.specs.declared.Chosen.{Chosen}
+use Rattle.expm.specs.declared.Chosen.the-variants as Chooses
 use Rattle.model.specs.Stored.{ModelTables}
 use Rattle.model.specs.declared.stored.Model.{Model}
 use Rattle.action.specs.Counts.{most, touchedBy}
@@ -51,10 +53,17 @@ normed-is room m t ps len raws diags r f = go (ltb room (most (touchedBy m t) ps
         rw (a, e, f .raws-are a, f .diags-are a, columns-are (meanOf (map (diagBy m t) ps)) (rawBy m t) (diagBy m t) ps)
 
 -- ---- from the norm
+module _ (mu norm : Float) (d : Chosen) where
+  pub pair-some : (e : Degree) → d ≡ Chooses.Pair e → Choice.Partition mu norm (e .m) (e .s) ≡ partition mu norm d
+  pair-some e i = rw i
+
+  pub pair-refused : (r : Refusal) → d ≡ Chooses.Refused r → Choice.Refused r ≡ partition mu norm d
+  pair-refused r i = rw i
+
 module _ (dt dropTol : Float) (normed : Normed) where
-  pub degree-some : (mu norm x : Float) → normed ≡ Norm mu norm → x ≡ magnitude dt → (d : Degree) → d ≡ degreeBy (tableFor dropTol) (floats .times x norm) → partition mu norm d ≡ degreeAnswer dt dropTol normed
+  pub degree-some : (mu norm x : Float) → normed ≡ Norm mu norm → x ≡ magnitude dt → (d : Chosen) → d ≡ chosen dropTol (floats .times x norm) → (r : Selected) → r ≡ partition mu norm d → r ≡ degreeAnswer dt dropTol normed
   unfolding degreeAnswer
-  degree-some mu norm x e ex d ed = rw (e, ed, ex)
+  degree-some mu norm x e ex d ed r er = rw (er, e, ed, ex)
 
   pub degree-refused : (r : Refusal) → normed ≡ Refused r → Choice.Refused r ≡ degreeAnswer dt dropTol normed
   unfolding degreeAnswer

@@ -1,7 +1,7 @@
 -- SPDX-FileCopyrightText: 2026 The PPVM Authors
 -- SPDX-License-Identifier: Apache-2.0
 
--- An empty basis has norm 0 and degree (1,1). Assumes nothing.
+-- An empty basis has norm 0 and degree (1,1), never 16. Assumes nothing.
 use mathlib.Core.Path.{_≡_, refl, ap, _∙_}
 use mathlib.Core.Bool.{false}
 use mathlib.Core.List.{List, []}
@@ -16,7 +16,7 @@ use Rattle.word.specs.Flat.{wordLanes}
 use Rattle.number.specs.Floats.{float0, magnitude}
 use Rattle.number.proofs.ExactLaws.{is-nought}
 use Rattle.number.proofs.WholeFloats.{whole-nought, is-lt}
-use Rattle.expm.proofs.LeastLaws.{degree-none}
+use Rattle.expm.proofs.CeilingLaws.{chosen-none}
 use Rattle.model.specs.Stored.{ModelTables}
 use Rattle.model.specs.Tested.{testModel}
 use Rattle.model.specs.declared.stored.Model.{Model}
@@ -41,7 +41,7 @@ times-zero (fin s m e) = is-lt is-nought (whole-nought binary64 (fin s m e) tt i
 
 none-degree : (dt dropTol : Float) → degreeAnswer dt dropTol (Norm float0 float0) ≡ Partition float0 float0 1 1
 unfolding degreeAnswer
-none-degree dt dropTol = ap (partition float0 float0) (degree-none dropTol (mul binary64 (magnitude dt) float0) (times-zero (magnitude dt)))
+none-degree dt dropTol = ap (partition float0 float0) (chosen-none dropTol (mul binary64 (magnitude dt) float0) (times-zero (magnitude dt)))
 
 -- no table is too short for no words
 lent-none : (places : ℕ) (after : Answer) → lent 0 places after ≡ after

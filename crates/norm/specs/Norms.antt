@@ -14,8 +14,9 @@ use Rattle.refusal.specs.declared.Answer.the-variants as Tests
 use Rattle.word.specs.Flat.{words, wordLanes}
 use Rattle.word.specs.declared.word.Word.{Word}
 use Rattle.number.specs.Floats.{floats, float0, magnitude}
-use Rattle.expm.specs.Selects.{degreeBy, tableFor}
-use Rattle.expm.specs.declared.Degree.{Degree}
+use Rattle.expm.specs.Selects.{chosen}
+use Rattle.expm.specs.declared.Chosen.{Chosen}
+use Rattle.expm.specs.declared.Chosen.the-variants as Chooses
 use Rattle.model.specs.Stored.{ModelTables}
 use Rattle.model.specs.Tested.{testModel}
 use Rattle.lent.specs.Tests.{counted, lent, whereAny, andThen, inTurn}
@@ -86,13 +87,15 @@ degreeTested m t lanes len dt dropTol w = andThen (normTested m t lanes len w) (
 unfoldable pub normAnswer : ℕ → Model → ModelTables → List Word → Normed
 normAnswer room m t ps = cond (ltb room (most (touchedBy m t) ps)) (Refused (TableFull 1 room)) (Norm (muOf m t ps) (normOf m t ps))
 
-abbrev pub partition : Float → Float → Degree → Selected
-partition mu norm d = Choice.Partition mu norm (d .m) (d .s)
+-- the pair that was chosen, or 16
+abbrev pub partition : Float → Float → Chosen → Selected
+partition mu norm (Chooses.Pair d) = Choice.Partition mu norm (d .m) (d .s)
+partition mu norm (Chooses.Refused r) = Choice.Refused r
 
 -- the degree for t = |dt| × norm
 unfoldable pub degreeAnswer : Float → Float → Normed → Selected
 degreeAnswer dt dropTol (Refused r) = Choice.Refused r
-degreeAnswer dt dropTol (Norm mu norm) = partition mu norm (degreeBy (tableFor dropTol) (floats .times (magnitude dt) norm))
+degreeAnswer dt dropTol (Norm mu norm) = partition mu norm (chosen dropTol (floats .times (magnitude dt) norm))
 
 -- ---- what the calls answer, and the lent tables afterwards
 pub record Norming : Type 0 where
@@ -116,6 +119,7 @@ module _ (w : Work) where
   unfoldable pub norming : Model → ModelTables → List ℕ → ℕ → Norming
   norming m t lanes len = normAfter (normTested m t lanes len w) (normCourse m t lanes len)
 
+  -- the same, and zero after 16 too
   abbrev pub degreeAfter : Answer → Selected → Selecting
   degreeAfter Tests.Accepted answer = record { answer = answer; work = zeroed w }
   degreeAfter (Tests.Refused r) answer = record { answer = Choice.Refused r; work = w }

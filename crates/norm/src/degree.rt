@@ -5,20 +5,35 @@
 // its diagonal shifted by mu.
 ghost use mathlib.Core.Path.{_≡_};
 ghost use Rattle.model.specs.Between.{modelTables};
-ghost use Rattle.norm.specs.Norms.{workOf, degreeAnswer, selecting};
+ghost use Rattle.norm.specs.Norms.{workOf, partition, degreeAnswer, selecting};
 use crate::check::check_degree;
 use crate::norm::Normed;
 use crate::norm::norm_tested;
+use expm::Chosen;
 use expm::select_degree;
 use model::stored::Model;
 use number::scalar::magnitude;
 use refusal::Answer;
 use refusal::Refusal;
 
-// The norm with its mean diagonal, and the pair (m, s) for it.
+// The norm with its mean diagonal, and the pair (m, s) that was chosen for it.
 pub enum Selected {
     Partition { mu: f64, norm: f64, m: u32, s: u32 },
     Refused(Refusal),
+}
+
+fn with_pair(mu: f64, norm: f64, chosen: Chosen) -> Selected
+    ensures { λ r. ⌜ r ≡ partition mu norm chosen ⌝ }
+{
+    match chosen {
+        Chosen::Pair(d) => Selected::Partition {
+            mu,
+            norm,
+            m: d.m,
+            s: d.s,
+        },
+        Chosen::Refused(refusal) => Selected::Refused(refusal),
+    }
 }
 
 fn degree_of(normed: Normed, dt: f64, drop_tol: f64) -> Selected
@@ -26,13 +41,8 @@ fn degree_of(normed: Normed, dt: f64, drop_tol: f64) -> Selected
 {
     match normed {
         Normed::Norm { mu, norm } => {
-            let d = select_degree(magnitude(dt) * norm, drop_tol);
-            Selected::Partition {
-                mu,
-                norm,
-                m: d.m,
-                s: d.s,
-            }
+            let chosen = select_degree(magnitude(dt) * norm, drop_tol);
+            with_pair(mu, norm, chosen)
         }
         Normed::Refused(refusal) => Selected::Refused(refusal),
     }

@@ -3,10 +3,10 @@
 
 // The norm of the generator over a lent basis, and the Taylor degree for it.
 ghost use mathlib.Core.Path.{_≡_};
-ghost use Rattle.expm.specs.Selects.{degreeBy, tableFor};
+ghost use Rattle.expm.specs.Selects.{chosen};
 ghost use Rattle.norm.specs.Norms.{workOf, norming, selecting};
-ghost use Rattle.pebblelinen.specs.Norms.{normedOf, LeavesNorm, partitionOf, LeavesPartition};
-use expm::Degree;
+ghost use Rattle.pebblelinen.specs.Norms.{normedOf, LeavesNorm, partitionOf, LeavesPartition, choiceOf};
+use expm::Chosen;
 use model::stored::Model;
 use norm::degree::Selected;
 use norm::norm::Normed;
@@ -162,9 +162,38 @@ pub extern "C" fn pebblelinen_expm_degree(
     ))
 }
 
-#[no_mangle]
-pub extern "C" fn pebblelinen_select_ms(t: f64, drop_tol: f64) -> Degree
-    ensures { λ r. ⌜ r ≡ degreeBy (tableFor «drop_tol») t ⌝ }
+// The degree for a norm; 0 where the status is a refusal.
+#[repr(C)]
+pub struct DegreeChoice {
+    pub status: Status,
+    pub m: u32,
+    pub s: u32,
+}
+
+fn choice_of(answer: Chosen) -> DegreeChoice
+    ensures { λ r. ⌜ r ≡ choiceOf answer ⌝ }
 {
-    expm::select_degree(t, drop_tol)
+    match answer {
+        Chosen::Pair(d) => DegreeChoice {
+            status: Status {
+                refusal: 0,
+                first: 0,
+                second: 0,
+            },
+            m: d.m,
+            s: d.s,
+        },
+        Chosen::Refused(refusal) => DegreeChoice {
+            status: refusal::status_of(refusal),
+            m: 0,
+            s: 0,
+        },
+    }
+}
+
+#[no_mangle]
+pub extern "C" fn pebblelinen_select_ms(t: f64, drop_tol: f64) -> DegreeChoice
+    ensures { λ r. ⌜ r ≡ choiceOf (chosen «drop_tol» t) ⌝ }
+{
+    choice_of(expm::select_degree(t, drop_tol))
 }

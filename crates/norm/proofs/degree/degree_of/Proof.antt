@@ -8,10 +8,10 @@ use Rattle.norm.proofs.degree.degree_of.Statement.{statement}
 use Rattle.norm.proofs.degree.degree_of.Tie as tie
 
 returns : tie.Need-returns
-returns c = let a = c .before .before .before .before .before .args in degree-some (a .dt) (a .drop-tol) (a .normed) _ _ _ (c .before .before .before .normed .given .1) (c .before .magnitude .ensures) _ (c .select-degree .ensures)
+returns c = let a = c .before .before .before .before .before .before .args in degree-some (a .dt) (a .drop-tol) (a .normed) _ _ _ (c .before .before .before .before .normed .given .1) (c .before .before .magnitude .ensures) _ (c .before .select-degree .ensures) _ (c .with-pair .ensures)
 
 returns-2 : tie.Need-returns-2
 returns-2 c = let a = c .before .before .before .args in degree-refused (a .dt) (a .drop-tol) (a .normed) _ (c .before .normed2 .given .1)
 
 pub degree-of-spec : {M : Type 1} → statement M
-degree-of-spec = tie.close (tie.spec (λ c. search needs) (λ c κs. search needs) (λ c κs. search needs) (λ c. search needs) returns returns-2)
+degree-of-spec = tie.close (tie.spec (λ c. search needs) (λ c κs. search needs) (λ c κs. search needs) (λ c κs. search needs) (λ c. search needs) returns returns-2)
