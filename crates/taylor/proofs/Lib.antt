@@ -5,3 +5,4 @@
 pub mod SweepLaws
 pub mod TermLaws
 pub mod StageLaws
+pub mod EvolveLaws

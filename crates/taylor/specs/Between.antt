@@ -66,3 +66,24 @@ module _ (offsets columns : List ℕ) (values : List Float) where
 
   abbrev pub StagesLeave : ℕ → ℕ → Float → List Float → ℕ → List Float → Type 0
   StagesLeave m s dt v r v′ = stages offsets columns values m s dt s v ≡ follows (length v) r (evolved v′)
+
+-- ---- a time step
+-- finite numbers, and tables of as many places
+pub record RunReady (offsets columns : List ℕ) (values : List Float) (m s : ℕ) (coeffs v b product out : List Float) : Type 0 where
+  pub matrix : Matrix (length coeffs) offsets columns values
+  pub finite : AllFinite coeffs
+  pub v-long : length v ≡ length coeffs
+  pub b-long : length b ≡ length coeffs
+  pub product-long : length product ≡ length coeffs
+  pub out-long : length out ≡ length coeffs
+  pub short : m < 4294967296
+  pub few : m * s ≤ 1048576
+
+-- finite numbers, and tables of at least as many places
+pub record EvolveReady (offsets columns : List ℕ) (values coeffs v b product out : List Float) : Type 0 where
+  pub matrix : Matrix (length coeffs) offsets columns values
+  pub finite : AllFinite coeffs
+  pub v-long : length coeffs ≤ length v
+  pub b-long : length coeffs ≤ length b
+  pub product-long : length coeffs ≤ length product
+  pub out-long : length coeffs ≤ length out
