@@ -2,8 +2,8 @@
 // SPDX-License-Identifier: Apache-2.0
 
 // The generator of a lent model over a lent basis, and the same matrix by rows.
-mod check;
+pub mod check;
 pub mod csr;
-mod gather;
+pub mod gather;
 pub mod generator;
-mod tables;
+pub mod tables;

@@ -27,6 +27,9 @@ use Rattle.pebblelinen.specs.declared.bases.KeptEntries.{KeptEntries}
 use Rattle.pebblelinen.specs.declared.models.BuiltModel.{BuiltModel}
 use Rattle.pebblelinen.specs.declared.norms.NormOfBasis.{NormOfBasis}
 use Rattle.pebblelinen.specs.declared.norms.Partition.{Partition}
+use Rattle.evolution.specs.Evolutions.{Evolving}
+use Rattle.pebblelinen.specs.Evolutions.{evolvedOf, LeavesEvolution}
+use Rattle.pebblelinen.specs.declared.evolutions.EvolvedBasis.{EvolvedBasis}
 
 pub leaves : (b made : Building) (r : BuiltModel) → r ≡ builtOf (made .answer) → made ≡ b → Leaves b r (made .tables) (made .workWords) (made .workNumbers)
 leaves b made r a e = record {
@@ -105,6 +108,13 @@ leaves-csr k made r l e = record {
   columns-are = ap (λ (x : CsrBuilding). x .out .columns) e;
   values-are = ap (λ (x : CsrBuilding). x .out .values) e;
   work-is = ap (λ (x : CsrBuilding). x .work) e;
+}
+
+pub leaves-evolution : (k made : Evolving) (r : EvolvedBasis) → r ≡ evolvedOf (made .answer) → made ≡ k → LeavesEvolution k r (made .out) (made .work)
+leaves-evolution k made r l e = record {
+  answers = l ∙ ap (λ (x : Evolving). evolvedOf (x .answer)) e;
+  out-is = ap (λ (x : Evolving). x .out) e;
+  work-is = ap (λ (x : Evolving). x .work) e;
 }
 
 pub leaves-product : (k made : Multiplying) (r : Status) → r ≡ answerStatus (made .answer) → made ≡ k → LeavesProduct k r (made .output) (made .work)

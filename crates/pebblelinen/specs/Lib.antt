@@ -10,4 +10,5 @@ pub mod Leakages
 pub mod Generators
 pub mod Products
 pub mod Norms
+pub mod Evolutions
 pub mod Examples

@@ -3,3 +3,4 @@
 
 -- Laws of raws.
 pub mod FrontLaws
+pub mod RawLaws

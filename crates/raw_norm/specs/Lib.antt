@@ -2,4 +2,5 @@
 -- SPDX-License-Identifier: Apache-2.0
 
 -- The unshifted norm: the largest raw of any column.
+pub mod Unshifted
 pub mod Between
