@@ -196,7 +196,7 @@ module _ (len : ℕ) (lanes : List ℕ) (n : ℕ) (coeffs : List Float) (dt drop
   module _ (ok : insideTo len lanes n Accepted ≡ Accepted) (first : ℕ) (is : first ≡ firstTo len (notFinite coeffs)) where
     pub coeff-bad : first < len → Refused (NumberOutOfRange first) ≡ numbers
     unfolding numberTests finiteTo
-    coeff-bad l = rw (inside-on len lanes n _ ok, ← is, lt-ltb first len l)
+    coeff-bad l = let z : first ≡ 0 + first = omega arith in rw (inside-on len lanes n _ ok, ← is, lt-ltb first len l) (ap (λ (i : ℕ). Refused (NumberOutOfRange i)) z)
 
     module _ (all : len ≤ first) where
       from-step : finiteThreshold len dt (finiteThreshold len dropTol Accepted) ≡ numbers

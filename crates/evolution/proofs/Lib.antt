@@ -4,3 +4,4 @@
 -- Laws of this crate.
 pub mod CheckLaws
 pub mod MatrixLaws
+pub mod CallLaws
