@@ -8,7 +8,7 @@ use Prim.Native.Nat.{ℕ, _*_, _/_, _≤_, _<_}
 use native.Mathlib.Omega.{arith}
 use borrow.Author.Tests.{lt-ltb, le-ltb}
 use lib.Ieee.{Float}
-use lib.ListN.{length, take, drop, take-append-drop}
+use lib.ListN.{length, take, drop, replicate, take-append-drop}
 use lib.Seq.{take-at}
 use Rattle.refusal.specs.declared.Refusal.{Refusal}
 use Rattle.refusal.specs.declared.Refusal.the-variants.{RepeatedBasisWord}
@@ -24,13 +24,15 @@ use Rattle.lent.specs.Words.{maxWords}
 use Rattle.lent.proofs.Passed.{both, refused-not}
 use Rattle.slots.specs.Between.{Slotted}
 use Rattle.columns.specs.Between.{LaysDistinct, BasisReady}
+use Rattle.generator.specs.Lent as Generator
 use Rattle.generator.specs.Lent.{distinct, basisOf}
 use Rattle.generator.specs.Between.{ModelLent, BasisLent}
 use Rattle.generator.proofs.CheckLaws.{Passed}
 use Rattle.generator.proofs.LentLaws.{model-lent, basis-words, basis-lent}
 use Rattle.taylor.specs.Evolves.{Evolves}
 use Rattle.taylor.specs.declared.evolve.Evolved.the-variants as Evolved
-use Rattle.evolution.specs.Lent.{Work, basisTests, workTests, numberTests, evolveTests}
+use Rattle.number.specs.Floats.{float0}
+use Rattle.evolution.specs.Lent.{Work, workOf, zeroed, basisTests, workTests, numberTests, evolveTests}
 use Rattle.evolution.specs.Evolutions.{Evolving, tested, evolveOver, evolve}
 use Rattle.evolution.specs.Between.{SlotsLeft, Checks, SlotsReady, NumbersLent, evolvedThen}
 use Rattle.evolution.proofs.CheckLaws.{basis-passed, tables-passed, numbers-passed, first-finite}
@@ -156,3 +158,23 @@ slots-ready n len basis heads nexts heads′ nexts′ l eh en s = record {
   nexts-long = omega (arith, en, l .nexts-long);
   ready = record { slots = s; inside = l .inside; few = omega (arith, words-low basis, words-high basis, l .each, l .few) };
 }
+
+pub slots-size : (n len : ℕ) (basis heads nexts : List ℕ) → SlotsReady n len basis heads nexts → length (words basis) ≡ len
+slots-size n len basis heads nexts s = omega (arith, s .each, words-low basis, words-high basis)
+
+-- ---- all tables zero
+pub work-zero : (w : Work) (g′ : Generator.Work) (offsets′ columns′ : List ℕ) (values′ v′ b′ product′ : List Float) → g′ ≡ Generator.zeroed (w .generator) → offsets′ ≡ replicate (length (w .offsets)) 0 → columns′ ≡ replicate (length (w .columns)) 0 → values′ ≡ replicate (length (w .values)) float0
+    → v′ ≡ replicate (length (w .v)) float0 → b′ ≡ replicate (length (w .b)) float0 → product′ ≡ replicate (length (w .product)) float0 → workOf g′ offsets′ columns′ values′ v′ b′ product′ ≡ zeroed w
+work-zero w g′ offsets′ columns′ values′ v′ b′ product′ e0 e1 e2 e3 e4 e5 e6 = rw (e0, e1, e2, e3, e4, e5, e6)
+
+pub then-evolved : (w : Work) (out : List Float) (m : Model) (t : ModelTables) (bs : List Word) (coeffs : List Float) (len : ℕ) (dt dropTol : Float) (e : Evolves) → e ≡ evolveOver w out m t bs coeffs len dt dropTol → (w′ : Work) → w′ ≡ zeroed w
+    → record { answer = e .answer; out = e .out; work = w′ } ≡ evolvedThen w out m t bs coeffs len dt dropTol
+then-evolved w out m t bs coeffs len dt dropTol e h w′ z = rw (h, z)
+
+-- tables of the same lengths for the slots make no difference
+pub slots-alike : (hIndex jIndex mask heads heads′ nexts nexts′ workWords : List ℕ) (workSums : List Float) (stageRows stageColumns : List ℕ) (stageValues : List Float) (offsets columns : List ℕ) (values v b product out : List Float)
+    (m : Model) (t : ModelTables) (bs : List Word) (coeffs : List Float) (len : ℕ) (dt dropTol : Float) → length heads′ ≡ length heads → length nexts′ ≡ length nexts
+    → evolvedThen (workOf (Generator.workOf hIndex jIndex mask heads′ nexts′ workWords workSums stageRows stageColumns stageValues) offsets columns values v b product) out m t bs coeffs len dt dropTol
+    ≡ evolvedThen (workOf (Generator.workOf hIndex jIndex mask heads nexts workWords workSums stageRows stageColumns stageValues) offsets columns values v b product) out m t bs coeffs len dt dropTol
+unfolding evolveOver
+slots-alike hIndex jIndex mask heads heads′ nexts nexts′ workWords workSums stageRows stageColumns stageValues offsets columns values v b product out m t bs coeffs len dt dropTol eh en = rw (eh, en)

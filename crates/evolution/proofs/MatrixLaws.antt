@@ -46,10 +46,32 @@ use Rattle.taylor.specs.declared.evolve.Evolved.the-variants as Evolved
 use Rattle.evolution.specs.Lent.{Work}
 use Rattle.evolution.specs.Evolutions.{roomThen, evolveOver}
 use Rattle.evolution.specs.Between.{StageHeld, NormRead, NumbersLent, RowsReady, actedThen}
+use Rattle.evolution.specs.declared.matrix.Built.{Built}
 
 -- ---- what is staged
 pub stage-held : (n : ℕ) (r : Acted) (rows columns : List ℕ) (values : List Float) (columns′ : List ℕ) (values′ : List Float) → HeldRows n r rows columns values columns′ values′ → StageHeld r columns values
 stage-held n r rows columns values columns′ values′ h k e = (h .rowed k e .columns-long, h .rowed k e .values-long)
+
+not-listed : (r : Acted) (q : Refusal) (k : ℕ) → r ≡ Refused q → r ≡ Listed k → ⊥
+not-listed r q k e f = let z : _≡_ {A = ℕ} 0 1 = cc in omega arith
+
+same-listed : (r : Acted) (j k : ℕ) → r ≡ Listed j → r ≡ Listed k → j ≡ k
+same-listed r j k e f = cc
+
+module _ (staged : Acted) (columns : List ℕ) (values : List Float) (n : ℕ) where
+  pub no-norm : (q : Refusal) (x : Float) → staged ≡ Refused q → NormRead staged columns values n x
+  no-norm q x e k f = absurd (not-listed staged q k e f)
+
+  pub norm-listed : (j : ℕ) (x : Float) → staged ≡ Listed j → x ≡ largest (rawsFrom n 0 (take j columns) (take j values)) → NormRead staged columns values n x
+  norm-listed j x e h k f = h ∙ ap (λ (i : ℕ). largest (rawsFrom n 0 (take i columns) (take i values))) (same-listed staged j k e f)
+
+-- over a matrix that was built
+module _ (len : ℕ) (offsets columns : List ℕ) (values coeffs : List Float) (norm dt dropTol : Float) (out : List Float) where
+  pub then-listed : (r : Acted) (k : ℕ) → r ≡ Listed k → (e : Evolves) → e ≡ evolveBy (take (len + 1) offsets) (take k columns) (take k values) dt coeffs out norm dropTol → e ≡ actedThen len offsets columns values coeffs r norm dt dropTol out
+  then-listed r k f e h = rw f h
+
+  pub then-refused : (r : Acted) (q : Refusal) → r ≡ Refused q → record { answer = Evolved.Refused q; out = out } ≡ actedThen len offsets columns values coeffs r norm dt dropTol out
+  then-refused r q f = rw f
 
 by-rows-answer : (n : ℕ) (offsets columns : List ℕ) (values : List Float) (r : Acted) (E : List Entry) → byRows n offsets columns values r E .answer ≡ r
 by-rows-answer n offsets columns values (Listed k) E = refl
@@ -101,7 +123,10 @@ module _ (m : Model) (t : ModelTables) (passes : testModel m t ≡ Tests.Accepte
       pub columns-long : length G ≤ length columns′
       pub values-long : length G ≤ length values′
 
-    module _ (acted : Acted) (offsets′ columns′ : List ℕ) (values′ : List Float) (rows : _≡_ {A = CsrOut} (record { answer = acted; offsets = offsets′; columns = columns′; values = values′ }) (csrOver offsets columns values w len m t bs)) (ec : length columns′ ≡ length columns) (ev : length values′ ≡ length values) where
+    module _ (built : Built) (offsets′ columns′ : List ℕ) (values′ : List Float) (rows : _≡_ {A = CsrOut} (record { answer = built .acted; offsets = offsets′; columns = columns′; values = values′ }) (csrOver offsets columns values w len m t bs)) (ec : length columns′ ≡ length columns) (ev : length values′ ≡ length values) where
+      abbrev acted : Acted
+      acted = built .acted
+
       acted-refused : (q : Refusal) → tests ≡ Tests.Refused q → acted ≡ Refused q
       unfolding csrOver
       acted-refused q f = ap (λ (o : CsrOut). o .answer) rows ∙ rw f
@@ -132,9 +157,9 @@ module _ (m : Model) (t : ModelTables) (passes : testModel m t ≡ Tests.Accepte
           go Tests.Accepted f = (f, let g = acted-listed f in cc)
           go (Tests.Refused q) f = absurd (let g = acted-refused q f in let z : _≡_ {A = ℕ} 0 1 = cc in omega arith)
 
-      pub rows-ready : (norm : Float) (coeffs v b product out : List Float) → NumbersLent m t len coeffs offsets v b product out → length offsets′ ≡ length offsets
-          → RowsReady len offsets′ columns′ values′ (take len coeffs) (record { acted = acted; norm = norm }) v b product out
-      rows-ready norm coeffs v b product out l eo = record {
+      pub rows-ready : (coeffs v b product out : List Float) → NumbersLent m t len coeffs offsets v b product out → length offsets′ ≡ length offsets
+          → RowsReady len offsets′ columns′ values′ (take len coeffs) built v b product out
+      rows-ready coeffs v b product out l eo = record {
         offsets-long = omega arith;
         held = λ k e. let a = listed-all k e in let d = laid-rows (a .0) in (omega (arith, a .1, d .columns-long), omega (arith, a .1, d .values-long));
         ready = λ k e.
@@ -153,13 +178,20 @@ module _ (m : Model) (t : ModelTables) (passes : testModel m t ≡ Tests.Accepte
       }
 
       -- what is evolved over it
-      pub evolved-over : (norm : Float) → ((k : ℕ) → acted ≡ Listed k → norm ≡ unshiftedNorm m t bs) → (coeffs : List Float) (dt dropTol : Float) (out : List Float)
-          → actedThen len offsets′ columns′ values′ (take len coeffs) acted norm dt dropTol out ≡ roomThen m t bs len (take len coeffs) dt dropTol tests out
-      evolved-over norm n coeffs dt dropTol out = go tests refl
+      pub evolved-over : ((k : ℕ) → acted ≡ Listed k → built .norm ≡ unshiftedNorm m t bs) → (coeffs : List Float) (dt dropTol : Float) (out : List Float)
+          → actedThen len offsets′ columns′ values′ (take len coeffs) acted (built .norm) dt dropTol out ≡ roomThen m t bs len (take len coeffs) dt dropTol tests out
+      evolved-over n coeffs dt dropTol out = go tests refl
         where
-          go : (a : Answer) → tests ≡ a → actedThen len offsets′ columns′ values′ (take len coeffs) acted norm dt dropTol out ≡ roomThen m t bs len (take len coeffs) dt dropTol a out
+          go : (a : Answer) → tests ≡ a → actedThen len offsets′ columns′ values′ (take len coeffs) acted (built .norm) dt dropTol out ≡ roomThen m t bs len (take len coeffs) dt dropTol a out
           go Tests.Accepted f =
               let e = acted-listed f in
               let d = laid-rows f in
               rw (e, d .offsets-are, d .columns-are, d .values-are, n (length G) e)
           go (Tests.Refused q) f = rw (acted-refused q f)
+
+      -- as the call has it
+      pub course-is : (v b product : List Float) → ((k : ℕ) → acted ≡ Listed k → built .norm ≡ unshiftedNorm m t bs) → (coeffs : List Float) (dt dropTol : Float) (out : List Float) (e : Evolves)
+          → e ≡ actedThen len offsets′ columns′ values′ (take len coeffs) acted (built .norm) dt dropTol out
+          → e ≡ evolveOver (record { generator = w; offsets = offsets; columns = columns; values = values; v = v; b = b; product = product }) out m t bs coeffs len dt dropTol
+      unfolding evolveOver
+      course-is v b product n coeffs dt dropTol out e h = h ∙ evolved-over n coeffs dt dropTol out
