@@ -76,16 +76,18 @@ module _ (len : ℕ) (basis heads nexts : List ℕ) (each : length basis ≡ len
   pub distinct-repeated : r < len → (Refused (RepeatedBasisWord r) ≡ distinct (words basis)) × SlotsLeft (words basis) len heads nexts (Refused (RepeatedBasisWord r)) heads′ (part ++ drop len nexts)
   unfolding distinct
   distinct-repeated h =
-      let u = d .unchanged (omega (arith, size)) in
-      (rw (← (d .first), lt-ltb r (length (words basis)) (omega (arith, size))),
-      record { kept = λ _ _. (u .0, ap (λ (k : List ℕ). k ++ drop len nexts) (u .1) ∙ take-append-drop len nexts); laid = λ e. absurd (refused-not (RepeatedBasisWord r) e) })
+      let u = d .unchanged (omega (arith, size)) in (
+        rw (← (d .first), lt-ltb r (length (words basis)) (omega (arith, size))),
+        record { kept = λ _ _. (u .0, ap (λ (k : List ℕ). k ++ drop len nexts) (u .1) ∙ take-append-drop len nexts); laid = λ e. absurd (refused-not (RepeatedBasisWord r) e) },
+      )
 
   pub distinct-laid : len ≤ r → (Accepted ≡ distinct (words basis)) × SlotsLeft (words basis) len heads nexts Accepted heads′ (part ++ drop len nexts)
   unfolding distinct
   distinct-laid h =
-      let s = d .slots (omega (arith, size)) in
-      (rw (← (d .first), le-ltb r (length (words basis)) (omega (arith, size))),
-      record { kept = λ q e. absurd (refused-not q (sym e)); laid = λ _. rw (take-at part (drop len nexts) len (s .each ∙ size)) s })
+      let s = d .slots (omega (arith, size)) in (
+        rw (← (d .first), le-ltb r (length (words basis)) (omega (arith, size))),
+        record { kept = λ q e. absurd (refused-not q (sym e)); laid = λ _. rw (take-at part (drop len nexts) len (s .each ∙ size)) s },
+      )
 
 -- ---- what the tests show
 module _ (m : Model) (t : ModelTables) (lanes : List ℕ) (coeffs : List Float) (len : ℕ) (dt dropTol : Float) (w : Work) (out : List Float) where

@@ -115,7 +115,14 @@ fn check_work(
 }
 
 // Words and numbers: 11, 7.
-fn check_numbers(words: &[u64], coeffs: &[f64], len: usize, n: usize, dt: f64, drop_tol: f64) -> Answer
+fn check_numbers(
+    words: &[u64],
+    coeffs: &[f64],
+    len: usize,
+    n: usize,
+    dt: f64,
+    drop_tol: f64,
+) -> Answer
     requires { ⌜ (wordLanes * len ≤ length (now words)) × (len ≤ length (now coeffs)) ⌝ }
     ensures { λ r. ⌜ r ≡ numberTests len (now (words .entry)) n (now (coeffs .entry)) dt «drop_tol» ⌝ }
 {
@@ -178,7 +185,16 @@ pub fn check_evolution(
     ensures { λ r. ⌜ Checks m (modelTables (now («h_words» .entry)) (now («h_coeffs» .entry)) (now (jumps .entry)) (now (rates .entry)) (now («t_words» .entry)) (now («t_numbers» .entry))) (now (words .entry)) (now (coeffs .entry)) len dt «drop_tol» «h_index» «j_index» mask (now (heads .entry)) (now (nexts .entry)) offsets v b product out r (now (heads .exit)) (now (nexts .exit)) ⌝ }
 {
     let basis = check_basis(
-        m, h_words, h_coeffs, jumps, rates, t_words, t_numbers, words, coeffs, len,
+        m,
+        h_words,
+        h_coeffs,
+        jumps,
+        rates,
+        t_words,
+        t_numbers,
+        words,
+        coeffs,
+        len,
     );
     let Answer::Accepted = basis else {
         return basis;

@@ -89,7 +89,18 @@ fn evolve_and_clear(
     ensures { λ r. ⌜ (record { answer = r; out = now (out .exit) } ≡ builtThen len (now (offsets .entry)) (now (columns .entry)) (now (values .entry)) (now (coeffs .entry)) built dt «drop_tol» (now (out .entry))) × (now (offsets .exit) ≡ replicate (length (now (offsets .entry))) 0) × (now (columns .exit) ≡ replicate (length (now (columns .entry))) 0) × (now (values .exit) ≡ replicate (length (now (values .entry))) float0) × (now (v .exit) ≡ replicate (length (now (v .entry))) float0) × (now (b .exit) ≡ replicate (length (now (b .entry))) float0) × (now (product .exit) ≡ replicate (length (now (product .entry))) float0) ⌝ }
 {
     let evolved = evolve_built(
-        built, len, offsets, columns, values, coeffs, dt, drop_tol, v, b, product, out,
+        built,
+        len,
+        offsets,
+        columns,
+        values,
+        coeffs,
+        dt,
+        drop_tol,
+        v,
+        b,
+        product,
+        out,
     );
     clear_lanes(offsets);
     clear_places(columns);
