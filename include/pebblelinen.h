@@ -889,6 +889,97 @@ pebblelinen_partition pebblelinen_expm_degree(
     size_t nexts_len, uint64_t *work_words, size_t work_words_len, double *work_sums,
     size_t work_sums_len, double *raws, size_t raws_len, double *diags, size_t diags_len);
 
+/* ---- Evolution ---- */
+
+/* The number of products with the matrix that an evolution took. Where the status is a refusal, it is
+ * 0. */
+typedef struct {
+    pebblelinen_status status;
+    size_t products;
+} pebblelinen_evolved;
+
+/* The lengths of the work tables of an evolution. */
+typedef struct {
+    size_t h_index;
+    size_t j_index;
+    size_t mask;
+    size_t heads;
+    size_t nexts;
+    size_t work_words;
+    size_t work_sums;
+    size_t stage_rows;
+    size_t stage_columns;
+    size_t stage_values;
+    size_t offsets;
+    size_t columns;
+    size_t values;
+    size_t v;
+    size_t b;
+    size_t product;
+} pebblelinen_evolution_lengths;
+
+/* Lengths that are enough for a register of so many qubits, a basis of so many words, actions that
+ * touch at most so many words, and so many entries, as for pebblelinen_generator_sizes. Longer tables
+ * will do. */
+pebblelinen_evolution_lengths pebblelinen_evolution_sizes(size_t qubits, size_t words,
+                                                          size_t touched, size_t entries);
+
+/* The coefficients of a basis after one time step dt, by the generator over the basis.
+ *
+ * The matrix is that of pebblelinen_build_csr for the same model and basis. Its norm is the largest raw
+ * of any column, raw being the sum, from 0 and in word order, of the magnitudes of those terms of the
+ * action on the column's word whose word is in the basis. (m, s) is the degree for |dt| x norm, of
+ * pebblelinen_select_ms at drop_tol. Then s stages are run over the numbers v, which begin as the
+ * coefficients. In a stage b begins as v, and for j from 1 to m
+ *
+ *   b becomes (product of b) x (dt / (s j)), where s j is a whole number,
+ *   v becomes v + b, number by number.
+ *
+ * The product is that of pebblelinen_dot where it overwrites. Every operation is rounded once, in that
+ * order, and nothing is left out: neither where a product is 0 already, nor where dt or the norm is 0.
+ * The answer is the number of products, m x s. Only an empty basis departs: it takes no product.
+ *
+ *   words, coeffs, len   the basis: its first len places, 4 lanes and 1 number a word; only read
+ *   h_index .. stage_values   work tables, as for pebblelinen_generator
+ *   offsets, columns, values  work tables: the matrix; offsets of len + 1 places
+ *   v, b, product        work tables: a number for each word each
+ *   out                  a number for each word: the evolved coefficients, where the call was accepted.
+ *                        Places past len stay as they were
+ *   table 3              entries: stage_rows, stage_columns, stage_values, columns, values
+ *
+ * Refusals, in this order:
+ *
+ *       those of pebblelinen_test_model for the model
+ *    8  (count): more than 65,536 words
+ *    9  (len, places lent) for words, then for coeffs; then (needed, lent) for h_index, j_index, mask,
+ *       heads, nexts, offsets (len + 1), v, b, product, out
+ *   11  (position): the first word with a letter at or above the register
+ *    7  (position): the first coefficient that is infinite or NaN; then (len) for such a dt, then for
+ *       such a drop_tol
+ *   12  (position): the first position whose word stands at a smaller one too
+ *   13  (1, places) or (3, places), column by column, as for pebblelinen_generator
+ *   16  (m, s): m x s is above 1,048,576, as it is where |dt| x norm is infinite
+ *   14  (row): a number that is not finite. At each j of a stage the whole product is looked through
+ *       first, then b, then v; the row is the first such row there
+ *
+ * A refusal changes nothing that was lent, but for 13, 14 and 16, after which the work tables are all
+ * zero. Where the call was accepted they are all zero, to their ends; what they held before makes no
+ * difference to the answer. For heads and nexts see pebblelinen_generator. */
+pebblelinen_evolved pebblelinen_evolve(
+    pebblelinen_model model, const uint64_t *h_words, size_t h_words_len, const double *h_coeffs,
+    size_t h_coeffs_len, const uint64_t *jumps, size_t jumps_len, const double *rates,
+    size_t rates_len, const uint64_t *t_words, size_t t_words_len, const double *t_numbers,
+    size_t t_numbers_len, const uint64_t *words, size_t words_len, const double *coeffs,
+    size_t coeffs_len, size_t len, double dt, double drop_tol, uint64_t *h_index,
+    size_t h_index_len, uint64_t *j_index, size_t j_index_len, uint64_t *mask, size_t mask_len,
+    uint64_t *heads, size_t heads_len, uint64_t *nexts, size_t nexts_len, uint64_t *work_words,
+    size_t work_words_len, double *work_sums, size_t work_sums_len, uint32_t *stage_rows,
+    size_t stage_rows_len, uint32_t *stage_columns, size_t stage_columns_len,
+    double *stage_values, size_t stage_values_len, uint64_t *offsets, size_t offsets_len,
+    uint32_t *columns, size_t columns_len, double *values, size_t values_len, double *v,
+    size_t v_len, double *b, size_t b_len, double *product, size_t product_len, double *out,
+    size_t out_len);
+
 #ifdef __cplusplus
 }
 #endif

@@ -37,7 +37,7 @@ pub fn first_not_clear(work: &[f64], count: usize) -> usize
 }
 
 // The numbers of one table over those of another.
-fn copy_numbers(from: &[f64], to: &mut [f64])
+pub fn copy_numbers(from: &[f64], to: &mut [f64])
     requires { ⌜ length (now to) ≤ length (now from) ⌝ }
     ensures { λ _. ⌜ now (to .exit) ≡ take (length (now (to .entry))) (now (from .entry)) ⌝ }
 {

@@ -72,7 +72,7 @@ fn check_tables(
     Answer::Accepted
 }
 
-fn check_inside(words: &[u64], len: usize, n: usize) -> Answer
+pub fn check_inside(words: &[u64], len: usize, n: usize) -> Answer
     requires { ⌜ wordLanes * len ≤ length (now words) ⌝ }
     ensures { λ r. ⌜ r ≡ insideTo len (now (words .entry)) n Accepted ⌝ }
 {

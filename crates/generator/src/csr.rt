@@ -27,7 +27,7 @@ use word::flat::WORD_LANES;
 
 // What is staged, by rows; or the refusal at which the columns stopped. The work table is zero
 // afterwards.
-fn list_rows(
+pub fn list_rows(
     staged: Acted,
     stage_rows: &[u32],
     stage_columns: &[u32],

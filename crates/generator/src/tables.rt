@@ -10,7 +10,7 @@ ghost use Rattle.lent.specs.Laid.{laid};
 use lent::clear::clear_numbers;
 use lent::sizes::smaller;
 
-fn clear_places(t: &mut [u32])
+pub fn clear_places(t: &mut [u32])
     ensures { λ _. ⌜ now (t .exit) ≡ replicate (length (now (t .entry))) 0 ⌝ }
 {
     let mut i = 0;

@@ -8,3 +8,4 @@ pub mod Growth
 pub mod RowEntries
 pub mod RowPlaces
 pub mod TableLaws
+pub mod SoundRows

@@ -30,6 +30,9 @@ use Rattle.pebblelinen.specs.declared.markets.WrittenText.{WrittenText}
 use Rattle.pebblelinen.specs.declared.models.BuiltModel.{BuiltModel}
 use Rattle.pebblelinen.specs.declared.norms.NormOfBasis.{NormOfBasis}
 use Rattle.pebblelinen.specs.declared.norms.Partition.{Partition}
+use Rattle.evolution.specs.Evolutions.{Evolving}
+use Rattle.pebblelinen.specs.Evolutions.{evolvedOf, LeavesEvolution}
+use Rattle.pebblelinen.specs.declared.evolutions.EvolvedBasis.{EvolvedBasis}
 
 pub leaves : (b made : Building) (r : BuiltModel) → r ≡ builtOf (made .answer) → made ≡ b → Leaves b r (made .tables) (made .workWords) (made .workNumbers)
 leaves b made r a e = record {
@@ -115,6 +118,13 @@ leaves-market k made r l e = record {
   answers = l ∙ ap (λ (x : Exporting). writtenOf (x .out .answer)) e;
   text-is = ap (λ (x : Exporting). x .out .text) e;
   work-is = ap (λ (x : Exporting). x .work) e;
+}
+
+pub leaves-evolution : (k made : Evolving) (r : EvolvedBasis) → r ≡ evolvedOf (made .answer) → made ≡ k → LeavesEvolution k r (made .out) (made .work)
+leaves-evolution k made r l e = record {
+  answers = l ∙ ap (λ (x : Evolving). evolvedOf (x .answer)) e;
+  out-is = ap (λ (x : Evolving). x .out) e;
+  work-is = ap (λ (x : Evolving). x .work) e;
 }
 
 pub leaves-product : (k made : Multiplying) (r : Status) → r ≡ answerStatus (made .answer) → made ≡ k → LeavesProduct k r (made .output) (made .work)

@@ -1,10 +1,10 @@
 -- SPDX-FileCopyrightText: 2026 The PPVM Authors
 -- SPDX-License-Identifier: Apache-2.0
 
--- In work tables of the lengths that `leakageSizes` and `generatorSizes` name, no work table decides what leakage, the generator,
--- the matrix by rows and the norm test: of any two such lendings the tests end alike. And there is room for the words touched, the
+-- In work tables of the lengths that `leakageSizes`, `generatorSizes` and `evolutionSizes` name, no work table decides what leakage, the
+-- generator, the matrix by rows, the norm and the evolution test: of any two such lendings the tests end alike. And there is room for the words touched, the
 -- candidates and the entries that the lengths were named for. Assumes nothing.
-use Prim.Native.Nat.{ℕ, _*_, _/_, _≤_, min, max}
+use Prim.Native.Nat.{ℕ, suc, _*_, _/_, _≤_, min, max}
 use mathlib.Core.Path.{_≡_, refl}
 use mathlib.Core.Bool.{Bool, true, false, cond}
 use mathlib.Core.List.{List}
@@ -12,6 +12,7 @@ use native.Mathlib.Nat.{le-trans, le-min, le-max-left, le-max-right}
 use native.Mathlib.Omega.{arith}
 use borrow.Author.Tests.{le-ltb, ltb-false}
 use lib.Dec.{ltb}
+use lib.Ieee.{Float}
 use lib.ListN.{length}
 use Rattle.refusal.specs.declared.Refusal.the-variants.{CountAboveLimit}
 use Rattle.refusal.specs.declared.Answer.{Answer}
@@ -20,7 +21,7 @@ use Rattle.word.specs.Flat.{wordLanes}
 use Rattle.word.specs.Word.{maxQubits}
 use Rattle.model.specs.Stored.{ModelTables}
 use Rattle.model.specs.Tested.{testModel}
-use Rattle.lent.specs.Tests.{counted, whereAny, andThen}
+use Rattle.lent.specs.Tests.{counted, lent, whereAny, andThen}
 use Rattle.lent.proofs.NeedLaws.{need-most}
 use Rattle.lent.specs.Words.{maxWords}
 use Rattle.model.specs.declared.stored.Model.{Model}
@@ -30,10 +31,15 @@ use Rattle.action.specs.Counts.{rowLanes}
 use Rattle.leakage.specs.Leakages as Leak
 use Rattle.limits.specs.declared.Limits.{Limits}
 use Rattle.generator.specs.Lent as Gen
+use Rattle.generator.specs.Generators.{csrPlaces}
+use Rattle.evolution.specs.Lent as Evolution
+use Rattle.evolution.proofs.CheckLaws.{basis-passed}
 use Rattle.norm.specs.Norms as Norm
 use Rattle.pebblelinen.specs.Leakages.{leakageSizes, maxPlaces}
 use Rattle.pebblelinen.specs.Generators.{generatorSizes, maxEntries}
+use Rattle.pebblelinen.specs.Evolutions.{evolutionSizes}
 use Rattle.pebblelinen.specs.declared.leakages.LeakageSizes.{LeakageSizes}
+use Rattle.pebblelinen.specs.declared.evolutions.EvolutionSizes.{EvolutionSizes}
 use Rattle.pebblelinen.specs.declared.generators.GeneratorSizes.{GeneratorSizes}
 
 -- ---- what comes after a test need agree only where the test is passed
@@ -226,3 +232,60 @@ norm-enough m t lanes len touched entries w w′ x y =
     let p = norm-passes (m .qubits) len touched entries w x (tested-stands m t e .qubits) f in
     let q = norm-passes (m .qubits) len touched entries w′ y (tested-stands m t e .qubits) f in
     rw (p .h-index, p .j-index, p .mask, p .heads, p .nexts, p .raws, p .diags, q .h-index, q .j-index, q .mask, q .heads, q .nexts, q .raws, q .diags)))
+
+-- ---- the evolution
+pub record EvolutionLent (s : EvolutionSizes) (w : Evolution.Work) : Type 0 where
+  pub h-index : s .«h_index» ≤ length (w .generator .hIndex)
+  pub j-index : s .«j_index» ≤ length (w .generator .jIndex)
+  pub mask : s .mask ≤ length (w .generator .mask)
+  pub heads : s .heads ≤ length (w .generator .heads)
+  pub nexts : s .nexts ≤ length (w .generator .nexts)
+  pub work-words : s .«work_words» ≤ length (w .generator .workWords)
+  pub work-sums : s .«work_sums» ≤ length (w .generator .workSums)
+  pub stage-rows : s .«stage_rows» ≤ length (w .generator .stageRows)
+  pub stage-columns : s .«stage_columns» ≤ length (w .generator .stageColumns)
+  pub stage-values : s .«stage_values» ≤ length (w .generator .stageValues)
+  pub offsets : s .offsets ≤ length (w .offsets)
+  pub columns : s .columns ≤ length (w .columns)
+  pub values : s .values ≤ length (w .values)
+  pub v : s .v ≤ length (w .v)
+  pub b : s .b ≤ length (w .b)
+  pub product : s .product ≤ length (w .product)
+
+module _ (qubits len touched entries : ℕ) (w : Evolution.Work) (a : EvolutionLent (evolutionSizes qubits len touched entries) w) where
+  abbrev tests : List Float → Answer
+  tests out = Evolution.workTests qubits len (length (w .generator .hIndex)) (length (w .generator .jIndex)) (length (w .generator .mask)) (length (w .generator .heads)) (length (w .generator .nexts)) (length (w .offsets)) (length (w .v)) (length (w .b)) (length (w .product)) (length out)
+
+  evolution-passes : qubits ≤ maxQubits → len ≤ maxWords → (out : List Float) → tests out ≡ lent len (length out) Accepted
+  unfolding evolutionSizes generatorSizes Evolution.workTests
+  evolution-passes q e out =
+      rw (
+        le-ltb (length (w .generator .hIndex)) (whereAny len (rowLanes * qubits)) (rows-asked qubits len q (a .h-index)),
+        le-ltb (length (w .generator .jIndex)) (whereAny len (rowLanes * qubits)) (rows-asked qubits len q (a .j-index)),
+        le-ltb (length (w .generator .mask)) (whereAny len rowLanes) (a .mask),
+        le-ltb (length (w .generator .heads)) len (omega (arith, a .heads)),
+        le-ltb (length (w .generator .nexts)) len (omega (arith, a .nexts)),
+        le-ltb (length (w .offsets)) (suc len) (omega (arith, a .offsets)),
+        le-ltb (length (w .v)) len (omega (arith, a .v)),
+        le-ltb (length (w .b)) len (omega (arith, a .b)),
+        le-ltb (length (w .product)) len (omega (arith, a .product)),
+      )
+
+  -- there is room for as many words touched, and as many entries
+  pub evolution-sums-room : touched ≤ maxPlaces → touched ≤ sumPlaces (w .generator .workWords) (w .generator .workSums)
+  unfolding evolutionSizes generatorSizes
+  evolution-sums-room h = omega (arith, a .work-words, a .work-sums)
+
+  pub evolution-entries-room : entries ≤ maxEntries → entries ≤ csrPlaces (w .generator) (w .columns) (w .values)
+  unfolding evolutionSizes generatorSizes
+  evolution-entries-room h = omega (arith, a .stage-rows, a .stage-columns, a .stage-values, a .columns, a .values)
+
+pub evolution-enough : (m : Model) (t : ModelTables) (lanes : List ℕ) (coeffs : List Float) (len : ℕ) (dt dropTol : Float) (out : List Float) (touched entries : ℕ) (w w′ : Evolution.Work)
+    → EvolutionLent (evolutionSizes (m .qubits) len touched entries) w → EvolutionLent (evolutionSizes (m .qubits) len touched entries) w′
+    → Evolution.evolveTests m t lanes coeffs len dt dropTol w out ≡ Evolution.evolveTests m t lanes coeffs len dt dropTol w′ out
+unfolding Evolution.evolveTests
+evolution-enough m t lanes coeffs len dt dropTol out touched entries w w′ x y =
+    then-alike (Evolution.basisTests m t lanes coeffs len) (λ e.
+    let k = basis-passed m t lanes coeffs len e in
+    let q = tested-stands m t (k .model) .qubits in
+    rw (evolution-passes (m .qubits) len touched entries w x q (k .few) out, evolution-passes (m .qubits) len touched entries w′ y q (k .few) out))

@@ -11,4 +11,5 @@ pub mod Generators
 pub mod Markets
 pub mod Products
 pub mod Norms
+pub mod Evolutions
 pub mod Examples

@@ -5,6 +5,7 @@
 // takes any input, calls the crate that does the work and puts the answer into plain numbers.
 pub mod actions;
 pub mod bases;
+pub mod evolutions;
 pub mod generators;
 pub mod leakages;
 pub mod markets;

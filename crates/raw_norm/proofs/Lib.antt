@@ -1,0 +1,6 @@
+-- SPDX-FileCopyrightText: 2026 The PPVM Authors
+-- SPDX-License-Identifier: Apache-2.0
+
+-- Laws of raws.
+pub mod FrontLaws
+pub mod RawLaws

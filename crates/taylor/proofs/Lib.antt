@@ -1,0 +1,8 @@
+-- SPDX-FileCopyrightText: 2026 The PPVM Authors
+-- SPDX-License-Identifier: Apache-2.0
+
+-- Laws of the stages.
+pub mod SweepLaws
+pub mod TermLaws
+pub mod StageLaws
+pub mod EvolveLaws
