@@ -939,7 +939,7 @@ pebblelinen_evolution_lengths pebblelinen_evolution_sizes(size_t qubits, size_t 
  * order, and nothing is left out: neither where a product is 0 already, nor where dt or the norm is 0.
  * The answer is the number of products, m x s. Only an empty basis departs: it takes no product.
  *
- *   words, coeffs, len   the basis: its first len places, 4 lanes and 1 number a word; only read
+ *   words, coeffs, len   the basis: its first len places, 8 lanes and 1 number a word; only read
  *   h_index .. stage_values   work tables, as for pebblelinen_generator
  *   offsets, columns, values  work tables: the matrix; offsets of len + 1 places
  *   v, b, product        work tables: a number for each word each
