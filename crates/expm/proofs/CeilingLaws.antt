@@ -5,17 +5,16 @@
 -- a ceiling; above it that pair is refused. And what infinity, a NaN, 0 and numbers near the ceiling give. Assumes nothing.
 use mathlib.Core.Path.{_≡_, refl, sym, ap, _∙_, subst}
 use mathlib.Core.Bool.{Bool, true, false, cond}
-use mathlib.Core.List.{map}
 use Prim.Native.Nat.{_≤_, _<_}
 use native.Mathlib.Omega.{arith}
 use borrow.Author.Tests.{lt-ltb, le-ltb, ltb-true, ltb-false}
-use lib.Dec.{T, ltb}
+use lib.Dec.{ltb}
 use lib.Ieee.{Float, nan, inf, binary64, ofBits, round, lt, le, div}
 use Rattle.refusal.specs.declared.Refusal.{Refusal}
 use Rattle.refusal.specs.declared.Refusal.the-variants.{TooManyProducts}
 use Rattle.number.specs.Floats.{float0}
-use Rattle.expm.specs.Theta.{Row, decimal, theta, thetaLoose}
-use Rattle.expm.specs.Selects.{stepsOf, pair, pairOf, cost, better, firstOf, degreeBy, tableFor, maxProducts, underCeiling, chosen, FirstLeast, Answers, Refuses}
+use Rattle.expm.specs.Theta.{decimal, theta, thetaLoose}
+use Rattle.expm.specs.Selects.{stepsOf, pair, cost, better, firstOf, degreeBy, tableFor, maxProducts, underCeiling, chosen, Answers, Refuses}
 use Rattle.expm.specs.declared.Degree.{Degree}
 use Rattle.expm.specs.declared.Chosen.{Chosen}
 use Rattle.expm.specs.declared.Chosen.the-variants.{Pair, Refused}

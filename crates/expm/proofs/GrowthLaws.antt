@@ -5,10 +5,10 @@
 -- y or not above 0. Assumes nothing.
 use mathlib.Core.Path.{_≡_, refl, sym, ap, _∙_, subst}
 use mathlib.Core.Logic.{inl, inr}
-use mathlib.Core.Bool.{Bool, true, false, not, _&&_, _||_, cond}
+use mathlib.Core.Bool.{Bool, true, false, _&&_, _||_, cond}
 use mathlib.Core.List.{List, [], _∷_, map}
-use Prim.Native.Nat.{ℕ, zero, suc, _+_, _*_, _≤_, _<_, min, max}
-use native.Mathlib.Nat.{le-trans, le-of-eq, le-of-lt, le-refl, lt-irrefl, lt-of-lt-of-le, le-of-suc-le-suc, mul-pos, mul-le-mul-left, mul-le-mul-right, mul-right-comm, mul-assoc, mul-comm, le-of-mul-le-mul-right, mul-mul-mul-comm}
+use Prim.Native.Nat.{ℕ, zero, suc, _*_, _≤_, _<_}
+use native.Mathlib.Nat.{le-trans, le-of-eq, le-of-lt, le-refl, lt-irrefl, le-of-suc-le-suc, mul-pos, mul-le-mul-left, mul-le-mul-right, mul-right-comm, mul-comm, le-of-mul-le-mul-right, mul-mul-mul-comm}
 use native.Mathlib.Omega.{arith}
 use borrow.Author.Tests.{ne-eqb, ltb-true}
 use lib.Dec.{T, eqb, ltb, ltb→lt, lt→ltb, eqb→eq}
@@ -21,8 +21,8 @@ use lib.ListN.{length, getD}
 use Rattle.number.specs.Floats.{float0}
 use Rattle.number.proofs.Tests.{or-cases}
 use Rattle.number.proofs.KeyLaws.{unsigned, round-unsigned}
-use Rattle.expm.specs.Theta.{Row, row, decimal, theta, thetaLoose}
-use Rattle.expm.specs.Selects.{maxSteps, ceiling, stepsOf, pair, pairOf, cost, degreeBy, tableFor, FirstLeast}
+use Rattle.expm.specs.Theta.{Row, decimal, theta, thetaLoose}
+use Rattle.expm.specs.Selects.{maxSteps, ceiling, stepsOf, pairOf, cost, degreeBy, tableFor, FirstLeast}
 use Rattle.expm.specs.declared.Degree.{Degree}
 use Rattle.expm.proofs.StepLaws.{ceiling-le, ceiling-gt}
 use Rattle.expm.proofs.LeastLaws.{sound, degree-least, degree-none}
