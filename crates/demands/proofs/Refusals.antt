@@ -69,6 +69,9 @@ use Rattle.matrix_market.specs.Writes as Markets
 use Rattle.matrix_market.specs.declared.write.Written.{Written}
 use Rattle.matrix_market.specs.declared.write.Written.the-variants as Texts
 use Rattle.csr.specs.Products as Products
+use Rattle.taylor.specs.declared.evolve.Evolved.{Evolved}
+use Rattle.taylor.specs.declared.evolve.Evolved.the-variants as Evolved
+use Rattle.evolution_laws.proofs.SameMatrix.{evolve-kept}
 use Rattle.csr.specs.declared.reader.RowRead.{RowRead}
 use Rattle.csr.specs.declared.reader.RowRead.the-variants as RowRead
 use Rattle.expm.specs.declared.Chosen.{Chosen}
@@ -85,6 +88,8 @@ use Rattle.pebblelinen.specs.Bases.{keptOf}
 use Rattle.pebblelinen.specs.Markets.{writtenOf}
 use Rattle.pebblelinen.specs.Products.{foundOf}
 use Rattle.pebblelinen.specs.Norms.{normedOf, partitionOf, choiceOf}
+use Rattle.pebblelinen.specs.Evolutions.{evolvedOf}
+use Rattle.pebblelinen.specs.declared.evolutions.EvolvedBasis.{EvolvedBasis}
 use Rattle.pebblelinen.specs.declared.words.Parsed.{Parsed}
 use Rattle.pebblelinen.specs.declared.words.Fitting.{Fitting}
 use Rattle.pebblelinen.specs.declared.actions.CountedPlaces.{CountedPlaces}
@@ -128,6 +133,10 @@ written-cause (Texts.Refused q) r e h = record { cause = q; named = refl; number
 kept-cause : (a : Kept) (r : KeptEntries) → r ≡ keptOf a → Refused (r .status) → Cause Kept Kept.Refused a (r .status)
 kept-cause (Kept.Entries n) r e h = absurd (h (ap (λ (x : KeptEntries). x .status .refusal) e))
 kept-cause (Kept.Refused q) r e h = record { cause = q; named = refl; numbered = ap (λ (x : KeptEntries). x .status) e }
+
+evolved-cause : (a : Evolved) (r : EvolvedBasis) → r ≡ evolvedOf a → Refused (r .status) → Cause Evolved Evolved.Refused a (r .status)
+evolved-cause (Evolved.Products n) r e h = absurd (h (ap (λ (x : EvolvedBasis). x .status .refusal) e))
+evolved-cause (Evolved.Refused q) r e h = record { cause = q; named = refl; numbered = ap (λ (x : EvolvedBasis). x .status) e }
 
 -- ---- calls that return numbers or a word: those beside a refusal
 read-refused : (d : ParsedWord) (r : Parsed) → r ≡ parsedOf d → Refused (r .status) → Refuses (r .status) (λ q. d ≡ Read.Refused q) (r .word ≡ identity)
@@ -461,6 +470,9 @@ refused-changes-nothing = record {
   multiplying = λ c h.
       let k = tests-cause _ _ (c .leaves .answers) h in
       record { cause = k .cause; named = k .named; numbered = k .numbered; unchanged = c .leaves .output-is ∙ multiply-kept (c .rows) (c .offsets) (c .columns) (c .values) (c .input) (c .overwrite) (c .output) (c .work) (k .cause) (k .named) };
+  evolving = λ c h.
+      let k = evolved-cause _ _ (c .leaves .answers) h in
+      record { cause = k .cause; named = k .named; numbered = k .numbered; unchanged = c .leaves .out-is ∙ evolve-kept (c .work) (c .out) (c .model) (c .tables) (c .lanes) (c .coeffs) (c .len) (c .dt) (c .dropTol) (k .cause) (k .named) };
   testing = λ d r e h. let k = tests-cause d r e h in record { cause = k .cause; named = k .named; numbered = k .numbered; unchanged = tt };
   reading = read-refused;
   fitting = fit-refused;

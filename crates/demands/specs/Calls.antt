@@ -28,6 +28,8 @@ use Rattle.generator.specs.Lent as Generator
 use Rattle.generator.specs.Generators.{generate, buildCsr}
 use Rattle.generator_export.specs.Exports.{exportGenerator}
 use Rattle.csr.specs.Products.{multiply}
+use Rattle.evolution.specs.Lent as Evolution
+use Rattle.evolution.specs.Evolutions.{evolve}
 use Rattle.pebblelinen.specs.Words.{Writes}
 use Rattle.pebblelinen.specs.Models.{Leaves}
 use Rattle.pebblelinen.specs.Actions.{LeavesList}
@@ -35,6 +37,8 @@ use Rattle.pebblelinen.specs.Bases.{LeavesBasis, LeavesAdmitted}
 use Rattle.pebblelinen.specs.Leakages.{LeavesLeakage}
 use Rattle.pebblelinen.specs.Generators.{LeavesGenerator, LeavesCsr}
 use Rattle.pebblelinen.specs.Markets.{LeavesMarket}
+use Rattle.pebblelinen.specs.Evolutions.{LeavesEvolution}
+use Rattle.pebblelinen.specs.declared.evolutions.EvolvedBasis.{EvolvedBasis}
 use Rattle.pebblelinen.specs.Products.{LeavesProduct}
 use Rattle.pebblelinen.specs.declared.actions.ListedWords.{ListedWords}
 use Rattle.pebblelinen.specs.declared.bases.KeptEntries.{KeptEntries}
@@ -246,3 +250,19 @@ pub record ProductCall : Type 0 where
   pub output′ : List Float
   pub work′ : List Float
   pub leaves : LeavesProduct (multiply rows offsets columns values input overwrite output work) status output′ work′
+
+-- ---- pebblelinen_evolve
+pub record EvolveCall : Type 0 where
+  pub model : Model
+  pub tables : ModelTables
+  pub lanes : List ℕ
+  pub coeffs : List Float
+  pub len : ℕ
+  pub dt : Float
+  pub dropTol : Float
+  pub work : Evolution.Work
+  pub out : List Float
+  pub answer : EvolvedBasis
+  pub out′ : List Float
+  pub work′ : Evolution.Work
+  pub leaves : LeavesEvolution (evolve work out model tables lanes coeffs len dt dropTol) answer out′ work′

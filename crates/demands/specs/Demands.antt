@@ -51,6 +51,9 @@ use Rattle.generator.specs.Lent.{basisOf}
 use Rattle.generator.specs.Generators.{Generating, CsrBuilding, generate, buildCsr}
 use Rattle.generator_export.specs.Exports.{Exporting, exportGenerator}
 use Rattle.csr.specs.Products.{Multiplying, lengthTests, tableTests, multiply}
+use Rattle.taylor.specs.declared.evolve.Evolved.the-variants as Evolved
+use Rattle.evolution.specs.Lent as Evolution
+use Rattle.evolution.specs.Evolutions.{Evolving, evolve}
 use Rattle.csr.specs.declared.reader.RowRead.{RowRead}
 use Rattle.csr.specs.declared.reader.RowRead.the-variants as RowRead
 use Rattle.expm.specs.Selects.{chosen}
@@ -66,6 +69,8 @@ use Rattle.pebblelinen.specs.Bases.{LeavesBasis, LeavesAdmitted}
 use Rattle.pebblelinen.specs.Leakages.{LeavesLeakage}
 use Rattle.pebblelinen.specs.Generators.{LeavesGenerator, LeavesCsr}
 use Rattle.pebblelinen.specs.Markets.{LeavesMarket}
+use Rattle.pebblelinen.specs.Evolutions.{LeavesEvolution}
+use Rattle.pebblelinen.specs.declared.evolutions.EvolvedBasis.{EvolvedBasis}
 use Rattle.pebblelinen.specs.Products.{foundOf, LeavesProduct}
 use Rattle.pebblelinen.specs.Norms.{LeavesNorm, LeavesPartition, choiceOf}
 use Rattle.pebblelinen.specs.declared.words.Parsed.{Parsed}
@@ -91,7 +96,7 @@ use Rattle.leakage_laws.specs.Calls.{basisWords, basisCoeffs, roomOf, stayAfter
 use Rattle.leakage_laws.specs.Calls as Leak
 use Rattle.generator_laws.specs.Matrices.{Lists, InRow, Grown, Unchanged}
 use Rattle.accounting.specs.Homes.{Accounted, AccountedWithoutRoom}
-use Rattle.demands.specs.Calls.{Accepted, Refused, AllFinite, WriteCall, BuildCall, AddCall, ActionCall, PruneCall, CapCall, AdmitCall, LeakCall, GeneratorCall, CsrCall, MarketCall, ProductCall}
+use Rattle.demands.specs.Calls.{Accepted, Refused, AllFinite, WriteCall, BuildCall, AddCall, ActionCall, PruneCall, CapCall, AdmitCall, LeakCall, GeneratorCall, CsrCall, MarketCall, ProductCall, EvolveCall}
 
 -- ==== 1
 -- "Every accepted call ends with the one answer that document 01 gives for its input." (OneAnswer: one-answer)
@@ -119,6 +124,7 @@ pub record OneAnswer : Type 0 where
   pub multiplying : (d : Multiplying) (r r′ : Status) (o o′ w w′ : List Float) → LeavesProduct d r o w → LeavesProduct d r′ o′ w′ → (r ≡ r′) × (o ≡ o′) × (w ≡ w′)
   pub counting : (d : Counting) (r r′ : CountedPlaces) (h h′ j j′ m m′ w w′ : List ℕ) (x x′ : List Float)
       → LeavesCount d r h j m w x → LeavesCount d r′ h′ j′ m′ w′ x′ → (r ≡ r′) × (h ≡ h′) × (j ≡ j′) × (m ≡ m′) × (w ≡ w′) × (x ≡ x′)
+  pub evolving : (d : Evolving) (r r′ : EvolvedBasis) (o o′ : List Float) (w w′ : Evolution.Work) → LeavesEvolution d r o w → LeavesEvolution d r′ o′ w′ → (r ≡ r′) × (o ≡ o′) × (w ≡ w′)
   pub norming : (d : Norming) (r r′ : NormOfBasis) (w w′ : Norm.Work) → LeavesNorm d r w → LeavesNorm d r′ w′ → (r ≡ r′) × (w ≡ w′)
   pub selecting : (d : Selecting) (r r′ : Partition) (w w′ : Norm.Work) → LeavesPartition d r w → LeavesPartition d r′ w′ → (r ≡ r′) × (w ≡ w′)
 
@@ -163,6 +169,8 @@ pub record ChangesNothing : Type 0 where
       → Refuses (c .answer .status) (λ q. exportGenerator (c .text) (c .work) (c .model) (c .tables) (c .lanes) (c .len) .out .answer ≡ Texts.Refused q) (c .text′ ≡ c .text)
   pub multiplying : (c : ProductCall) → Refused (c .status)
       → Refuses (c .status) (λ q. multiply (c .rows) (c .offsets) (c .columns) (c .values) (c .input) (c .overwrite) (c .output) (c .work) .answer ≡ Tests.Refused q) (c .output′ ≡ c .output)
+  pub evolving : (c : EvolveCall) → Refused (c .answer .status)
+      → Refuses (c .answer .status) (λ q. evolve (c .work) (c .out) (c .model) (c .tables) (c .lanes) (c .coeffs) (c .len) (c .dt) (c .dropTol) .answer ≡ Evolved.Refused q) (c .out′ ≡ c .out)
   -- a lent model tested, of which nothing is written
   pub testing : (d : Answer) (r : Status) → r ≡ answerStatus d → Refused r → Refuses r (λ q. d ≡ Tests.Refused q) (Unit {0})
   -- texts and codes read

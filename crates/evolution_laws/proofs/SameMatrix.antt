@@ -36,7 +36,7 @@ use Rattle.generator_laws.proofs.Accepted.{csr-accepted}
 use Rattle.generator_laws.proofs.RowPlaces.{first-offsets, first-columns, first-values}
 use Rattle.generator_laws.proofs.SoundRows.{below}
 use Rattle.taylor.specs.Stages.{Evolution, evolved, stopped, stages as stagesOf}
-use Rattle.taylor.specs.Evolves.{Evolves, answerAfter, evolveBy, evolveWith}
+use Rattle.taylor.specs.Evolves.{Evolves, answerAfter, outAfter, evolveBy, evolveWith}
 use Rattle.taylor.specs.declared.evolve.Evolved.{Evolved}
 use Rattle.taylor.specs.declared.evolve.Evolved.the-variants.{Products, Refused}
 use Rattle.evolution.specs.Lent.{Work, evolveTests}
@@ -99,3 +99,41 @@ module _ (offsets columns : List ℕ) (values : List Float) (dt : Float) (coeffs
       go : (b : Bool) → eqb (length coeffs) 0 ≡ b → cond b (record { answer = Products 0; out = out }) (evolveWith offsets columns values dt coeffs out (chosen dropTol (floats .times (magnitude dt) norm))) .answer ≡ Products p → Took (length coeffs) dt norm dropTol p
       go true f h = none (eqb-true (length coeffs) 0 f) (cc)
       go false f h = pair (chosen dropTol (floats .times (magnitude dt) norm)) refl h
+
+-- ---- a refusal writes nothing out
+abbrev Safe : List Float → Evolves → Type 0
+Safe out e = (q : Refusal) → e .answer ≡ Refused q → e .out ≡ out
+
+products-not : (q : Refusal) (n : ℕ) → Products n ≡ Refused q → ⊥
+products-not q n e = let z : _≡_ {A = ℕ} 0 1 = cc in omega arith
+
+after-safe : (n k : ℕ) (out : List Float) (e : Evolution) → Safe out (record { answer = answerAfter n e; out = outAfter k out e })
+after-safe n k out (evolved v) q h = absurd (products-not q n h)
+after-safe n k out (stopped r) q h = refl
+
+module _ (offsets columns : List ℕ) (values : List Float) (dt : Float) (coeffs out : List Float) (norm dropTol : Float) where
+  with-safe : (c : Chosen) → Safe out (evolveWith offsets columns values dt coeffs out c)
+  with-safe (Choice.Pair d) = after-safe (d .m * d .s) (length coeffs) out (stagesOf offsets columns values (d .m) (d .s) dt (d .s) coeffs)
+  with-safe (Choice.Refused r) = λ q h. refl
+
+  by-safe : Safe out (evolveBy offsets columns values dt coeffs out norm dropTol)
+  unfolding evolveBy
+  by-safe = go (eqb (length coeffs) 0)
+    where
+      go : (b : Bool) → Safe out (cond b (record { answer = Products 0; out = out }) (evolveWith offsets columns values dt coeffs out (chosen dropTol (floats .times (magnitude dt) norm))))
+      go true = λ q h. refl
+      go false = with-safe (chosen dropTol (floats .times (magnitude dt) norm))
+
+pub evolve-kept : (w : Work) (out : List Float) (m : Model) (t : ModelTables) (lanes : List ℕ) (coeffs : List Float) (len : ℕ) (dt dropTol : Float) (q : Refusal)
+    → evolve w out m t lanes coeffs len dt dropTol .answer ≡ Refused q → evolve w out m t lanes coeffs len dt dropTol .out ≡ out
+unfolding evolve evolveOver
+evolve-kept w out m t lanes coeffs len dt dropTol q e = first (evolveTests m t lanes coeffs len dt dropTol w out) e
+  where
+    second : (a : Answer) → Safe out (roomThen m t (basisOf lanes len) len (take len coeffs) dt dropTol a out)
+    second Tests.Accepted = by-safe _ _ _ dt (take len coeffs) out (unshiftedNorm m t (basisOf lanes len)) dropTol
+    second (Tests.Refused r) = λ q h. refl
+
+    first : (a : Answer) → tested w out a (roomThen m t (basisOf lanes len) len (take len coeffs) dt dropTol (room w out m t lanes coeffs len dt dropTol 0) out) .answer ≡ Refused q
+        → tested w out a (roomThen m t (basisOf lanes len) len (take len coeffs) dt dropTol (room w out m t lanes coeffs len dt dropTol 0) out) .out ≡ out
+    first Tests.Accepted f = second (room w out m t lanes coeffs len dt dropTol 0) q f
+    first (Tests.Refused r) f = refl
