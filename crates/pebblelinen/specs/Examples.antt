@@ -2,7 +2,7 @@
 -- SPDX-License-Identifier: Apache-2.0
 
 -- The examples of document 01 that are proved, as one table: what each says of the definitions.
-use Prim.Native.Nat.{ℕ, suc}
+use Prim.Native.Nat.{ℕ, suc, _-_}
 use mathlib.Core.Path.{_≡_}
 use mathlib.Core.Bool.{Bool, true, false, _&&_}
 use mathlib.Core.List.{List, [], _∷_, _++_}
@@ -10,7 +10,7 @@ use lib.Dec.{eqb}
 use lib.Ieee.{Float, binary64, ofBits, eq}
 use lib.ListN.{length, take, replicate}
 use Rattle.word.specs.Text.{parse}
-use Rattle.word.specs.Flat.{words}
+use Rattle.word.specs.Flat.{wordLanes, words}
 use Rattle.word.specs.Word.{maxQubits, identity, unpack}
 use Rattle.word.specs.Product.{mul, phase}
 use Rattle.word.specs.Order.{same}
@@ -99,7 +99,7 @@ pub data Example : Type 0 where
 -- the lanes of a word for each position, no two alike
 unfoldable pub lanesFor : List ℕ → List ℕ
 lanesFor [] = []
-lanesFor (p ∷ ps) = (suc p ∷ 0 ∷ 0 ∷ 0 ∷ []) ++ lanesFor ps
+lanesFor (p ∷ ps) = (suc p ∷ replicate (wordLanes - 1) 0) ++ lanesFor ps
 
 -- the same words in the same order, with equal numbers
 unfoldable pub lists : List (Onto floats pauli) → List Entry → Bool
