@@ -8,6 +8,8 @@ use mathlib.Core.Logic.{_⊎_, inl, inr}
 use mathlib.Core.List.{List, [], _∷_}
 use Prim.Native.Nat.{ℕ, zero, suc, _<_}
 use native.Mathlib.Omega.{arith}
+use native.Mathlib.Decide.{ℕ-discrete}
+use lib.ListN.{length, getD}
 use borrow.Author.Tests.{lt-ltb, le-ltb}
 use Rattle.word.specs.declared.word.Word.{Word}
 use Rattle.word.specs.declared.word.Ordering.{Ordering}
@@ -34,13 +36,72 @@ at-less : (a b : ℕ) (o : Ordering) → a < b → compareThen a b o ≡ Less
 unfolding compareThen
 at-less a b o h = simp (lt-ltb a b h)
 
-pub at-same : (a b : ℕ) (o : Ordering) → a ≡ b → compareThen a b o ≡ o
+at-same : (a b : ℕ) (o : Ordering) → a ≡ b → compareThen a b o ≡ o
 unfolding compareThen
 at-same a b o h = simp (le-ltb a b (omega arith), le-ltb b a (omega arith))
 
 at-more : (a b : ℕ) (o : Ordering) → b < a → compareThen a b o ≡ Greater
 unfolding compareThen
 at-more a b o h = simp (le-ltb a b (omega arith), lt-ltb b a h)
+
+-- ---- the first difference decides, and nothing after it counts
+decides : (a b : ℕ) (o p : Ordering) → (a ≡ b → ⊥) → compareThen a b o ≡ compareThen a b p
+decides a b o p n = go (three a b)
+  where
+    go : Three a b → compareThen a b o ≡ compareThen a b p
+    go (inl h) = at-less a b o h ∙ sym (at-less a b p h)
+    go (inr (inl h)) = absurd (n h)
+    go (inr (inr h)) = at-more a b o h ∙ sym (at-more a b p h)
+
+-- the lanes below k are equal
+pub record Alike (l m : List ℕ) (k : ℕ) : Type 0 where
+  pub at : (i : ℕ) → i < k → getD l i 0 ≡ getD m i 0
+
+pub alike-none : {l m : List ℕ} → Alike l m 0
+alike-none = record { at = λ i h. absurd (omega arith) }
+
+pub alike-more : {l m : List ℕ} {k : ℕ} → Alike l m k → getD l k 0 ≡ getD m k 0 → Alike l m (suc k)
+alike-more {l} {m} {k} s e = record { at = λ i h. go i h (ℕ-discrete i k) }
+  where
+    go : (i : ℕ) → i < suc k → Dec (i ≡ k) → getD l i 0 ≡ getD m i 0
+    go i h (yes z) = rw z e
+    go i h (no z) = s .at i (omega arith)
+
+pub first-differs : (k : ℕ) (l m : List ℕ) (o p : Ordering) → k < length l → k < length m
+    → Alike l m k → (getD l k 0 ≡ getD m k 0 → ⊥) → compareThen (getD l k 0) (getD m k 0) p ≡ compareLanes l m o
+unfolding compareLanes
+first-differs k [] m o p hl hm s n = absurd (omega arith)
+first-differs k (a ∷ l) [] o p hl hm s n = absurd (omega arith)
+first-differs zero (a ∷ l) (b ∷ m) o p hl hm s n = decides a b p (compareLanes l m o) n
+first-differs (suc k) (a ∷ l) (b ∷ m) o p hl hm s n =
+    first-differs k l m o p (omega arith) (omega arith) (record { at = λ i h. s .at (suc i) (omega arith) }) n
+    ∙ sym (at-same a b (compareLanes l m o) (s .at 0 (omega arith)))
+
+pub last-lane : (k : ℕ) (l m : List ℕ) (o : Ordering) → length l ≡ suc k → length m ≡ suc k
+    → Alike l m k → compareThen (getD l k 0) (getD m k 0) o ≡ compareLanes l m o
+unfolding compareLanes
+last-lane k [] m o hl hm s = absurd (omega arith)
+last-lane k (a ∷ l) [] o hl hm s = absurd (omega arith)
+last-lane zero (a ∷ []) (b ∷ []) o hl hm s = refl
+last-lane zero (a ∷ []) (b ∷ c ∷ m) o hl hm s = absurd (omega arith)
+last-lane zero (a ∷ c ∷ l) (b ∷ m) o hl hm s = absurd (omega arith)
+last-lane (suc k) (a ∷ l) (b ∷ m) o hl hm s =
+    last-lane k l m o (omega arith) (omega arith) (record { at = λ i h. s .at (suc i) (omega arith) })
+    ∙ sym (at-same a b (compareLanes l m o) (s .at 0 (omega arith)))
+
+-- lanes that are all equal decide nothing
+pub all-alike : (l m : List ℕ) (o : Ordering) → length l ≡ length m → Alike l m (length l) → o ≡ compareLanes l m o
+unfolding compareLanes
+all-alike [] [] o e s = refl
+all-alike [] (b ∷ m) o e s = absurd (omega arith)
+all-alike (a ∷ l) [] o e s = absurd (omega arith)
+all-alike (a ∷ l) (b ∷ m) o e s =
+    all-alike l m o (omega arith) (record { at = λ i h. s .at (suc i) (omega arith) })
+    ∙ sym (at-same a b (compareLanes l m o) (s .at 0 (omega arith)))
+
+pub x-decides : (p q : Word) (r : Ordering) → r ≡ compareLanes (p .x) (q .x) (compareLanes (p .z) (q .z) Equal) → r ≡ compare p q
+unfolding compare
+x-decides p q r h = h
 
 -- ---- turned round
 abbrev turned : Ordering → Ordering

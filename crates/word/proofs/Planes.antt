@@ -7,24 +7,25 @@ use mathlib.Core.List.{List}
 use Prim.Native.Nat.{ℕ, zero, suc, _+_, _-_, _*_, _/_, _%_, _^_, _<_}
 use native.Mathlib.Omega.{arith}
 use native.Mathlib.Decide.{decLt}
-use lib.Dec.{eqb}
+use lib.Dec.{eqb, eqb→eq}
 use lib.Ieee.{Float}
-use lib.Bits.{bitAnd, bitXor, and-lt, xor-lt}
+use lib.Bits.{bitAnd, bitOr, bitXor, and-lt, xor-lt}
 use lib.Count.{ones}
 use lib.ListN.{getD, length, List·getD-eq-default}
 use Rattle.word.specs.Count.{sumTo, tabulate}
-use Rattle.word.specs.Letter.{mulLetter}
-use Rattle.word.specs.Word.{laneCount, letterAt, Sound}
+use Rattle.word.specs.Letter.{mulLetter, mulPhase}
+use Rattle.word.specs.Word.{laneCount, bit, letterAt, Sound}
 use Rattle.word.specs.Product.{mul, phase, product, antiCommute, factor, commutator}
-use Rattle.word.specs.Steps.{lanePhase, planePhase}
+use Rattle.word.specs.Steps.{lanePhase, lanePhaseAt, planePhase}
 use Rattle.word.specs.declared.word.Word.{Word}
 use Rattle.word.specs.declared.algebra.Phased.{Phased}
 use Rattle.word.specs.declared.algebra.Planes.{Planes}
-use Rattle.word.proofs.Sums.{length-tabulate, getD-tabulate, tabulate-lt}
-use Rattle.word.proofs.Digits.{ones-xor}
+use Rattle.word.proofs.Sums.{sum-none, length-tabulate, getD-tabulate, tabulate-lt}
+use Rattle.word.proofs.Digits.{at-bits, bit-lt, zero-bit, ones-xor}
 use Rattle.word.proofs.Lanes.{imag, sign, imag-lt, sign-lt, lane-counts, lane-odd, lanes-phase, letter-xor}
 use Rattle.word.proofs.Words.{word-is}
 use Rattle.word.proofs.WordLaws.{phase-lt}
+use Rattle.word.proofs.Tests.{or-zero}
 
 -- ---- one lane's phases added
 module _ (low high a b c d : ℕ) (hl : low < 2 ^ 64) (hh : high < 2 ^ 64)
@@ -43,9 +44,23 @@ module _ (low high a b c d : ℕ) (hl : low < 2 ^ 64) (hh : high < 2 ^ 64)
       let l = lane-counts a b c d ha hb hc hd in
       omega arith
 
+-- no letter on the left, no phase
+pub lane-none : (a b c d : ℕ) → a ≡ 0 → b ≡ 0 → lanePhase a b c d ≡ 0
+unfolding lanePhase mulPhase
+lane-none a b c d ha hb = rw (ha, hb) (sum-none 64 _ (λ k l. simp zero-bit
+    (eqb→eq _ _ (at-bits (λ a b c d. eqb (mulPhase 0 (c + 2 * d)) 0) tt 0 0 (bit c k) (bit d k) (omega arith) (omega arith) (bit-lt _ _) (bit-lt _ _)))))
+
+pub none-added : (a b c d e f g h : ℕ) (t : Planes) → bitOr (bitOr a b) (bitOr e f) ≡ 0 → planePhase t ≡ (planePhase t + (lanePhase a b c d + lanePhase e f g h)) % 4
+unfolding planePhase
+none-added a b c d e f g h t n =
+    let o = or-zero (bitOr a b) (bitOr e f) n in
+    let l = or-zero a b (o .0) in
+    let m = or-zero e f (o .1) in
+    omega (arith, lane-none a b c d (l .0) (l .1), lane-none e f g h (m .0) (m .1))
+
 -- ---- lane by lane
 abbrev lane : Word → Word → ℕ → ℕ
-lane p q i = lanePhase (getD (p .x) i 0) (getD (p .z) i 0) (getD (q .x) i 0) (getD (q .z) i 0)
+lane p q i = lanePhaseAt p q i
 
 -- the phases of the first n lanes are added
 pub record Added (p q : Word) (n : ℕ) (t : Planes) : Type 0 where
@@ -58,6 +73,10 @@ added-none p q = record { sum = refl }
 pub added-more : {p q : Word} {n : ℕ} {t u : Planes} → Added p q n t → planePhase u ≡ (planePhase t + lane p q n) % 4 → Added p q (suc n) u
 unfolding sumTo
 added-more h e = record { sum = omega (arith, h .sum, e) }
+
+pub added-two : {p q : Word} {n : ℕ} {t u : Planes} → Added p q n t → planePhase u ≡ (planePhase t + (lane p q n + lane p q (suc n))) % 4 → Added p q (suc (suc n)) u
+unfolding sumTo
+added-two h e = record { sum = omega (arith, h .sum, e) }
 
 pub phase-is : {p q : Word} {t : Planes} {r : ℕ} → Added p q laneCount t → r ≡ planePhase t → r ≡ phase p q
 unfolding phase

@@ -16,17 +16,14 @@ use lib.Seq.{ext-getD}
 use Rattle.word.specs.Count.{anyTo, tabulate}
 use Rattle.word.specs.Word.{laneCount, bit, Sound}
 use Rattle.word.specs.Register.{actsOn, share}
-use Rattle.word.specs.Order.{compareThen, compareLanes, compare, same}
+use Rattle.word.specs.Order.{same}
 use Rattle.word.specs.declared.word.Word.{Word}
-use Rattle.word.specs.Steps.{compareTwo}
-use Rattle.word.specs.declared.word.Ordering.{Ordering}
-use Rattle.word.specs.declared.word.Ordering.the-variants.{Equal}
 use Rattle.word.proofs.Sums.{any-cong, any-runs}
 use Rattle.word.proofs.Digits.{at-bits, bit-lt, bit-and, bit-or, any-digit}
 use Rattle.word.proofs.Lanes.{letter-in}
 use Rattle.word.proofs.Words.{word-eq, one-by-one}
 use Rattle.word.proofs.NextLaws.{acting}
-use Rattle.word.proofs.OrderLaws.{at-same, same-self, same-eq}
+use Rattle.word.proofs.OrderLaws.{same-self, same-eq}
 
 beq-eq : (a b : Bool) → T (Bool·beq a b) → a ≡ b
 beq-eq true true t = refl
@@ -128,28 +125,3 @@ same-is p q sp sq = go (ℕ-discrete (orTo (laneCount - 1) (differing p q)) 0) (
     go (yes h) b e = eq-eqb _ 0 h ∙ sym (ap (same p) (sym (none-differing p q sp sq h)) ∙ same-self p)
     go (no h) true e = absurd (h (ap (λ (v : Word). orTo (laneCount - 1) (differing p v)) (sym (same-eq p q e)) ∙ self-differing p))
     go (no h) false e = ne-eqb _ 0 h ∙ sym e
-
--- ---- the order, lane by lane
-abbrev laneList : List ℕ → List ℕ
-laneList l = tabulate laneCount (λ i. getD l i 0)
-
-pub compare-is : (l m : List ℕ) (after : Ordering) → length l ≡ laneCount → length m ≡ laneCount → compareLanes (laneList l) (laneList m) after ≡ compareLanes l m after
-compare-is l m after hl hm = ap₂ (λ (a b : List ℕ). compareLanes a b after) (one-by-one l hl) (one-by-one m hm)
-
--- lanes that are equal decide nothing: where all but the first two are, those two do
-two-decide : (l m : List ℕ) (after : Ordering) → length l ≡ laneCount → length m ≡ laneCount
-    → getD l 2 0 ≡ getD m 2 0 → getD l 3 0 ≡ getD m 3 0 → compareTwo l m after ≡ compareLanes l m after
-unfolding tabulate compareLanes compareTwo
-two-decide l m after hl hm e f =
-    sym (ap (compareTwo l m) (at-same _ _ (compareThen (getD l 3 0) (getD m 3 0) after) e ∙ at-same _ _ after f))
-    ∙ compare-is l m after hl hm
-
-pub lower-decide : (p q : Word) → Sound p → Sound q → bitOr (differing p q 2) (differing p q 3) ≡ 0
-    → compareTwo (p .x) (q .x) (compareTwo (p .z) (q .z) Equal) ≡ compare p q
-unfolding compare
-lower-decide p q sp sq h =
-    let d = or-zero (differing p q 2) (differing p q 3) h in
-    let s = or-zero _ _ (d .0) in
-    let t = or-zero _ _ (d .1) in
-    ap (compareTwo (p .x) (q .x)) (two-decide (p .z) (q .z) Equal (sp .z-lanes) (sq .z-lanes) (xor-zero _ _ (s .1)) (xor-zero _ _ (t .1)))
-    ∙ two-decide (p .x) (q .x) (compareLanes (p .z) (q .z) Equal) (sp .x-lanes) (sq .x-lanes) (xor-zero _ _ (s .0)) (xor-zero _ _ (t .0))

@@ -12,9 +12,7 @@ use lib.ListN.{getD}
 use Rattle.word.specs.Count.{sumTo}
 use Rattle.word.specs.Letter.{mulPhase}
 use Rattle.word.specs.Word.{bit, letterAt, Sound}
-use Rattle.word.specs.Order.{compareThen}
 use Rattle.word.specs.declared.word.Word.{Word}
-use Rattle.word.specs.declared.word.Ordering.{Ordering}
 use Rattle.word.specs.declared.word.Scan.{Scan}
 use Rattle.word.specs.declared.word.Scan.the-variants.{Letters, Foreign}
 use Rattle.word.specs.declared.algebra.Planes.{Planes}
@@ -37,10 +35,10 @@ scanFrom k (b ∷ s) = cond (eqb b 95) (scanFrom k s) (cond (leb 128 b) (Foreign
 unfoldable pub lanePhase : ℕ → ℕ → ℕ → ℕ → ℕ
 lanePhase a b c d = sumTo 64 (λ k. mulPhase (bit a k + 2 * bit b k) (bit c k + 2 * bit d k))
 
+-- those of lane i
+abbrev pub lanePhaseAt : Word → Word → ℕ → ℕ
+lanePhaseAt p q i = lanePhase (getD (p .x) i 0) (getD (p .z) i 0) (getD (q .x) i 0) (getD (q .z) i 0)
+
 -- the counts of two bit planes, added up
 unfoldable pub planePhase : Planes → ℕ
 planePhase t = (ones (t .low) + 2 * ones (t .high)) % 4
-
--- the first two lanes of a against those of b, and where they are equal, what comes after
-unfoldable pub compareTwo : List ℕ → List ℕ → Ordering → Ordering
-compareTwo a b after = compareThen (getD a 0 0) (getD b 0 0) (compareThen (getD a 1 0) (getD b 1 0) after)

@@ -9,7 +9,7 @@
 ghost use mathlib.Core.Path.{_≡_};
 ghost use Prim.Native.Nat.{_+_, _*_, _%_};
 ghost use Rattle.word.specs.Product.{product, antiCommute, factor, commutator};
-ghost use Rattle.word.specs.Steps.{planePhase, lanePhase};
+ghost use Rattle.word.specs.Steps.{planePhase, lanePhase, lanePhaseAt};
 use crate::word::Word;
 
 // i^phase times a word.
@@ -45,6 +45,22 @@ fn add_lane(t: Planes, a: u64, b: u64, c: u64, d: u64) -> Planes
     }
 }
 
+// The counts with the phases of the lanes from qubit 128 on added. Where the left word has no letter there, as
+// words of at most 128 qubits, and most terms of a wide model, have none, there are no phases.
+fn add_upper(t: Planes, p: Word, q: Word) -> Planes
+    ensures { λ r. ⌜ planePhase r ≡ (planePhase t + (lanePhaseAt p q 2 + lanePhaseAt p q 3)) % 4 ⌝ }
+{
+    let x = p.x;
+    let z = p.z;
+    let u = q.x;
+    let v = q.z;
+    if (x[2] | z[2]) | (x[3] | z[3]) == 0 {
+        return t;
+    }
+    let third = add_lane(t, x[2], z[2], u[2], v[2]);
+    add_lane(third, x[3], z[3], u[3], v[3])
+}
+
 fn phase_of(t: Planes) -> u32
     ensures { λ r. ⌜ r ≡ planePhase t ⌝ }
 {
@@ -62,8 +78,7 @@ pub fn pauli_mul(p: Word, q: Word) -> Phased
     let none = Planes { low: 0, high: 0 };
     let first = add_lane(none, x[0], z[0], u[0], v[0]);
     let second = add_lane(first, x[1], z[1], u[1], v[1]);
-    let third = add_lane(second, x[2], z[2], u[2], v[2]);
-    let all = add_lane(third, x[3], z[3], u[3], v[3]);
+    let all = add_upper(second, p, q);
     let phase = phase_of(all);
     Phased {
         word: Word {

@@ -11,7 +11,8 @@ ghost use Rattle.word.specs.Text.{codeOf, dropped, readLetters, parse};
 ghost use Rattle.word.specs.Codes.{readCodes};
 ghost use Rattle.word.specs.Register.{reaches, share};
 ghost use Rattle.word.specs.Order.{compareThen, compareLanes, compare, same};
-ghost use Rattle.word.specs.Steps.{chosen, Put, scanFrom, compareTwo};
+ghost use Rattle.word.specs.declared.word.Ordering.the-variants.{Equal};
+ghost use Rattle.word.specs.Steps.{chosen, Put, scanFrom};
 use refusal::Answer;
 use refusal::Refusal;
 ghost use Rattle.word.specs.Between.{Wrote, NextQubit};
@@ -319,9 +320,9 @@ pub fn shares_qubit(p: Word, q: Word) -> bool
     s0 | s1 | s2 | s3 != 0
 }
 
-// a against b, and where they are equal, what comes after.
-fn compare_then(a: u64, b: u64, after: Ordering) -> Ordering
-    ensures { λ r. ⌜ r ≡ compareThen a b after ⌝ }
+// a against b.
+fn compare_numbers(a: u64, b: u64) -> Ordering
+    ensures { λ r. ⌜ r ≡ compareThen a b Equal ⌝ }
 {
     if a < b {
         return Ordering::Less;
@@ -329,41 +330,46 @@ fn compare_then(a: u64, b: u64, after: Ordering) -> Ordering
     if b < a {
         return Ordering::Greater;
     }
-    after
+    Ordering::Equal
 }
 
-// The first two lanes of a against those of b, and where they are equal, what comes after.
-fn compare_two(a: [u64; LANES], b: [u64; LANES], after: Ordering) -> Ordering
-    ensures { λ r. ⌜ r ≡ compareTwo a b after ⌝ }
+// The lanes a against the lanes b as numbers. The first difference decides, and nothing is looked at after it.
+fn compare_lanes(a: [u64; LANES], b: [u64; LANES]) -> Ordering
+    ensures { λ r. ⌜ r ≡ compareLanes a b Equal ⌝ }
 {
-    let last = compare_then(a[1], b[1], after);
-    compare_then(a[0], b[0], last)
+    if a[0] != b[0] {
+        return compare_numbers(a[0], b[0]);
+    }
+    if a[1] != b[1] {
+        return compare_numbers(a[1], b[1]);
+    }
+    if a[2] != b[2] {
+        return compare_numbers(a[2], b[2]);
+    }
+    compare_numbers(a[3], b[3])
 }
 
-// The lanes a against the lanes b as numbers, and where they are equal, what comes after.
-fn compare_lanes(a: [u64; LANES], b: [u64; LANES], after: Ordering) -> Ordering
-    ensures { λ r. ⌜ r ≡ compareLanes a b after ⌝ }
-{
-    let last = compare_then(a[3], b[3], after);
-    let third = compare_then(a[2], b[2], last);
-    compare_two(a, b, third)
-}
-
-// The order of words: x lanes, then z lanes; the first difference decides. Lanes that are equal decide
-// nothing, and those from qubit 128 on are empty in most words.
+// The order of words: x lanes, then z lanes; the first difference decides.
 pub fn compare_words(p: Word, q: Word) -> Ordering
     ensures { λ r. ⌜ r ≡ compare p q ⌝ }
 {
     let px = p.x;
     let qx = q.x;
+    if px[0] != qx[0] {
+        return compare_numbers(px[0], qx[0]);
+    }
+    if px[1] != qx[1] {
+        return compare_numbers(px[1], qx[1]);
+    }
+    if px[2] != qx[2] {
+        return compare_numbers(px[2], qx[2]);
+    }
+    if px[3] != qx[3] {
+        return compare_numbers(px[3], qx[3]);
+    }
     let pz = p.z;
     let qz = q.z;
-    let d2 = (px[2] ^ qx[2]) | (pz[2] ^ qz[2]);
-    let d3 = (px[3] ^ qx[3]) | (pz[3] ^ qz[3]);
-    if d2 | d3 == 0 {
-        return compare_two(px, qx, compare_two(pz, qz, Ordering::Equal));
-    }
-    compare_lanes(px, qx, compare_lanes(pz, qz, Ordering::Equal))
+    compare_lanes(pz, qz)
 }
 
 pub fn same_word(p: Word, q: Word) -> bool

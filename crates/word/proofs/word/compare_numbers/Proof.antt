@@ -1,11 +1,11 @@
 -- SPDX-FileCopyrightText: 2026 The PPVM Authors
 -- SPDX-License-Identifier: Apache-2.0
 
--- `word::compare_then` meets its contract. Assumes nothing.
+-- `word::compare_numbers` meets its contract. Assumes nothing.
 use borrow.Author.Tests.{le-ltb, lt-ltb}
 use Rattle.word.specs.Order.{compareThen}
-use Rattle.word.proofs.word.compare_then.Statement.{statement}
-use Rattle.word.proofs.word.compare_then.Tie as tie
+use Rattle.word.proofs.word.compare_numbers.Statement.{statement}
+use Rattle.word.proofs.word.compare_numbers.Tie as tie
 
 returns : tie.Need-returns
 unfolding compareThen
@@ -19,5 +19,5 @@ returns-3 : tie.Need-returns-3
 unfolding compareThen
 returns-3 c = simp (le-ltb _ _ (c .before .if1 .left), le-ltb _ _ (c .if2 .left))
 
-pub compare-then-spec : {M : Type 1} → statement M
-compare-then-spec = tie.close (tie.spec returns returns-2 returns-3)
+pub compare-numbers-spec : {M : Type 1} → statement M
+compare-numbers-spec = tie.close (tie.spec returns returns-2 returns-3)
