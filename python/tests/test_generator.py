@@ -424,9 +424,9 @@ class Demo(test_command.Case):
     def test_demo(self):
         out = self.answered("demo", "--rounds", "4", "--limit", "200")
         self.assertIn("a chain of 256 qubits with couplings, fields, decay and dephasing", out)
-        self.assertIn("action on the observable, Z on qubit 64:", out)
-        self.assertIn("position 0: Z64, coefficient", out)
-        self.assertIn("200 positions have a letter on qubit 64", out)
+        self.assertIn("action on the observable, Z on qubit 128:", out)
+        self.assertIn("position 0: Z128, coefficient", out)
+        self.assertIn("200 positions have a letter on qubit 128", out)
         answer = self.json("demo", "--rounds", "4", "--limit", "200")
         self.assertEqual([each["words"] for each in answer["rounds"]], [6, 26, 96, 200])
         self.assertEqual(answer["rounds"][0]["largest_leakage"], 2.0)
