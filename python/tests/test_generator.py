@@ -362,6 +362,8 @@ class Ceiling(test_refusals.Case):
             call = lambda: model.degree(basis, dt=dt, drop_tol=drop_tol)  # noqa: E731
             self.refused(16, {"m": 30, "s": 34953}, said, call)
         self.assertEqual(model.degree(Basis(1), dt=1e300)[:2], (1, 1))
+        said = "dt is nan: a finite number is needed"
+        self.refused(7, {"threshold": "dt"}, said, lambda: model.degree(Basis(1), dt=NAN))
 
     def test_the_largest_dt(self):
         """It is accepted, and the next number is not."""
