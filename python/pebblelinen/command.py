@@ -467,13 +467,13 @@ def _demo(options: argparse.Namespace) -> _Answers:
         yield from _listed(model.action(demo.OBSERVABLE), True)
         yield ""
         yield f"a basis grows around it: at most {options.limit} words, time step {options.dt!r}"
-        yield "  round  leaked  largest leakage  words  entries of the generator  seconds"
+        yield "  round  leaked  largest leakage  words  products  seconds"
         for each in rounds():
             no_room = math.isnan(each.largest_leakage)
             largest = "no room" if no_room else f"{each.largest_leakage:.6f}"
             yield (
                 f"  {each.number:5}  {each.leaked:6}  {largest:>15}  {each.words:5}"
-                f"  {each.entries:24}  {each.seconds:7.3f}"
+                f"  {each.products:8}  {each.seconds:7.3f}"
             )
         yield ""
         yield "the largest entries of the basis, by position:"
