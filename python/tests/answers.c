@@ -3,7 +3,8 @@
  *
  * Calls from C whose answers are known: operators that are too long, calls that need no place and are lent
  * none, tables too short by one, the generator as a text, evolutions that grow too large or take too long, rows of
- * matrices that are wrong, registers that are too large. Writes a line for each answer that is another, and how many were asked.
+ * matrices that are wrong, registers that are too large. Writes a line for each answer that is another, and how many
+ * were asked.
  */
 #include <math.h>
 #include <stdio.h>
