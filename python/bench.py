@@ -1,7 +1,7 @@
 # SPDX-FileCopyrightText: 2026 The PPVM Authors
 # SPDX-License-Identifier: Apache-2.0
-"""What the package costs beside the C call: leakage, generator, CSR and Matrix Market of a chain of 256 qubits over
-65,536 words, building a large model, and loading.
+"""What the package costs beside the C call: leakage, generator, CSR, Matrix Market and evolution of a chain of 256 qubits
+over 65,536 words, building a large model, and loading.
 
 usage: python/run bench [--words N] [--rounds R] [--seed S]
 
@@ -12,6 +12,9 @@ first call of the package, which finds out how long its tables must be, is told 
 
 The text of Matrix Market is also timed, beyond the generator that it is made from, beside a loop of fprintf over the
 same entries to /dev/null (fprintf_loop.c) and beside scipy's mmwrite of the counts to memory.
+
+The evolution is held to the definition, bit for bit, with scipy's products and the norm and degree of tests/taylor.py, and
+timed beside its parts, the matrix by rows and as many products, and beside scipy's expm_multiply on the same matrix.
 
 The large model has 4,096 Hamiltonian terms and 4,096 jumps of two terms, words on two neighbours; the package
 builds it from words that were read before, the C call from their texts; and changes one rate of it."""
@@ -27,7 +30,8 @@ from pathlib import Path
 
 import numpy as np
 
-from pebblelinen import Basis, Model, Word, _library
+import taylor
+from pebblelinen import Basis, Model, Word, _library, _tables, product
 from pebblelinen._lanes import WORD_LANES, split
 
 QUBITS = 256
@@ -37,6 +41,8 @@ TOUCHED = 1024
 CANDIDATES = 1 << 17
 # More entries in a column than there are on average.
 ENTRIES = 16
+# A time step.
+STEP = 0.05
 
 
 def chain(rng):
@@ -80,7 +86,7 @@ def c_call(name, *arguments):
         assert answer.status.refusal == 0, answer.status.refusal
         if hasattr(answer, "model"):
             return answer.model.hamiltonian
-        return answer.bytes if hasattr(answer, "bytes") else answer.count
+        return next(getattr(answer, name) for name in ("bytes", "products", "count") if hasattr(answer, name))
 
     return call
 
@@ -120,6 +126,21 @@ def generator_call(name, model, basis, out):
         len(basis),
         *tables(lengths, types),
         *out(entries),
+    )
+
+
+def evolution_call(model, basis):
+    lengths = _library.call("evolution_sizes", QUBITS, len(basis), TOUCHED, ENTRIES * len(basis))
+    return c_call(
+        "evolve",
+        *model._lent(),
+        basis.lanes,
+        basis.coefficients,
+        len(basis),
+        STEP,
+        0.0,
+        *tables(lengths, _tables._TYPES),
+        np.zeros(len(basis)),
     )
 
 
@@ -171,6 +192,42 @@ def matrix_market(model, basis, rounds):
         f" scipy's mmwrite {scipys * 1e3:.0f} ms"
     )
     return beyond / best[loop]
+
+
+def evolution(model, basis, rounds):
+    """What an evolution takes, as a part of what its matrix and its products take."""
+    import scipy.sparse.linalg
+
+    csr, c = model.csr(basis), basis.coefficients
+    found, products = model.evolve(basis, dt=STEP)
+    raws = np.bincount(model.generator(basis).col, abs(model.generator(basis).data))
+    m, s = taylor.degree(STEP * raws.max(), 0.0)
+    v = c.copy()
+    for _ in range(s):
+        b = v
+        for j in range(1, m + 1):
+            b = (csr @ b) * (STEP / (s * j))
+            v = v + b
+    assert (found.coefficients.tobytes(), products) == (v.tobytes(), m * s), "it is the definition's"
+    out, exponent = np.zeros(len(basis)), STEP * csr
+    calls = {
+        "evolve": lambda: model.evolve(basis, dt=STEP),
+        "csr": lambda: model.csr(basis),
+        "product": lambda: product(csr, c, out=out),
+        "scipy": lambda: scipy.sparse.linalg.expm_multiply(exponent, c),
+    }
+    best = dict.fromkeys(calls, float("inf"))
+    for _ in range(rounds):
+        for name, call in calls.items():
+            best[name] = min(best[name], timed(call)[0])
+    off = abs(calls["scipy"]() - found.coefficients).max()
+    parts = best["csr"] + products * best["product"]
+    print(
+        f"evolution by dt = {STEP}, {products} products over {csr.nnz} entries: {best['evolve'] * 1e3:.1f} ms; CSR"
+        f" {best['csr'] * 1e3:.1f} ms and {products} products of {best['product'] * 1e3:.2f} ms are {parts * 1e3:.1f} ms"
+        f" ({best['evolve'] / parts:.2f} of it); scipy's expm_multiply {best['scipy'] * 1e3:.1f} ms, off by at most {off:.1e}"
+    )
+    return best["evolve"] / parts
 
 
 def items(rng):
@@ -281,11 +338,13 @@ def main():
             lambda: len(model.matrix_market(basis)),
             lambda: generator_call("matrix_market", model, basis, of_text),
         ),
+        ("evolution", lambda: model.evolve(basis, dt=STEP).products, lambda: evolution_call(model, basis)),
     ]
     worst = max(
         compare(what, package, direct(), options.rounds) for what, package, direct in comparisons
     )
     written = matrix_market(model, basis, options.rounds)
+    evolved = evolution(model, basis, options.rounds)
     given = items(rng)
     built = compare(
         "building", lambda: len(Model(QUBITS, *given).hamiltonian), building_call(*given), 10 * options.rounds
@@ -293,7 +352,7 @@ def main():
     retuned = retuning(given, 10 * options.rounds)
     clock, processor = loading()
     print(f"loading: {clock:.3f} s, {processor:.3f} s of the processor")
-    return 0 if worst < 0.05 and written <= 1 and built < 1 and retuned < 0.05 and processor < 0.3 else 1
+    return 0 if worst < 0.05 and written <= 1 and evolved <= 1 and built < 1 and retuned < 0.05 and processor < 0.3 else 1
 
 
 if __name__ == "__main__":

@@ -10,7 +10,7 @@
  *
  * Run under valgrind, slices are blocks of their exact length. With `pages` each ends at a page that cannot
  * be touched, which is quick and needs no valgrind. WITH_GENERATOR adds generator, CSR, Matrix Market, product,
- * norm and degree.
+ * norm, degree and evolution.
  */
 #include <math.h>
 #include <stdio.h>
@@ -340,6 +340,7 @@ static void call_algebra(void) {
     (void)pebblelinen_basis_sizes(odd_count(), odd_count(), odd_count());
     (void)pebblelinen_leakage_sizes(odd_count(), odd_count(), odd_count(), odd_count(), odd_count());
     (void)pebblelinen_matrix_market_text(odd_count());
+    (void)pebblelinen_evolution_sizes(odd_count(), odd_count(), odd_count(), odd_count());
     pebblelinen_fitting fitting = pebblelinen_fits_register(p, odd_count());
     if (fitting.status.refusal && fitting.fits) wrong("a word fits a register that was refused", 0);
     check(fitting.status);
@@ -562,6 +563,37 @@ static void call_norm(void) {
                                                P(mask), P(heads), P(nexts), P(work), P(sums), P(raws), P(diags))
                            .status);
 }
+
+static void call_evolve(void) {
+    bool few = chance(50);
+    size_t n = few ? 1 : some_qubits(), len = few ? 2 : below(12), entries = below(100);
+    double dt = some_number(), drop_tol = some_number();
+    Tables t = some_model(n, READ);
+    Slice words = some_words(len, n, READ), coeffs = some_numbers(len, READ);
+    for (size_t i = 0; i < len && chance(20); i++) ((double *)coeffs.p)[i] = 1.5e308;
+    pebblelinen_evolution_lengths sizes = pebblelinen_evolution_sizes(n, len, below(40), entries);
+    enum { TABLES = sizeof sizes / sizeof sizes.h_index };
+    size_t lengths[TABLES];
+    memcpy(lengths, &sizes, sizeof lengths);
+    Slice w[TABLES];
+    lend_tables(&t), lend(&words), lend(&coeffs);
+    /* Rows and columns of entries have 32 bits. */
+    for (size_t i = 0; i < TABLES; i++) w[i] = make(lengths[i], i == 7 || i == 8 || i == 11 ? 4 : 8, WORK), lend(&w[i]);
+    Slice out = some_numbers(len + below(3), CHANGED);
+    lend(&out);
+    damage((size_t *[]){MODEL_COUNTS(t), &len}, 5, (double *[]){&dt, &drop_tol}, 2);
+    /* Steps that ask for many products, but no long waits. */
+    if (chance(10)) dt = 1e9;
+    else if (isfinite(dt) && fabs(dt) > 100) dt = copysign(100, dt);
+    pebblelinen_evolved evolved = pebblelinen_evolve(
+        MODEL(t), P(words), P(coeffs), len, dt, drop_tol, P(w[0]), P(w[1]), P(w[2]), P(w[3]), P(w[4]), P(w[5]), P(w[6]),
+        P(w[7]), P(w[8]), P(w[9]), P(w[10]), P(w[11]), P(w[12]), P(w[13]), P(w[14]), P(w[15]), P(out));
+    if (evolved.products > PEBBLELINEN_MAX_PRODUCTS || (evolved.status.refusal && evolved.products))
+        wrong("products are above the ceiling", evolved.status.refusal);
+    for (size_t i = 0; i < len && !evolved.status.refusal; i++)
+        if (!isfinite(((double *)out.p)[i])) wrong("an evolved number is not finite", 0);
+    check(evolved.status);
+}
 #endif
 
 static const struct {
@@ -579,6 +611,7 @@ static const struct {
     {"generator", call_generator}, {"build_csr", call_csr},
     {"matrix_market", call_market},
     {"dot", call_dot}, {"norm", call_norm},
+    {"evolve", call_evolve},
 #endif
 };
 

@@ -18,7 +18,7 @@ from .items import Jump, Matrix
 from .kossakowski import split_matrix
 from .leakage import Leakage
 from .matrix import Choice, product, row, select_ms
-from .model import Degree, Model, Norm
+from .model import Degree, Evolved, Model, Norm
 from .modelfile import ModelFile, load, save
 from .terms import Terms
 from .words import Position, Qubit, Word
@@ -29,6 +29,7 @@ __all__ = [
     "Choice",
     "Degree",
     "Entry",
+    "Evolved",
     "InputError",
     "Jump",
     "Leakage",

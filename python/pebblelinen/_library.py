@@ -197,6 +197,36 @@ class GeneratorLengths(Structure):
 
 
 @_struct
+class EvolutionLengths(Structure):
+    """The lengths of the work tables of an evolution: those of the generator, the matrix, and its numbers."""
+
+    h_index: Size
+    j_index: Size
+    mask: Size
+    heads: Size
+    nexts: Size
+    work_words: Size
+    work_sums: Size
+    stage_rows: Size
+    stage_columns: Size
+    stage_values: Size
+    offsets: Size
+    columns: Size
+    values: Size
+    v: Size
+    b: Size
+    product: Size
+
+
+@_struct
+class Evolved(Structure):
+    """How many products an evolution took."""
+
+    status: Status
+    products: Size
+
+
+@_struct
 class Written(Structure):
     """How long the text is that was written."""
 
@@ -289,6 +319,11 @@ _FUNCTIONS: dict[str, tuple[Any, list[Any]]] = {
     "expm_degree": (
         Partition,
         [*_LENT_MODEL, *slices(1), c_size_t, c_double, c_double, *slices(9)],
+    ),
+    "evolution_sizes": (EvolutionLengths, [c_size_t] * 4),
+    "evolve": (
+        Evolved,
+        [*_LENT_MODEL, *slices(2), c_size_t, c_double, c_double, *slices(16), *slices(1)],
     ),
 }
 

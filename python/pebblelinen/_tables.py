@@ -16,10 +16,10 @@ from numpy.typing import DTypeLike, NDArray
 # Of tables whose numbers are not of 64 bits without sign.
 _TYPES: dict[str, DTypeLike] = {
     **dict.fromkeys(
-        "work_sums work_numbers log_values cand_sums next_sums stage_values raws diags".split(),
+        "work_sums work_numbers log_values cand_sums next_sums stage_values raws diags values v b product".split(),
         np.float64,
     ),
-    **dict.fromkeys("stage_rows stage_columns".split(), np.uint32),
+    **dict.fromkeys("stage_rows stage_columns columns".split(), np.uint32),
     # Given to the library to read, and not zero.
     "texts": np.uint8,
 }

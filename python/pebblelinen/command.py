@@ -37,6 +37,7 @@ How noise moves an observable of a quantum device: the adjoint Lindblad generato
   pebblelinen generator chain.toml
   pebblelinen generator chain.toml --matrix-market chain.mtx
   pebblelinen degree chain.toml --dt 0.1
+  pebblelinen evolve chain.toml --dt 0.1      the coefficients after one time step
 
 Every command has its own --help. A qubit is a site of the device, a position is a place in the basis; both
 are counted from 0, and no line says one for the other."""
@@ -133,7 +134,7 @@ def _parser() -> argparse.ArgumentParser:
         "a chain of 256 qubits: an action, a growing basis, a degree",
         "Shows what the library does on a chain of 256 qubits with couplings, fields, decay and\n"
         "dephasing: the action on an observable; rounds in which the words that leak out of a basis are\n"
-        "admitted to it and its coefficients move on by a time step; at the end the norm and degree of\n"
+        "admitted to it and its coefficients are evolved by a time step; at the end the norm and degree of\n"
         "the generator.",
         file=False,
     )
@@ -184,11 +185,29 @@ def _parser() -> argparse.ArgumentParser:
         "computed: s stages of m products each. A dt that asks for more than 1,048,576 products, a mistyped\n"
         "one most likely, is refused, with the largest that does not.",
     )
+    _add_step(made)
+
+    made = command(
+        "evolve",
+        _evolve,
+        "the coefficients of the basis after one time step",
+        "The coefficients of the file's basis after one time step: the exponential of dt times the generator over\n"
+        "the basis, on the coefficients given. Words stay as they are: what the model moves out of the basis is\n"
+        "lost, so give the basis what `leakage` lists. A dt that asks for more than 1,048,576 products, a\n"
+        "mistyped one most likely, is refused, with the largest that does not. With --save the model is written\n"
+        "to a file with the evolved basis, to go on from.",
+    )
+    _add_step(made)
+    made.add_argument("--save", metavar="OUT", help="write a model file with the evolved basis to OUT")
+    return parser
+
+
+def _add_step(made: argparse.ArgumentParser) -> None:
+    """A time step, and how accurate it is to be."""
     made.add_argument("--dt", type=float, required=True, metavar="T", help="the time step")
     made.add_argument(
         "--drop-tol", type=float, default=0.0, metavar="X", help="from 1e-4 on fewer products will do"
     )
-    return parser
 
 
 # ---- commands ----
@@ -369,6 +388,44 @@ def _degree_lines(positions: int, dt: float, degree: Degree) -> Iterator[str]:
     )
 
 
+def _evolve(options: argparse.Namespace) -> _Answers:
+    file = _loaded_with_basis(options)
+    with working(f"evolution of {len(file.basis)} entries"):
+        basis, products = file.model.evolve(file.basis, dt=options.dt, drop_tol=options.drop_tol)
+    if options.save is not None:
+        modelfile.save(options.save, file.model, basis, file.protected)
+    # Position, word, coefficient before and after.
+    entries = [(int(p), word.by_site, before, after) for (p, word, before), (*_, after) in zip(file.basis, basis)]
+
+    def answer() -> dict[str, Any]:
+        named = [{"word": word, "before": before, "coefficient": after} for _, word, before, after in entries]
+        saved = {} if options.save is None else {"saved": options.save}
+        return {"qubits": file.model.n, "products": products, "entries": named, **saved}
+
+    def lines() -> Iterator[str]:
+        yield str(file.model)
+        yield ""
+        yield (
+            f"{counted(len(entries), 'position')} after the time step dt = {options.dt!r}:"
+            f" {counted(products, 'product')} with the generator"
+        )
+        shown = [
+            (f"position {p}: {word}", repr(before), repr(after))
+            for p, word, before, after in (entries if options.all else entries[:_SHOWN])
+        ]
+        yield from _aligned([("word", "before", "coefficient"), *shown])
+        yield from _more(len(entries), options.all)
+        if options.save is not None:
+            yield f"written to {options.save} with the evolved basis"
+
+    def rows() -> _Rows:
+        yield "position", "word", "before", "coefficient"
+        for p, word, before, after in entries:
+            yield p, word, repr(before), repr(after)
+
+    return answer, lines, rows
+
+
 def _demo(options: argparse.Namespace) -> _Answers:
     if options.model:
         if options.csv:
@@ -410,13 +467,13 @@ def _demo(options: argparse.Namespace) -> _Answers:
         yield from _listed(model.action(demo.OBSERVABLE), True)
         yield ""
         yield f"a basis grows around it: at most {options.limit} words, time step {options.dt!r}"
-        yield "  round  leaked  largest leakage  words  entries of the generator  seconds"
+        yield "  round  leaked  largest leakage  words  products  seconds"
         for each in rounds():
             no_room = math.isnan(each.largest_leakage)
             largest = "no room" if no_room else f"{each.largest_leakage:.6f}"
             yield (
                 f"  {each.number:5}  {each.leaked:6}  {largest:>15}  {each.words:5}"
-                f"  {each.entries:24}  {each.seconds:7.3f}"
+                f"  {each.products:8}  {each.seconds:7.3f}"
             )
         yield ""
         yield "the largest entries of the basis, by position:"

@@ -2,20 +2,18 @@
 # SPDX-License-Identifier: Apache-2.0
 """A device to look at: a chain of qubits with couplings, fields, decay and dephasing, and a basis that
 grows around one observable."""
-import math
 import time
 from collections.abc import Iterator
-from typing import Any, NamedTuple
+from typing import NamedTuple
 
 from . import modelfile
-from ._types import NumberTable
 from .basis import Basis
-from .matrix import product
 from .model import Model
 
 QUBITS = 256
 SITE = 128
 OBSERVABLE = f"Z{SITE}"
+
 
 def items(n: int = QUBITS) -> tuple[dict[str, float], list[tuple[float, str | dict[str, complex]]]]:
     """Hamiltonian and jumps of the chain: XX + YY couplings and weaker ZZ ones between neighbours, fields
@@ -51,32 +49,18 @@ class Round(NamedTuple):
     leaked: int
     largest_leakage: float
     words: int
-    entries: int
+    products: int
     seconds: float
 
 
 def rounds(model: Model, basis: Basis, *, limit: int, count: int, dt: float) -> Iterator[Round]:
-    """Lets a basis grow: what leaks out of it is admitted, then its coefficients move on by a time step.
+    """Lets a basis grow: what leaks out of it is admitted, then its coefficients are evolved by a time step.
     Yields what each round did."""
     for number in range(1, count + 1):
         start = time.perf_counter()
         leaked = model.leakage(basis, max_basis=limit)
         basis.admit(leaked, limit=limit)
-        generator = model.csr(basis)
-        basis.coefficients = evolved(model, basis, generator, dt)
+        evolved, products = model.evolve(basis, dt=dt, drop_tol=1e-4)
+        basis.coefficients = evolved.coefficients
         seconds = time.perf_counter() - start
-        yield Round(number, len(leaked), leaked.largest(), len(basis), generator.nnz, seconds)
-
-
-def evolved(model: Model, basis: Basis, generator: Any, dt: float) -> NumberTable:
-    """The coefficients after a time step: the exponential's Taylor series in so many stages of so many
-    products as the library chooses, for the generator less mu."""
-    degree = model.degree(basis, dt=dt, drop_tol=1e-4)
-    v = basis.coefficients.copy()
-    for _ in range(degree.s):
-        b = v.copy()
-        for j in range(1, degree.m + 1):
-            b = (product(generator, b) - degree.mu * b) * (dt / (degree.s * j))
-            v += b
-        v *= math.exp(dt * degree.mu / degree.s)
-    return v
+        yield Round(number, len(leaked), leaked.largest(), len(basis), products, seconds)

@@ -18,7 +18,7 @@ from ._sealed import Sealed
 from ._showing import Shown, Table
 from ._tables import MOST_TOUCHED, work_tables
 from ._types import LaneTable, NumberTable
-from .basis import AnyWords, Basis, not_finite, refusal, too_short
+from .basis import AnyWords, Basis, Entry, not_finite, refusal, too_short
 from .combining import summed
 from .errors import InputError, Refusal
 from .items import operator_text, row_text
@@ -57,6 +57,13 @@ class Degree(NamedTuple):
     s: int
     norm: float
     mu: float
+
+
+class Evolved(NamedTuple):
+    """A basis after a time step, and how many products with the generator it took."""
+
+    basis: Basis
+    products: int
 
 
 def _is_combination(given: Any) -> bool:
@@ -462,13 +469,18 @@ class Model(Shown, Sealed):
             with work_tables() as work:
                 return _library.call(name, *self._lent(), basis._lanes, len_, *work.lend(lengths), *out)
 
+        return self._lending_entries(len_, attempt), out
+
+    def _lending_entries(self, len_: int, attempt: Callable[[int, int], Any]) -> Any:
+        """The answer of attempt(touched, entries), where entries are those of the generator over so many words."""
+
         def entries(each: int) -> int:
             return len_ * min(each, len_)
 
         first = min(max(entries(8), self._entries), entries(self._touched))
         answer, places = self._lending(attempt, first, entries)
         self._entries = max(self._entries, places)
-        return answer, out
+        return answer
 
     def matrix_market(self, basis: Basis) -> bytes:
         """The generator over a basis in the Matrix Market form `coordinate integer general`, for other linear-algebra
@@ -552,12 +564,70 @@ class Model(Shown, Sealed):
             if answer.status.refusal == 7:
                 raise not_finite(numbers)
             if answer.status.refusal == 16:
-                raise self._too_many_products(answer.status, basis, **numbers)
+                raise _too_many_products(answer.status, self.norm(basis).norm, **numbers)
             if answer.status.refusal:
                 raise refusal(answer.status, basis)
         return answer
 
-    def _too_many_products(self, status: _library.Status, basis: Basis, dt: float, drop_tol: float) -> Refusal:
-        norm = self.norm(basis).norm
-        enough = f"dt of at most {matrix.largest_step(norm, drop_tol)!r} in magnitude"
-        return matrix.too_many_products(status, f"dt = {dt!r} at the norm {norm!r}", enough)
+    # ---- evolution ----
+
+    def evolve(self, basis: Basis, *, dt: float, drop_tol: float = 0.0) -> Evolved:
+        """The basis after a time step: another basis with the same words, whose coefficients are those of the exponential
+        of dt times the generator, acting on the coefficients given; and the number of products with the generator that
+        it took. The basis given stays as it is.
+
+        The exponential is its Taylor polynomial of degree m in s stages, for the generator as it is; m and s go by |dt|
+        times its norm, the largest sum of a column's magnitudes. A drop_tol of at least 1e-4 asks for less accuracy (1e-6
+        in place of that of double precision). Nothing enters the basis and nothing leaves it: what the model moves out of
+        it is lost, so admit what leaks before. A dt that asks for more than 1,048,576 products is refused (refusal 16),
+        with the largest that does not."""
+        numbers = {"dt": _given.real(dt, "dt"), "drop_tol": _given.real(drop_tol, "drop_tol")}
+        self._check(basis)
+        len_ = len(basis)
+        out = np.empty(len_)
+
+        def attempt(touched: int, entries: int) -> Any:
+            lengths = _library.call("evolution_sizes", self.n, len_, touched, entries)
+            with work_tables() as work:
+                return _library.call(
+                    "evolve",
+                    *self._lent(),
+                    basis._lanes,
+                    basis._coefficients,
+                    len_,
+                    *numbers.values(),
+                    *work.lend(lengths),
+                    out,
+                )
+
+        with basis._lock:
+            answer = self._lending_entries(len_, attempt)
+            if answer.status.refusal == 14:
+                raise _grown(basis.entry(position=answer.status.first))
+            if answer.status.refusal == 16:
+                raise _too_many_products(answer.status, self._largest_column(basis), **numbers)
+            if answer.status.refusal:
+                raise refusal(answer.status, basis, thresholds=numbers)
+            evolved = basis.copy()
+        evolved.coefficients = out
+        return Evolved(evolved, answer.products)
+
+    def _largest_column(self, basis: Basis) -> float:
+        """The norm of the generator without a shift: magnitudes are added in their order, from 0."""
+        _, columns, values = self._generated("generator", basis, None)
+        return float(np.bincount(columns, abs(values)).max(initial=0.0))
+
+
+def _grown(entry: Entry) -> Refusal:
+    """Refusal 14 of an evolution."""
+    said = (
+        f"in a stage of the evolution the number of {entry.word.by_site} at {entry.position} is not finite: it grew"
+        " beyond 1.8e308; coefficients that are all divided by one number, or a smaller dt, may do"
+    )
+    return Refusal(14, said, {"position": entry.position})
+
+
+def _too_many_products(status: _library.Status, norm: float, dt: float, drop_tol: float) -> Refusal:
+    """Refusal 16 of a dt at this norm."""
+    enough = f"dt of at most {matrix.largest_step(norm, drop_tol)!r} in magnitude"
+    return matrix.too_many_products(status, f"dt = {dt!r} at the norm {norm!r}", enough)

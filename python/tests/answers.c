@@ -2,9 +2,11 @@
  * SPDX-License-Identifier: Apache-2.0
  *
  * Calls from C whose answers are known: operators that are too long, calls that need no place and are lent
- * none, tables too short by one, the generator as a text, rows of matrices that are wrong, registers that are too
- * large. Writes a line for each answer that is another, and how many were asked.
+ * none, tables too short by one, the generator as a text, evolutions that grow too large or take too long, rows of
+ * matrices that are wrong, registers that are too large. Writes a line for each answer that is another, and how many
+ * were asked.
  */
+#include <math.h>
 #include <stdio.h>
 #include <stdlib.h>
 #include <string.h>
@@ -211,6 +213,21 @@ static pebblelinen_status call_market(size_t words, const size_t *len) {
     return found.status;
 }
 
+/* Its tables are, in the order in which they are tested: words and coeffs, which are given; those of the generator; offsets,
+ * v, b, product and out. Over X, on which the model does nothing that stays, one product leaves 1. */
+static pebblelinen_status call_evolve(size_t words, const size_t *len) {
+    size_t room = words ? INDEX : 0;
+    double out[] = {UNTOUCHED, UNTOUCHED};
+    pebblelinen_evolved found = pebblelinen_evolve(
+        MODEL, X, WORD * len[0], ONE, len[1], words, 0.5, 0, lanes[0], len[2], lanes[1], len[3], lanes[2], len[4], lanes[3],
+        len[5], lanes[4], len[6], SUMS, places[0], room, places[1], room, numbers[1], room, lanes[5], len[7], places[2],
+        room, numbers[2], room, numbers[3], len[8], (double *)lanes[11], len[9], (double *)lanes[12], len[10], out, len[11]);
+    bool done = !found.status.refusal && words;
+    holds("products of an evolution", found.products == done);
+    holds("an evolved number", out[0] == (done ? 1 : UNTOUCHED) && out[1] == UNTOUCHED);
+    return found.status;
+}
+
 /* One protected word, Z, and the word X of the basis. */
 static const uint64_t PROTECTED[WORD] = {[WORD / 2] = 1};
 
@@ -258,7 +275,7 @@ static void tables_of(const char *what, Call call, const size_t *needs, const si
     char said[100];
     snprintf(said, sizeof said, "%s over no words", what);
     accepted(said, call(0, over_none));
-    size_t len[8] = {0};
+    size_t len[12] = {0};
     for (size_t k = 0; k < tables; k++) {
         snprintf(said, sizeof said, "%s over a word, without table %zu", what, k);
         expect(said, call(1, len), 9, needs[k], 0);
@@ -272,7 +289,7 @@ static void tables_of(const char *what, Call call, const size_t *needs, const si
 }
 
 static void words_and_tables(void) {
-    const size_t none[8] = {0}, one_offset[8] = {0, 0, 0, 0, 0, 1};
+    const size_t none[12] = {0}, one_offset[12] = {[5] = 1}, evolves_none[12] = {[7] = 1};
     tables_of("norm", call_norm, (size_t[]){INDEX, INDEX, MASK, 1, 1, 1, 1}, none, 7);
     tables_of("degree", call_degree, (size_t[]){INDEX, INDEX, MASK, 1, 1, 1, 1}, none, 7);
     tables_of("counting", call_count, (size_t[]){INDEX, INDEX, MASK}, none, 3);
@@ -280,6 +297,8 @@ static void words_and_tables(void) {
     tables_of("CSR", call_csr, (size_t[]){INDEX, INDEX, MASK, 1, 1, 2}, one_offset, 6);
     tables_of("Matrix Market", call_market, (size_t[]){INDEX, INDEX, MASK, 1, 1}, none, 5);
     expect("CSR over no words, without offsets", call_csr(0, none), 9, 1, 0);
+    tables_of("evolution", call_evolve, (size_t[]){1, 1, INDEX, INDEX, MASK, 1, 1, 2, 1, 1, 1, 1}, evolves_none, 12);
+    expect("evolution over no words, without offsets", call_evolve(0, none), 9, 1, 0);
     tables_of("leakage", call_leakage, (size_t[]){INDEX, INDEX, MASK, 1, 1, 1, 1, 1}, none, 8);
     accepted("leakage over no words, nothing protected", leak_unprotected(0, none));
     tables_of("prune", call_prune, (size_t[]){1, 1, 1, 1}, none, 4);
@@ -317,6 +336,39 @@ static void matrix_market(void) {
     holds("no byte beside 15", stands(ALL(text), found.bytes, ""));
     expect("15 before 13 for the text", market(0x1p29, 2, text, 0).status, 15, 1, 0);
     expect("13 for the entries before 15", market(0x1p29, 1, text, 0).status, 13, 3, 1);
+}
+
+/* ---- evolution over one time step: Z over X and Y ---- */
+
+static pebblelinen_evolved evolve(double x, double y, double dt, size_t entries, double *out) {
+    const pebblelinen_word z = {{0}, {1}}, xy[] = {{{1}, {0}}, {{1}, {1}}};
+    const double one[] = {1}, coeffs[] = {x, y};
+    out[0] = out[1] = UNTOUCHED;
+    return pebblelinen_evolve((pebblelinen_model){1, 1, 0, 0}, (const uint64_t *)&z, WORD, ALL(one), NO_LANES, NO_NUMBERS,
+                              NO_LANES, NO_NUMBERS, (const uint64_t *)xy, 2 * WORD, ALL(coeffs), 2, dt, 0, lanes[0], 64,
+                              lanes[1], 64, lanes[2], MASK, lanes[3], 2, lanes[4], 2, lanes[5], WORD, numbers[0], 2,
+                              places[0], entries, places[1], entries, numbers[1], entries, lanes[6], 3, places[2], entries,
+                              numbers[2], entries, numbers[3], 2, (double *)lanes[7], 2, (double *)lanes[8], 2, out, 2);
+}
+
+static void evolution(void) {
+    double out[2];
+    pebblelinen_evolved found = evolve(1, 0, 0.5, 2, out);
+    accepted("Z over X and Y", found.status);
+    /* cos 1 and -sin 1; t is 1, so m is 18 and s is 1. */
+    holds("18 products", found.products == 18);
+    holds("its numbers", out[0] > 0.540302305 && out[0] < 0.540302306 && out[1] < -0.841470984 && out[1] > -0.841470985);
+    found = evolve(-0.0, 1, 0, 2, out);
+    holds("one product where dt is 0", !found.status.refusal && found.products == 1 && out[0] == 0 && out[1] == 1);
+    expect("a step for too many products", evolve(1.5e308, 0, 1e6, 2, out).status, 16, 30, 564972);
+    expect("an infinite step times the norm", evolve(1.5e308, 0, 1e308, 2, out).status, 16, 1, UINT32_MAX);
+    expect("13 before 16", evolve(1.5e308, 0, 1e6, 1, out).status, 13, 3, 1);
+    expect("a product that is not finite", evolve(1.5e308, 0, 1, 2, out).status, 14, 1, 0);
+    expect("the same where dt is 0", evolve(0, 1.5e308, 0, 2, out).status, 14, 0, 0);
+    expect("a coefficient that is infinite", evolve(0, INFINITY, INFINITY, 0, out).status, 7, 1, 0);
+    found = evolve(0, 0, -INFINITY, 0, out);
+    expect("a step that is infinite", found.status, 7, 2, 0);
+    holds("nothing beside a refusal", found.products == 0 && out[0] == UNTOUCHED && out[1] == UNTOUCHED);
 }
 
 /* ---- rows of a lent matrix ---- */
@@ -374,6 +426,7 @@ int main(void) {
     nothing_to_build();
     words_and_tables();
     matrix_market();
+    evolution();
     rows_of_a_matrix();
     registers();
     printf("%d asked, %d wrong\n", asked, wrong);

@@ -156,7 +156,7 @@ class Commands(Case):
     def test_help_is_enough_to_begin(self):
         status, out, _ = self.run_command("--help")
         self.assertEqual(status, 0)
-        for name in "demo", "action", "leakage", "generator", "degree":
+        for name in "demo", "action", "leakage", "generator", "degree", "evolve":
             self.assertIn(f"pebblelinen {name}", out)
             status, about, _ = self.run_command(name, "--help")
             self.assertEqual(status, 0)

@@ -70,7 +70,7 @@ class Guide(Case):
                 with self.subTest(title):
                     self.run_section(blocks)
                     done += 1
-        self.assertEqual(done, 4)
+        self.assertEqual(done, 5)
 
 
 if __name__ == "__main__":
