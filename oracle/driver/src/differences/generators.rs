@@ -170,15 +170,16 @@ pub fn cases() -> Vec<Case> {
         .collect()
 }
 
-/// A jump (X + iY)/2 on each of three qubits.
-fn three_decays(rate: f64) -> Items {
+/// Jumps (X + iY)/2 on three qubits, at these rates.
+fn three_decays(rates: [f64; 3]) -> Items {
     let term = |text: &str, x: Complex| (text.as_bytes().to_vec(), x);
-    let decay = |x, y| (rate, vec![term(x, (0.5, 0.0)), term(y, (0.0, 0.5))]);
+    let decay = |rate, x, y| (rate, vec![term(x, (0.5, 0.0)), term(y, (0.0, 0.5))]);
+    let [first, second, third] = rates;
     Items {
         jumps: vec![
-            decay("XII", "YII"),
-            decay("IXI", "IYI"),
-            decay("IIX", "IIY"),
+            decay(first, "XII", "YII"),
+            decay(second, "IXI", "IYI"),
+            decay(third, "IIX", "IIY"),
         ],
         ..items(3, &[], &[])
     }
@@ -187,7 +188,7 @@ fn three_decays(rate: f64) -> Items {
 fn differing() -> Vec<Case> {
     let again = Over::new(standing(items(1, &[], &[(0.25, &["Z"])])), &["X", "X"]);
     let all = ["III", "ZII", "IZI", "ZZI", "IIZ", "ZIZ", "IZZ", "ZZZ"];
-    let sums = Over::new(standing(three_decays(0.1)), &all);
+    let sums = Over::new(standing(three_decays([0.1, 0.3, 0.2])), &all);
     let outside = Over::new(standing(items(1, &[("Z", 0.5)], &[])), &["X"]);
     let turn = Over::new(standing(items(1, &[("Z", 1.0)], &[])), &["X", "Y"]);
     vec![
@@ -199,9 +200,9 @@ fn differing() -> Vec<Case> {
         },
         Case {
             place: "raw's adding order",
-            input: "jumps (X + iY)/2 on each of three qubits at rate 0.1, basis of the eight words of I and Z",
-            expected: ["norm 0.45000000000000007", "norm 0.44999999999999996"],
-            found: sums.norms(0.44999999999999996),
+            input: "jumps (X + iY)/2 on three qubits at rates 0.1, 0.3, 0.2, basis of the eight words of I and Z",
+            expected: ["norm 0.8999999999999999", "norm 0.9000000000000001"],
+            found: sums.norms(0.9000000000000001),
         },
         Case {
             place: "norm where words leave the basis",
