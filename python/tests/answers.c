@@ -308,7 +308,6 @@ static void words_and_tables(void) {
 /* ---- the generator as Matrix Market: 0.5 Z, or another field, over X and Y ---- */
 
 static pebblelinen_written market(double field, size_t entries, uint8_t *text, size_t text_len) {
-    enum { WORD = sizeof(pebblelinen_word) / 8 };
     const pebblelinen_word z = {{0}, {1}}, xy[] = {{{1}, {0}}, {{1}, {1}}};
     memset(text, UNTOUCHED, text_len);
     return pebblelinen_matrix_market((pebblelinen_model){1, 1, 0, 0}, (const uint64_t *)&z, WORD, &field, 1, NO_LANES,

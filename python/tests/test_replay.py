@@ -64,7 +64,7 @@ WIDE = {
     "generators": 4,
     "matrices by rows": 4,
     "norms and degrees": 4,
-    "generators, norms and products without the Rust": 6,
+    "generators, norms, products and degrees without the Rust": 9,
 }
 # Cases of 129 to 256 qubits in the first, which were refused when it was recorded.
 LEFT_OUT = 51

@@ -192,9 +192,9 @@ fn refusals() -> Vec<Case> {
         tau_add: Some(f64::NAN),
         ..Leak::new(turn(), "X")
     };
-    let tiny = |tau_add: Option<f64>| Leak {
+    let tiny = Leak {
         basis: (word_of(b"X"), 2f64.powi(-40)),
-        tau_add,
+        tau_add: None,
         ..Leak::new(turn(), "X")
     };
     let alone = |leak: &Leak, places: [usize; 3]| [leak.by_port(places), CANNOT.into()];
@@ -239,13 +239,7 @@ fn refusals() -> Vec<Case> {
             place: "absent tau_add",
             input: "H 0.5 Z, basis X 2^−40, limit 2, tau_add absent",
             expected: ["nothing", "Y −9.094947017729282e-13"],
-            found: tiny(None).both(),
-        },
-        Case {
-            place: "absent tau_add",
-            input: "the same, tau_add 0",
-            expected: ["Y −9.094947017729282e-13", "Y −9.094947017729282e-13"],
-            found: tiny(Some(0.0)).both(),
+            found: tiny.both(),
         },
     ]
 }
