@@ -2,9 +2,9 @@
 -- SPDX-License-Identifier: Apache-2.0
 
 -- The tests of an evolution one after another, and its answers. Assumes nothing.
-use mathlib.Core.Path.{_≡_, refl, sym, ap, ap₂, _∙_, subst}
+use mathlib.Core.Path.{_≡_, refl, sym, ap, _∙_}
 use mathlib.Core.List.{List, _++_}
-use Prim.Native.Nat.{ℕ, _*_, _/_, _≤_, _<_}
+use Prim.Native.Nat.{ℕ, _*_, _≤_, _<_}
 use native.Mathlib.Omega.{arith}
 use borrow.Author.Tests.{lt-ltb, le-ltb}
 use lib.Ieee.{Float}
@@ -20,20 +20,19 @@ use Rattle.word.proofs.FlatLaws.{words-low, words-high}
 use Rattle.model.specs.Stored.{ModelTables}
 use Rattle.model.specs.declared.stored.Model.{Model}
 use Rattle.lent.specs.Tests.{andThen}
-use Rattle.lent.specs.Words.{maxWords}
 use Rattle.lent.proofs.Passed.{both, refused-not}
 use Rattle.slots.specs.Between.{Slotted}
-use Rattle.columns.specs.Between.{LaysDistinct, BasisReady}
+use Rattle.columns.specs.Between.{LaysDistinct}
 use Rattle.generator.specs.Lent as Generator
 use Rattle.generator.specs.Lent.{distinct, basisOf}
-use Rattle.generator.specs.Between.{ModelLent, BasisLent}
+use Rattle.generator.specs.Between.{BasisLent}
 use Rattle.generator.proofs.CheckLaws.{Passed}
-use Rattle.generator.proofs.LentLaws.{model-lent, basis-words, basis-lent}
+use Rattle.generator.proofs.LentLaws.{basis-lent}
 use Rattle.taylor.specs.Evolves.{Evolves}
 use Rattle.taylor.specs.declared.evolve.Evolved.the-variants as Evolved
 use Rattle.number.specs.Floats.{float0}
 use Rattle.evolution.specs.Lent.{Work, workOf, zeroed, basisTests, workTests, numberTests, evolveTests}
-use Rattle.evolution.specs.Evolutions.{Evolving, tested, evolveOver, evolve}
+use Rattle.evolution.specs.Evolutions.{evolveOver, evolve}
 use Rattle.evolution.specs.Between.{SlotsLeft, Checks, SlotsReady, NumbersLent, evolvedThen}
 use Rattle.evolution.proofs.CheckLaws.{basis-passed, tables-passed, numbers-passed, first-finite}
 

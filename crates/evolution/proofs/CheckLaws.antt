@@ -2,16 +2,15 @@
 -- SPDX-License-Identifier: Apache-2.0
 
 -- The tests of an evolution, answer by answer; and what is known where they are passed. Assumes nothing.
-use mathlib.Core.Path.{_≡_, refl, sym, ap, _∙_}
-use mathlib.Core.Bool.{Bool, true, false, not, cond, false≢true}
+use mathlib.Core.Path.{_≡_, sym, ap, _∙_}
+use mathlib.Core.Bool.{Bool, true, false, not}
 use mathlib.Core.List.{List}
 use Prim.Native.Nat.{ℕ, suc, _+_, _*_, _/_, _≤_, _<_}
-use native.Mathlib.Numerals.{add-one}
 use native.Mathlib.Omega.{arith}
 use borrow.Author.Tests.{lt-ltb, le-ltb, ltb-false, not-true, not-false}
 use lib.Dec.{ltb}
 use lib.Ieee.{Float, nan}
-use lib.ListN.{length, getD, take}
+use lib.ListN.{length, take}
 use lib.Seq.{getD-take, length-take-le}
 use Rattle.refusal.specs.declared.Refusal.{Refusal}
 use Rattle.refusal.specs.declared.Refusal.the-variants.{CountAboveLimit, LengthMismatch, NumberOutOfRange}
@@ -22,12 +21,12 @@ use Rattle.word.specs.Flat.{wordLanes}
 use Rattle.model.specs.Stored.{ModelTables}
 use Rattle.model.specs.Tested.{testModel}
 use Rattle.model.specs.declared.stored.Model.{Model}
-use Rattle.lent.specs.Tests.{whereAny, andThen, firstTo}
+use Rattle.lent.specs.Tests.{whereAny, firstTo}
 use Rattle.lent.specs.Words.{maxWords, insideTo, outsideAt}
 use Rattle.lent.specs.Numbers.{notFinite, finiteTo, finiteThreshold}
 use Rattle.lent.proofs.Firsts.{first-before}
 use Rattle.lent.proofs.NeedLaws.{need-some}
-use Rattle.lent.proofs.Passed.{both, passed, lent-passed, counted-passed, refused-not}
+use Rattle.lent.proofs.Passed.{both, passed, lent-passed, counted-passed}
 use Rattle.action.specs.Counts.{rowLanes}
 use Rattle.generator.proofs.CheckLaws.{inside-then, inside-refused}
 use Rattle.taylor.specs.Between.{AllFinite}

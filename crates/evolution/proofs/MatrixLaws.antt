@@ -3,10 +3,10 @@
 
 -- The matrix that an evolution builds: its rows are those of the call that builds a matrix by rows, its norm is the unshifted one, and it
 -- passes the tests of a product with any finite numbers. Assumes nothing.
-use mathlib.Core.Path.{_≡_, refl, sym, ap, ap₂, _∙_, subst}
-use mathlib.Core.Bool.{true, false, false≢true}
+use mathlib.Core.Path.{_≡_, refl, sym, ap, _∙_, subst}
+use mathlib.Core.Bool.{true, false≢true}
 use mathlib.Core.List.{List, map}
-use Prim.Native.Nat.{ℕ, _+_, _≤_, _<_, min}
+use Prim.Native.Nat.{ℕ, _+_, _≤_, _<_}
 use native.Mathlib.Omega.{arith}
 use lib.Ieee.{Float}
 use lib.ListN.{length, take}
@@ -23,11 +23,10 @@ use Rattle.action.specs.declared.act.Acted.{Acted}
 use Rattle.action.specs.declared.act.Acted.the-variants.{Listed, Refused}
 use Rattle.columns.specs.Entries.{Entry, staged}
 use Rattle.columns.specs.Columns.{generatorOf, generatorRoom}
-use Rattle.columns.specs.Stages.{answered}
 use Rattle.columns.specs.Between.{Stages, StageRoom}
 use Rattle.columns.proofs.EntryLaws.{staged-columns, staged-values}
 use Rattle.columns.proofs.GeneratorLaws.{generator-fits}
-use Rattle.csr_build.specs.Rows.{rowsTo, offsetsOf}
+use Rattle.csr_build.specs.Rows.{offsetsOf}
 use Rattle.csr_build.proofs.SortLaws.{offsets-many}
 use Rattle.norm.specs.Columns.{largest}
 use Rattle.raw_norm.specs.Unshifted.{unshiftedNorm}
@@ -37,10 +36,10 @@ use Rattle.generator.specs.Between.{HeldRows}
 use Rattle.generator.specs.Lent as Generator
 use Rattle.generator.specs.Generators.{CsrOut, byRows, csrOver, csrPlaces, stagedEntries}
 use Rattle.generator.proofs.ListingLaws.{by-rows-is}
-use Rattle.generator_laws.proofs.RowPlaces.{columnsBy, valuesBy, columns-many, values-many, first-offsets, first-columns, first-values}
+use Rattle.generator_laws.proofs.RowPlaces.{columnsBy, valuesBy, values-many, first-offsets, first-columns, first-values}
 use Rattle.generator_laws.proofs.SoundRows.{below, sized, generator-sound}
 use Rattle.csr.proofs.CheckLaws.{sound-accepted}
-use Rattle.taylor.specs.Between.{AllFinite, Matrix, EvolveReady}
+use Rattle.taylor.specs.Between.{Matrix}
 use Rattle.taylor.specs.Evolves.{Evolves, evolveBy}
 use Rattle.taylor.specs.declared.evolve.Evolved.the-variants as Evolved
 use Rattle.evolution.specs.Lent.{Work}

@@ -6,7 +6,6 @@ use mathlib.Core.Path.{sym}
 use native.Mathlib.Omega.{arith}
 use lib.Seq.{length-take-le, length-front}
 use Rattle.evolution.proofs.CallLaws.{distinct-repeated, distinct-laid}
-use borrow.Author.Needs.{needs}
 use Rattle.evolution.proofs.check.check_distinct.Statement.{statement}
 use Rattle.evolution.proofs.check.check_distinct.Tie as tie
 

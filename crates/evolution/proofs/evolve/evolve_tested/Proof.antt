@@ -14,7 +14,6 @@ use Rattle.generator.specs.Lent.{workOf as generatorWork}
 use Rattle.evolution.specs.Lent.{Work, workOf}
 use Rattle.evolution.proofs.MatrixLaws.{rows-ready, course-is}
 use Rattle.evolution.proofs.CallLaws.{slots-size, work-zero, then-evolved}
-use borrow.Author.Needs.{needs}
 use Rattle.evolution.proofs.evolve.evolve_tested.Statement.{statement}
 use Rattle.evolution.proofs.evolve.evolve_tested.Tie as tie
 

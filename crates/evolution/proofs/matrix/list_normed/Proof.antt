@@ -3,7 +3,6 @@
 
 -- `matrix::list_normed` meets its contract: the norm, then the rows. Assumes nothing.
 use Rattle.evolution.proofs.MatrixLaws.{stage-held}
-use borrow.Author.Needs.{needs}
 use Rattle.evolution.proofs.matrix.list_normed.Statement.{statement}
 use Rattle.evolution.proofs.matrix.list_normed.Tie as tie
 
