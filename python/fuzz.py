@@ -108,6 +108,7 @@ def calls(rng):
             "matrix_market": lambda: model.matrix_market(any_of(basis)),
             "norm": lambda: model.norm(any_of(basis)),
             "degree": lambda: model.degree(any_of(basis), dt=any_of(0.1), drop_tol=any_of(0.0)),
+            "evolve": lambda: model.evolve(any_of(basis), dt=any_of(0.1, -3.0), drop_tol=any_of(0.0)),
             "select_ms": lambda: pebblelinen.select_ms(any_of(0.3), any_of(0.0)),
             "product": lambda: pebblelinen.product(
                 any_of(csr, damaged(rng, csr)),

@@ -100,8 +100,8 @@ class Definition(unittest.TestCase):
             self.assertEqual(self.held(Model(0), zero, dt), 1)
             self.assertEqual(bits(Model(0).evolve(zero, dt=dt).basis.coefficients), bits([expected]))
         self.assertEqual(self.held(TURN, Basis(1, {"X": -0.0, "Y": 0.5}), 0.0), 1)
-        # One division: dt / (s j) and not dt / s / j.
-        self.assertEqual(self.held(TURN, XY, 4.5), 87)
+        # One division, and one product with what it gives: with dt / s / j, or with a product by dt first, bits differ.
+        self.assertEqual(self.held(TURN, XY, 4.3), 84)
 
     def test_sweeps(self):
         """The whole product is tested first: b at position 0 grows too large in the same j as the product at 2 does."""

@@ -106,13 +106,18 @@ class WithoutScipy(unittest.TestCase):
         basis.admit(model.leakage(basis, max_basis=4), limit=4)
         self.assertEqual(model.action("Z0").by_site(), {"Y0": 2.0})
         self.assertEqual(model.degree(basis, dt=0.1).s, 1)
+        self.assertEqual(len(model.evolve(basis, dt=0.1).basis), 2)
         for matrix in model.csr, model.generator:
             with self.assertRaisesRegex(LibraryMissing, r"pip install 'pebblelinen\[scipy\]'"):
                 matrix(basis)
 
     def test_the_command_says_so(self):
-        with mock.patch("sys.stderr") as error, mock.patch("sys.stdout"):
-            self.assertEqual(command.main(["demo", "--rounds", "1"]), 2)
+        with mock.patch("sys.stdout"):
+            self.assertEqual(command.main(["demo", "--rounds", "1"]), 0)
+        with tempfile.NamedTemporaryFile(suffix=".toml") as file, mock.patch("sys.stderr") as error:
+            file.write(b'qubits = 1\n[basis]\n"X" = 1.0\n')
+            file.flush()
+            self.assertEqual(command.main(["generator", file.name]), 2)
         self.assertIn("pebblelinen: a generator is a scipy matrix", str(error.write.call_args_list))
 
 

@@ -8,6 +8,7 @@
 
 pub mod actions;
 pub mod bases;
+pub mod evolutions;
 pub mod generators;
 pub mod leakages;
 pub mod matrices;

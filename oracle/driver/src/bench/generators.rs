@@ -2,11 +2,12 @@
 // SPDX-License-Identifier: Apache-2.0
 
 //! The generator of a chain of qubits over bases of words of at most four letters, each on six neighbouring
-//! qubits, the same matrix by rows, its norm, and its product with a vector.
+//! qubits, the same matrix by rows, its norm, its product with a vector, and the evolution by a time step.
 //!
 //! The Rust makes its matrix by rows and its norm in one call, `expm_apply_mf`, up to the exponential, which
 //! is left out; so the port's two calls are timed together beside it, and each alone. Its products are timed
-//! where the exponential would make them. For information the Rust is timed on two threads as well; the port
+//! where the exponential would make them. An evolution of the port, matrix, norm and all, is timed beside the
+//! Rust's matrix and norm and as many of its products: neither its shift nor its sums. For information the Rust is timed on two threads as well; the port
 //! has one.
 
 use super::Side;
@@ -15,17 +16,18 @@ use crate::inputs::actions as action_inputs;
 use crate::inputs::bases::lanes_of;
 use crate::inputs::models as model_inputs;
 use crate::inputs::products::{Sort, vector};
-use crate::port::Word;
 use crate::port::actions::{CountRoom, count_action_terms};
+use crate::port::evolutions::{EvolutionRoom, evolution_sizes, evolve};
 use crate::port::generators::{self as port, GeneratorRoom};
 use crate::port::models::{Lent, Model, build_model, model_sizes};
 use crate::port::norms::{NormRoom, norm};
 use crate::port::products::{Csr, ProductRoom, dot};
+use crate::port::{WORD_LANES, Word};
 use crate::published::generators::RustGenerator;
 use crate::published::models::{RustItems, RustModel};
 use crate::rules::actions::MAX_WORDS;
 use crate::rules::generators::Entry;
-use ppvm_lindblad::open::{Product, Questions};
+use ppvm_lindblad::open::{Product, Questions, Seen};
 use std::hint::black_box;
 use std::time::Instant;
 
@@ -33,6 +35,9 @@ const ROUNDS: usize = 9;
 
 /// The products of one round.
 const PRODUCTS: usize = 20;
+
+/// The time step of an evolution.
+const STEP: f64 = 0.05;
 
 /// Words that one action touches: enough here.
 const TOUCHED: usize = 1024;
@@ -138,7 +143,8 @@ fn generate(rng: &mut Rng, n_qubits: usize, words: &[Word]) -> bool {
     let generators = time_generators(&mut sides);
     let matrices = time_matrices(&mut sides);
     let products = time_products(rng, &mut sides);
-    generators & matrices & products
+    let evolutions = time_evolutions(rng, &mut sides);
+    generators & matrices & products & evolutions
 }
 
 fn time_generators(sides: &mut Sides) -> bool {
@@ -276,5 +282,45 @@ fn time_products(rng: &mut Rng, sides: &mut Sides) -> bool {
         rate(port.nanoseconds / 1e9),
         rate(copy_seconds(bytes)),
     );
+    rust.checksum == port.checksum
+}
+
+fn time_evolutions(rng: &mut Rng, sides: &mut Sides) -> bool {
+    let count = sides.count;
+    let lengths = sides.room.lengths();
+    let touched = lengths.work_words / WORD_LANES;
+    let sizes = evolution_sizes(sides.model.qubits, count, touched, lengths.stage_rows);
+    let mut room = EvolutionRoom::of(&sizes, count);
+    let input = vector(rng, count, Sort::Plain);
+    let (model, lent, lanes) = (sides.model, &sides.lent, &sides.lanes);
+    let mut evolved = || evolve(model, lent, lanes, &input, (STEP, 0.0), &mut room);
+    let products = evolved().products;
+    let product = Product {
+        input: input.clone(),
+        start: None,
+    };
+    let mut rust = Side::new("Rust, up to its sums");
+    let mut port = Side::new("port");
+    for _ in 0..ROUNDS {
+        let questions = Questions {
+            products: vec![product.clone(); products],
+            entries: false,
+        };
+        let asked = || sides.rust.exponential(STEP, 0.0, questions);
+        let products_of = |seen: &Option<Seen>| seen.as_ref().map_or(0, |seen| seen.products.len());
+        rust.once(
+            || sides.one_thread.install(asked),
+            |seen| products_of(seen) as u64,
+        );
+        port.once(&mut evolved, |evolved| evolved.products as u64);
+    }
+    println!(
+        "evolution by {STEP}, n = {}, {count} words, {products} products, best of {ROUNDS} rounds:",
+        sides.model.qubits
+    );
+    for side in [&rust, &port] {
+        side.print();
+    }
+    port.print_ratio(&rust);
     rust.checksum == port.checksum
 }
