@@ -331,7 +331,7 @@ module _ (outWords : List ℕ) (outValues : List Float) (w : Leakage.Work) where
 
   leak-kept : (m : Model) (t : ModelTables) (b : Leakage.Basis) (l : Limits) → SafeOut (Leakage.leak outWords outValues w m t b l .out)
   unfolding Leakage.leak
-  leak-kept m t b l = tested-out (Leakage.leakTests m t b l w) (Leakage.listing (tauOf l) outWords outValues (Leakage.leakCourse m t b l w)) (listing-kept (Leakage.tauOf l) (Leakage.leakCourse m t b l w))
+  leak-kept m t b l = tested-out (Leakage.leakTests m t b l w) (Leakage.listing (tauOf l) outWords outValues (Leakage.leakCourse m t b l w)) (listing-kept (tauOf l) (Leakage.leakCourse m t b l w))
 
 -- ---- the generator and the matrix by rows
 module _ (rows columns : List ℕ) (values : List Float) (w : Work) where

@@ -87,6 +87,11 @@ fn write_qubit_128(n_qubits: usize) {
     print::end_line();
 }
 
+// A code as a number to print.
+fn wide(code: u8) -> u64 {
+    code as u64
+}
+
 // X times Z at one qubit of the widest register: the phase, and the code of the product there.
 fn multiply_at(q: usize) {
     if MAX_QUBITS <= q {
@@ -108,7 +113,7 @@ fn multiply_at(q: usize) {
     print::text(b" of 256: i^");
     print::number(product.phase as u64);
     print::text(b" times a word with code ");
-    print::number(codes[q] as u64);
+    print::number(wide(codes[q]));
     print::text(b" there");
     if status.refusal != 0 {
         print::refusal(status);
