@@ -135,7 +135,7 @@ fn print_refused(given: &[f64], lanes: usize) {
     let mut t_numbers = [0f64; 24];
     let mut work_words = [0u64; WORD_LANES * 272];
     let mut work_numbers = [0f64; 544];
-    if lanes <= 48 {
+    if lanes <= WORD_LANES * 12 {
         print_built(build(
             given,
             &mut h_words,
@@ -154,7 +154,7 @@ pub fn run() {
     print_sizes();
     accepted();
     print::text(b"the second jump at -1: ");
-    print_refused(&[0.25, -1.0], 48);
+    print_refused(&[0.25, -1.0], WORD_LANES * 12);
     print::text(b"the first in 4 places for terms: ");
-    print_refused(&[0.25, 1.0], 16);
+    print_refused(&[0.25, 1.0], WORD_LANES * 4);
 }
