@@ -352,7 +352,7 @@ def main():
     retuned = retuning(given, 10 * options.rounds)
     clock, processor = loading()
     print(f"loading: {clock:.3f} s, {processor:.3f} s of the processor")
-    return 0 if worst < 0.05 and written <= 1 and evolved <= 1 and built < 1 and retuned < 0.05 and processor < 0.3 else 1
+    return 0 if worst < 0.05 and written <= 1 and evolved < 1.1 and built < 1 and retuned < 0.05 and processor < 0.3 else 1
 
 
 if __name__ == "__main__":
