@@ -941,7 +941,7 @@ pebblelinen_evolution_lengths pebblelinen_evolution_sizes(size_t qubits, size_t 
  *
  *   words, coeffs, len   the basis: its first len places, 8 lanes and 1 number a word; only read
  *   h_index .. stage_values   work tables, as for pebblelinen_generator
- *   offsets, columns, values  work tables: the matrix; offsets of len + 1 places
+ *   offsets, columns, values  work tables: the matrix; offsets of len + 1 places where len is not 0
  *   v, b, product        work tables: a number for each word each
  *   out                  a number for each word: the evolved coefficients, where the call was accepted.
  *                        Places past len stay as they were
@@ -952,7 +952,7 @@ pebblelinen_evolution_lengths pebblelinen_evolution_sizes(size_t qubits, size_t 
  *       those of pebblelinen_test_model for the model
  *    8  (count): more than 65,536 words
  *    9  (len, places lent) for words, then for coeffs; then (needed, lent) for h_index, j_index, mask,
- *       heads, nexts, offsets (len + 1), v, b, product, out
+ *       heads, nexts, offsets (len + 1), v, b, product, out; no words need no place
  *   11  (position): the first word with a letter at or above the register
  *    7  (position): the first coefficient that is infinite or NaN; then (len) for such a dt, then for
  *       such a drop_tol

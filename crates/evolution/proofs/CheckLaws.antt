@@ -80,7 +80,7 @@ module _ (n len hIndex jIndex mask heads nexts offsets v b product out : ℕ) wh
   abbrev tables : Answer
   tables = workTests n len hIndex jIndex mask heads nexts offsets v b product out
 
-  module _ {rows row : ℕ} (rows-are : rows ≡ whereAny len (rowLanes * n)) (row-is : row ≡ whereAny len rowLanes) where
+  module _ {rows row starts : ℕ} (rows-are : rows ≡ whereAny len (rowLanes * n)) (row-is : row ≡ whereAny len rowLanes) (starts-are : starts ≡ whereAny len (suc len)) where
     pub h-short : hIndex < rows → Refused (LengthMismatch rows hIndex) ≡ tables
     unfolding workTests
     h-short l = rw (← rows-are, lt-ltb hIndex rows l)
@@ -106,34 +106,34 @@ module _ (n len hIndex jIndex mask heads nexts offsets v b product out : ℕ) wh
             nexts-short l = rw (← rows-are, le-ltb hIndex rows h0, le-ltb jIndex rows h1, ← row-is, le-ltb mask row h2, le-ltb heads len h3, lt-ltb nexts len l)
 
             module _ (h4 : len ≤ nexts) where
-              pub offsets-short : offsets < suc len → Refused (LengthMismatch (suc len) offsets) ≡ tables
+              pub offsets-short : offsets < starts → Refused (LengthMismatch starts offsets) ≡ tables
               unfolding workTests
-              offsets-short l = rw (← rows-are, le-ltb hIndex rows h0, le-ltb jIndex rows h1, ← row-is, le-ltb mask row h2, le-ltb heads len h3, le-ltb nexts len h4, lt-ltb offsets (suc len) l)
+              offsets-short l = rw (← rows-are, le-ltb hIndex rows h0, le-ltb jIndex rows h1, ← row-is, le-ltb mask row h2, le-ltb heads len h3, le-ltb nexts len h4, ← starts-are, lt-ltb offsets starts l)
 
-              module _ (h5 : suc len ≤ offsets) where
+              module _ (h5 : starts ≤ offsets) where
                 pub v-short : v < len → Refused (LengthMismatch len v) ≡ tables
                 unfolding workTests
-                v-short l = rw (← rows-are, le-ltb hIndex rows h0, le-ltb jIndex rows h1, ← row-is, le-ltb mask row h2, le-ltb heads len h3, le-ltb nexts len h4, le-ltb offsets (suc len) h5, lt-ltb v len l)
+                v-short l = rw (← rows-are, le-ltb hIndex rows h0, le-ltb jIndex rows h1, ← row-is, le-ltb mask row h2, le-ltb heads len h3, le-ltb nexts len h4, ← starts-are, le-ltb offsets starts h5, lt-ltb v len l)
 
                 module _ (h6 : len ≤ v) where
                   pub b-short : b < len → Refused (LengthMismatch len b) ≡ tables
                   unfolding workTests
-                  b-short l = rw (← rows-are, le-ltb hIndex rows h0, le-ltb jIndex rows h1, ← row-is, le-ltb mask row h2, le-ltb heads len h3, le-ltb nexts len h4, le-ltb offsets (suc len) h5, le-ltb v len h6, lt-ltb b len l)
+                  b-short l = rw (← rows-are, le-ltb hIndex rows h0, le-ltb jIndex rows h1, ← row-is, le-ltb mask row h2, le-ltb heads len h3, le-ltb nexts len h4, ← starts-are, le-ltb offsets starts h5, le-ltb v len h6, lt-ltb b len l)
 
                   module _ (h7 : len ≤ b) where
                     pub product-short : product < len → Refused (LengthMismatch len product) ≡ tables
                     unfolding workTests
-                    product-short l = rw (← rows-are, le-ltb hIndex rows h0, le-ltb jIndex rows h1, ← row-is, le-ltb mask row h2, le-ltb heads len h3, le-ltb nexts len h4, le-ltb offsets (suc len) h5, le-ltb v len h6, le-ltb b len h7, lt-ltb product len l)
+                    product-short l = rw (← rows-are, le-ltb hIndex rows h0, le-ltb jIndex rows h1, ← row-is, le-ltb mask row h2, le-ltb heads len h3, le-ltb nexts len h4, ← starts-are, le-ltb offsets starts h5, le-ltb v len h6, le-ltb b len h7, lt-ltb product len l)
 
                     module _ (h8 : len ≤ product) where
                       pub out-short : out < len → Refused (LengthMismatch len out) ≡ tables
                       unfolding workTests
-                      out-short l = rw (← rows-are, le-ltb hIndex rows h0, le-ltb jIndex rows h1, ← row-is, le-ltb mask row h2, le-ltb heads len h3, le-ltb nexts len h4, le-ltb offsets (suc len) h5, le-ltb v len h6, le-ltb b len h7, le-ltb product len h8, lt-ltb out len l)
+                      out-short l = rw (← rows-are, le-ltb hIndex rows h0, le-ltb jIndex rows h1, ← row-is, le-ltb mask row h2, le-ltb heads len h3, le-ltb nexts len h4, ← starts-are, le-ltb offsets starts h5, le-ltb v len h6, le-ltb b len h7, le-ltb product len h8, lt-ltb out len l)
 
                       module _ (h9 : len ≤ out) where
                         pub tables-accepted : Accepted ≡ tables
                         unfolding workTests
-                        tables-accepted = rw (← rows-are, le-ltb hIndex rows h0, le-ltb jIndex rows h1, ← row-is, le-ltb mask row h2, le-ltb heads len h3, le-ltb nexts len h4, le-ltb offsets (suc len) h5, le-ltb v len h6, le-ltb b len h7, le-ltb product len h8, le-ltb out len h9)
+                        tables-accepted = rw (← rows-are, le-ltb hIndex rows h0, le-ltb jIndex rows h1, ← row-is, le-ltb mask row h2, le-ltb heads len h3, le-ltb nexts len h4, ← starts-are, le-ltb offsets starts h5, le-ltb v len h6, le-ltb b len h7, le-ltb product len h8, le-ltb out len h9)
 
   pub record TablesPassed : Type 0 where
     pub h-long : 0 < len → rowLanes * n ≤ hIndex
@@ -141,7 +141,7 @@ module _ (n len hIndex jIndex mask heads nexts offsets v b product out : ℕ) wh
     pub mask-long : 0 < len → rowLanes ≤ mask
     pub heads-long : len ≤ heads
     pub nexts-long : len ≤ nexts
-    pub offsets-long : len < offsets
+    pub offsets-long : 0 < len → len < offsets
     pub v-long : len ≤ v
     pub b-long : len ≤ b
     pub product-long : len ≤ product
@@ -156,7 +156,7 @@ module _ (n len hIndex jIndex mask heads nexts offsets v b product out : ℕ) wh
       let e3 = lent-passed (whereAny len rowLanes) mask _ (e2 .1) in
       let e4 = lent-passed len heads _ (e3 .1) in
       let e5 = lent-passed len nexts _ (e4 .1) in
-      let e6 = lent-passed (suc len) offsets _ (e5 .1) in
+      let e6 = lent-passed (whereAny len (suc len)) offsets _ (e5 .1) in
       let e7 = lent-passed len v _ (e6 .1) in
       let e8 = lent-passed len b _ (e7 .1) in
       let e9 = lent-passed len product _ (e8 .1) in
@@ -167,7 +167,7 @@ module _ (n len hIndex jIndex mask heads nexts offsets v b product out : ℕ) wh
         mask-long = λ a. need-some len rowLanes mask a (e3 .0);
         heads-long = e4 .0;
         nexts-long = e5 .0;
-        offsets-long = e6 .0;
+        offsets-long = λ a. need-some len (suc len) offsets a (e6 .0);
         v-long = e7 .0;
         b-long = e8 .0;
         product-long = e9 .0;

@@ -5,11 +5,11 @@
 -- passes the tests of a product with any finite numbers. Assumes nothing.
 use mathlib.Core.Path.{_≡_, refl, sym, ap, _∙_, subst}
 use mathlib.Core.Bool.{true, false≢true}
-use mathlib.Core.List.{List, map}
-use Prim.Native.Nat.{ℕ, _+_, _≤_, _<_}
+use mathlib.Core.List.{List, [], _∷_, map}
+use Prim.Native.Nat.{ℕ, zero, suc, _+_, _≤_, _<_}
 use native.Mathlib.Omega.{arith}
 use lib.Ieee.{Float}
-use lib.ListN.{length, take}
+use lib.ListN.{length, take, set}
 use lib.Seq.{length-take-le}
 use Rattle.refusal.specs.declared.Refusal.{Refusal}
 use Rattle.refusal.specs.declared.Answer.{Answer}
@@ -26,7 +26,8 @@ use Rattle.columns.specs.Columns.{generatorOf, generatorRoom}
 use Rattle.columns.specs.Between.{Stages, StageRoom}
 use Rattle.columns.proofs.EntryLaws.{staged-columns, staged-values}
 use Rattle.columns.proofs.GeneratorLaws.{generator-fits}
-use Rattle.csr_build.specs.Rows.{offsetsOf}
+use Rattle.lent.specs.Laid.{laid}
+use Rattle.csr_build.specs.Rows.{rowsTo, offsetsOf}
 use Rattle.csr_build.proofs.SortLaws.{offsets-many}
 use Rattle.norm.specs.Columns.{largest}
 use Rattle.raw_norm.specs.Unshifted.{unshiftedNorm}
@@ -64,10 +65,18 @@ module _ (staged : Acted) (columns : List ℕ) (values : List Float) (n : ℕ) w
   pub norm-listed : (j : ℕ) (x : Float) → staged ≡ Listed j → x ≡ largest (rawsFrom n 0 (take j columns) (take j values)) → NormRead staged columns values n x
   norm-listed j x e h k f = h ∙ ap (λ (i : ℕ). largest (rawsFrom n 0 (take i columns) (take i values))) (same-listed staged j k e f)
 
+-- no numbers take no product
+none-evolved : (offsets columns : List ℕ) (values : List Float) (dt : Float) (coeffs out : List Float) (norm dropTol : Float) → length coeffs ≡ 0 → evolveBy offsets columns values dt coeffs out norm dropTol ≡ record { answer = Evolved.Products 0; out = out }
+unfolding evolveBy
+none-evolved offsets columns values dt coeffs out norm dropTol e = rw e
+
 -- over a matrix that was built
 module _ (len : ℕ) (offsets columns : List ℕ) (values coeffs : List Float) (norm dt dropTol : Float) (out : List Float) where
   pub then-listed : (r : Acted) (k : ℕ) → r ≡ Listed k → (e : Evolves) → e ≡ evolveBy (take (len + 1) offsets) (take k columns) (take k values) dt coeffs out norm dropTol → e ≡ actedThen len offsets columns values coeffs r norm dt dropTol out
   then-listed r k f e h = rw f h
+
+  pub then-none : (r : Acted) (k : ℕ) → r ≡ Listed k → length coeffs ≡ len → len ≡ 0 → record { answer = Evolved.Products 0; out = out } ≡ actedThen len offsets columns values coeffs r norm dt dropTol out
+  then-none r k f each none = rw f (sym (none-evolved (take (len + 1) offsets) (take k columns) (take k values) dt coeffs out norm dropTol (each ∙ none)))
 
   pub then-refused : (r : Acted) (q : Refusal) → r ≡ Refused q → record { answer = Evolved.Refused q; out = out } ≡ actedThen len offsets columns values coeffs r norm dt dropTol out
   then-refused r q f = rw f
@@ -75,6 +84,20 @@ module _ (len : ℕ) (offsets columns : List ℕ) (values coeffs : List Float) (
 by-rows-answer : (n : ℕ) (offsets columns : List ℕ) (values : List Float) (r : Acted) (E : List Entry) → byRows n offsets columns values r E .answer ≡ r
 by-rows-answer n offsets columns values (Listed k) E = refl
 by-rows-answer n offsets columns values (Refused q) E = refl
+
+-- no rows, where no place was lent for where they start
+laid-nowhere : (k : ℕ) (bs : List ℕ) → laid set k bs [] ≡ []
+unfolding laid
+laid-nowhere k [] = refl
+laid-nowhere k (b ∷ bs) = laid-nowhere (suc k) bs
+
+pub no-rows : (n : ℕ) (offsets columns : List ℕ) (values : List Float) (r : Acted) (E : List Entry) → (0 < n → n < length offsets) → length offsets ≤ n
+    → _≡_ {A = CsrOut} (record { answer = r; offsets = offsets; columns = columns; values = values }) (byRows n offsets columns values r E)
+unfolding rowsTo laid
+no-rows zero [] columns values (Listed k) E h l = rw (laid-nowhere 0 (offsetsOf 0 E))
+no-rows zero (x ∷ offsets) columns values (Listed k) E h l = absurd (omega arith)
+no-rows (suc n) offsets columns values (Listed k) E h l = absurd (let z = h (omega arith) in omega arith)
+no-rows n offsets columns values (Refused q) E h l = refl
 
 -- its norm
 module _ (m : Model) (t : ModelTables) (bs : List Word) (len : ℕ) (all : length bs ≡ len) (rows columns : List ℕ) (values : List Float) (r : Acted) where
@@ -110,13 +133,13 @@ module _ (m : Model) (t : ModelTables) (passes : testModel m t ≡ Tests.Accepte
         (generator-sound m t bs len all passes b true b (λ k h. f k (omega arith)) (λ x. absurd (false≢true (sym x))));
   }
 
-  module _ (w : Generator.Work) (offsets columns : List ℕ) (values : List Float) (offsets-long : len < length offsets) where
+  module _ (w : Generator.Work) (offsets columns : List ℕ) (values : List Float) (offsets-long : 0 < len → len < length offsets) where
     abbrev tests : Answer
     tests = generatorRoom m t bs (sumPlaces (w .workWords) (w .workSums)) (csrPlaces w columns values)
 
     -- the first places hold the generator by rows
     pub record Laid (offsets′ columns′ : List ℕ) (values′ : List Float) : Type 0 where
-      pub offsets-are : take (len + 1) offsets′ ≡ offsetsOf len G
+      pub offsets-are : 0 < len → take (len + 1) offsets′ ≡ offsetsOf len G
       pub columns-are : take (length G) columns′ ≡ columnsBy len G
       pub values-are : take (length G) values′ ≡ valuesBy len G
       pub columns-long : length G ≤ length columns′
@@ -141,7 +164,7 @@ module _ (m : Model) (t : ModelTables) (passes : testModel m t ≡ Tests.Accepte
           let b = below m t bs len all in
           let o : _≡_ {A = CsrOut} (record { answer = acted; offsets = offsets′; columns = columns′; values = values′ }) (byRows len offsets columns values (Listed (length G)) G) = rows ∙ rw f in
           record {
-            offsets-are = ap (λ (x : CsrOut). take (len + 1) (x .offsets)) o ∙ first-offsets len G b offsets columns values offsets-long;
+            offsets-are = λ some. ap (λ (x : CsrOut). take (len + 1) (x .offsets)) o ∙ first-offsets len G b offsets columns values (offsets-long some);
             columns-are = ap (λ (x : CsrOut). take (length G) (x .columns)) o ∙ first-columns len G b offsets columns values (omega (arith, k));
             values-are = ap (λ (x : CsrOut). take (length G) (x .values)) o ∙ first-values len G b offsets columns values (omega (arith, k));
             columns-long = omega (arith, k, ec);
@@ -159,13 +182,14 @@ module _ (m : Model) (t : ModelTables) (passes : testModel m t ≡ Tests.Accepte
       pub rows-ready : (coeffs v b product out : List Float) → NumbersLent m t len coeffs offsets v b product out → length offsets′ ≡ length offsets
           → RowsReady len offsets′ columns′ values′ (take len coeffs) built v b product out
       rows-ready coeffs v b product out l eo = record {
-        offsets-long = omega arith;
+        each = length-take-le len coeffs (l .coeffs-long);
+        offsets-long = λ some. let o = offsets-long some in omega (arith, o, eo);
         held = λ k e. let a = listed-all k e in let d = laid-rows (a .0) in (omega (arith, a .1, d .columns-long), omega (arith, a .1, d .values-long));
-        ready = λ k e.
+        ready = λ some k e.
             let a = listed-all k e in
             let d = laid-rows (a .0) in
             let z = length-take-le len coeffs (l .coeffs-long) in
-            rw (a .1, d .offsets-are, d .columns-are, d .values-are)
+            rw (a .1, d .offsets-are some, d .columns-are, d .values-are)
             (record {
               matrix = subst (λ (n : ℕ). Matrix n (offsetsOf len G) (columnsBy len G) (valuesBy len G)) (sym z) matrix-of;
               finite = l .finite;
@@ -179,14 +203,24 @@ module _ (m : Model) (t : ModelTables) (passes : testModel m t ≡ Tests.Accepte
       -- what is evolved over it
       pub evolved-over : ((k : ℕ) → acted ≡ Listed k → built .norm ≡ unshiftedNorm m t bs) → (coeffs : List Float) (dt dropTol : Float) (out : List Float)
           → actedThen len offsets′ columns′ values′ (take len coeffs) acted (built .norm) dt dropTol out ≡ roomThen m t bs len (take len coeffs) dt dropTol tests out
-      evolved-over n coeffs dt dropTol out = go tests refl
+      evolved-over n coeffs dt dropTol out = go tests len refl refl
         where
-          go : (a : Answer) → tests ≡ a → actedThen len offsets′ columns′ values′ (take len coeffs) acted (built .norm) dt dropTol out ≡ roomThen m t bs len (take len coeffs) dt dropTol a out
-          go Tests.Accepted f =
+          none : tests ≡ Tests.Accepted → len ≡ 0 → actedThen len offsets′ columns′ values′ (take len coeffs) acted (built .norm) dt dropTol out ≡ roomThen m t bs len (take len coeffs) dt dropTol Tests.Accepted out
+          none f z =
+              let y : length (take len coeffs) ≡ 0 = rw z in
+              let e = acted-listed f in
+              rw e (none-evolved _ _ _ dt (take len coeffs) out (built .norm) dropTol y ∙ sym (none-evolved _ _ _ dt (take len coeffs) out (unshiftedNorm m t bs) dropTol y))
+
+          some : tests ≡ Tests.Accepted → 0 < len → actedThen len offsets′ columns′ values′ (take len coeffs) acted (built .norm) dt dropTol out ≡ roomThen m t bs len (take len coeffs) dt dropTol Tests.Accepted out
+          some f h =
               let e = acted-listed f in
               let d = laid-rows f in
-              rw (e, d .offsets-are, d .columns-are, d .values-are, n (length G) e)
-          go (Tests.Refused q) f = rw (acted-refused q f)
+              rw (e, d .offsets-are h, d .columns-are, d .values-are, n (length G) e)
+
+          go : (a : Answer) (k : ℕ) → tests ≡ a → len ≡ k → actedThen len offsets′ columns′ values′ (take len coeffs) acted (built .norm) dt dropTol out ≡ roomThen m t bs len (take len coeffs) dt dropTol a out
+          go Tests.Accepted zero f z = none f z
+          go Tests.Accepted (suc k) f z = some f (omega (arith, z))
+          go (Tests.Refused q) k f z = rw (acted-refused q f)
 
       -- as the call has it
       pub course-is : (v b product : List Float) → ((k : ℕ) → acted ≡ Listed k → built .norm ≡ unshiftedNorm m t bs) → (coeffs : List Float) (dt dropTol : Float) (out : List Float) (e : Evolves)

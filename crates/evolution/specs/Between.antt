@@ -73,7 +73,7 @@ pub record NumbersLent (m : Model) (t : ModelTables) (len : ℕ) (coeffs : List 
   pub passes : testModel m t ≡ Tests.Accepted
   pub coeffs-long : len ≤ length coeffs
   pub finite : AllFinite (take len coeffs)
-  pub offsets-long : len < length offsets
+  pub offsets-long : 0 < len → len < length offsets
   pub v-long : len ≤ length v
   pub b-long : len ≤ length b
   pub product-long : len ≤ length product
@@ -81,9 +81,10 @@ pub record NumbersLent (m : Model) (t : ModelTables) (len : ℕ) (coeffs : List 
 
 module _ (len : ℕ) (offsets columns : List ℕ) (values coeffs : List Float) where
   pub record RowsReady (built : Built) (v b product out : List Float) : Type 0 where
-    pub offsets-long : len < length offsets
+    pub each : length coeffs ≡ len
+    pub offsets-long : 0 < len → len < length offsets
     pub held : StageHeld (built .acted) columns values
-    pub ready : (k : ℕ) → built .acted ≡ Acts.Listed k → EvolveReady (take (len + 1) offsets) (take k columns) (take k values) coeffs v b product out
+    pub ready : 0 < len → (k : ℕ) → built .acted ≡ Acts.Listed k → EvolveReady (take (len + 1) offsets) (take k columns) (take k values) coeffs v b product out
 
   -- over so many entries of a matrix that was built
   abbrev pub actedThen : Acted → Float → Float → Float → List Float → Evolves

@@ -63,7 +63,7 @@ workTests n len hIndex jIndex mask heads nexts offsets v b product out =
     ∷ lent (whereAny len rowLanes) mask
     ∷ lent len heads
     ∷ lent len nexts
-    ∷ lent (suc len) offsets
+    ∷ lent (whereAny len (suc len)) offsets
     ∷ lent len v
     ∷ lent len b
     ∷ lent len product

@@ -81,6 +81,7 @@ fn check_work(
 {
     let rows = where_any(len, ROW_LANES * n);
     let row = where_any(len, ROW_LANES);
+    let starts = where_any(len, len + 1);
     if h_index < rows {
         return mismatch(rows, h_index);
     }
@@ -96,8 +97,8 @@ fn check_work(
     if nexts < len {
         return mismatch(len, nexts);
     }
-    if offsets < len + 1 {
-        return mismatch(len + 1, offsets);
+    if offsets < starts {
+        return mismatch(starts, offsets);
     }
     if v < len {
         return mismatch(len, v);

@@ -48,19 +48,28 @@ fn evolve_built(
     let acted = built.acted;
     let norm = built.norm;
     match acted {
-        Acted::Listed(count) => evolve_rows(
-            &offsets[..len + 1],
-            &columns[..count],
-            &values[..count],
-            norm,
-            dt,
-            drop_tol,
-            coeffs,
-            v,
-            b,
-            product,
-            out,
-        ),
+        Acted::Listed(count) => {
+            // No words take no product, and may come without a place for where rows start.
+            if len == 0 {
+                clear_numbers(v);
+                clear_numbers(b);
+                clear_numbers(product);
+                return Evolved::Products(0);
+            }
+            evolve_rows(
+                &offsets[..len + 1],
+                &columns[..count],
+                &values[..count],
+                norm,
+                dt,
+                drop_tol,
+                coeffs,
+                v,
+                b,
+                product,
+                out,
+            )
+        }
         Acted::Refused(refusal) => {
             clear_numbers(v);
             clear_numbers(b);

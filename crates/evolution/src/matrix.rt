@@ -51,10 +51,18 @@ fn list_normed(
     columns: &mut [u32],
     values: &mut [f64],
 ) -> Built
-    requires { ⌜ HeldRows n staged (now «stage_rows») (now «stage_columns») (now «stage_values») (now columns) (now values) × (n ≤ length (now work)) × (n < length (now offsets)) ⌝ }
+    requires { ⌜ HeldRows n staged (now «stage_rows») (now «stage_columns») (now «stage_values») (now columns) (now values) × (n ≤ length (now work)) × (0 < n → n < length (now offsets)) ⌝ }
     ensures { λ r. ⌜ (record { answer = r .acted; offsets = now (offsets .exit); columns = now (columns .exit); values = now (values .exit) } ≡ byRows n (now (offsets .entry)) (now (columns .entry)) (now (values .entry)) staged (stagedEntries staged (now («stage_rows» .entry)) (now («stage_columns» .entry)) (now («stage_values» .entry)))) × (now (work .exit) ≡ replicate (length (now (work .entry))) 0) × NormRead staged (now («stage_columns» .entry)) (now («stage_values» .entry)) n (r .norm) ⌝ }
 {
     let norm = norm_of(staged, stage_columns, stage_values, n);
+    // No places for where rows start: these are the rows of no words.
+    if offsets.len() <= n {
+        clear_lanes(work);
+        return Built {
+            acted: staged,
+            norm,
+        };
+    }
     let acted = list_rows(
         staged,
         stage_rows,
@@ -93,7 +101,7 @@ pub fn build_matrix(
     columns: &mut [u32],
     values: &mut [f64],
 ) -> Built
-    requires { ⌜ (0 < length (now basis) / wordLanes → ModelLent m (modelTables (now «h_words») (now «h_coeffs») (now jumps) (now rates) (now «t_words») (now «t_numbers»)) (now «h_index») (now «j_index») (now mask)) × SlotsReady (m .qubits) len (now basis) (now heads) (now nexts) × (len < length (now offsets)) ⌝ }
+    requires { ⌜ (0 < length (now basis) / wordLanes → ModelLent m (modelTables (now «h_words») (now «h_coeffs») (now jumps) (now rates) (now «t_words») (now «t_numbers»)) (now «h_index») (now «j_index») (now mask)) × SlotsReady (m .qubits) len (now basis) (now heads) (now nexts) × (0 < len → len < length (now offsets)) ⌝ }
     ensures { λ r. ⌜ Builds m (modelTables (now («h_words» .entry)) (now («h_coeffs» .entry)) (now (jumps .entry)) (now (rates .entry)) (now («t_words» .entry)) (now («t_numbers» .entry))) (wordsIn (now (basis .entry))) len (workOf (now («h_index» .entry)) (now («j_index» .entry)) (now (mask .entry)) (now (heads .entry)) (now (nexts .entry)) (now («work_words» .entry)) (now («work_sums» .entry)) (now («stage_rows» .entry)) (now («stage_columns» .entry)) (now («stage_values» .entry))) (now (offsets .entry)) (now (columns .entry)) (now (values .entry)) r (workOf (now («h_index» .exit)) (now («j_index» .exit)) (now (mask .exit)) (now (heads .exit)) (now (nexts .exit)) (now («work_words» .exit)) (now («work_sums» .exit)) (now («stage_rows» .exit)) (now («stage_columns» .exit)) (now («stage_values» .exit))) (now (offsets .exit)) (now (columns .exit)) (now (values .exit)) ⌝ }
 {
     let stage = places_of(stage_rows, stage_columns, stage_values);

@@ -4,11 +4,12 @@
 -- In work tables of the lengths that `leakageSizes`, `generatorSizes` and `evolutionSizes` name, no work table decides what leakage, the
 -- generator, the matrix by rows, the norm and the evolution test: of any two such lendings the tests end alike. And there is room for the words touched, the
 -- candidates and the entries that the lengths were named for. Assumes nothing.
-use Prim.Native.Nat.{ℕ, suc, _*_, _/_, _≤_, min, max}
+use Prim.Native.Nat.{ℕ, suc, _+_, _*_, _/_, _≤_, min, max}
 use mathlib.Core.Path.{_≡_, refl}
 use mathlib.Core.Bool.{Bool, true, false, cond}
 use mathlib.Core.List.{List}
 use native.Mathlib.Nat.{le-trans, le-min, le-max-left, le-max-right}
+use native.Mathlib.Numerals.{add-one}
 use native.Mathlib.Omega.{arith}
 use borrow.Author.Tests.{le-ltb, ltb-false}
 use lib.Dec.{ltb}
@@ -234,6 +235,11 @@ norm-enough m t lanes len touched entries w w′ x y =
     rw (p .h-index, p .j-index, p .mask, p .heads, p .nexts, p .raws, p .diags, q .h-index, q .j-index, q .mask, q .heads, q .nexts, q .raws, q .diags)))
 
 -- ---- the evolution
+starts-asked : (len have : ℕ) → len ≤ maxWords → whereAny (min len maxWords) (min len maxWords + 1) ≤ have → whereAny len (suc len) ≤ have
+starts-asked len have e h =
+    let z : min len maxWords ≡ len = omega (arith, e) in
+    rw (← (add-one len)) (rw z at h)
+
 pub record EvolutionLent (s : EvolutionSizes) (w : Evolution.Work) : Type 0 where
   pub h-index : s .«h_index» ≤ length (w .generator .hIndex)
   pub j-index : s .«j_index» ≤ length (w .generator .jIndex)
@@ -265,7 +271,7 @@ module _ (qubits len touched entries : ℕ) (w : Evolution.Work) (a : EvolutionL
         le-ltb (length (w .generator .mask)) (whereAny len rowLanes) (a .mask),
         le-ltb (length (w .generator .heads)) len (omega (arith, a .heads)),
         le-ltb (length (w .generator .nexts)) len (omega (arith, a .nexts)),
-        le-ltb (length (w .offsets)) (suc len) (omega (arith, a .offsets)),
+        le-ltb (length (w .offsets)) (whereAny len (suc len)) (starts-asked len (length (w .offsets)) e (a .offsets)),
         le-ltb (length (w .v)) len (omega (arith, a .v)),
         le-ltb (length (w .b)) len (omega (arith, a .b)),
         le-ltb (length (w .product)) len (omega (arith, a .product)),

@@ -8,6 +8,7 @@ use mathlib.Core.List.{List}
 use lib.Ieee.{Float}
 use Rattle.refusal.specs.Cause.{statusOf, answerStatus}
 use Rattle.refusal.specs.declared.Answer.the-variants.{Accepted}
+use Rattle.lent.specs.Tests.{whereAny}
 use Rattle.lent.specs.Words.{maxWords}
 use Rattle.taylor.specs.declared.evolve.Evolved.{Evolved}
 use Rattle.taylor.specs.declared.evolve.Evolved.the-variants.{Products, Refused}
@@ -30,7 +31,7 @@ pub record LeavesEvolution (e : Evolving) (r : EvolvedBasis) (out : List Float) 
   pub work-is : w ≡ e .work
 
 -- the lengths for a register, a basis of so many words, actions that touch so many words, and so many entries: those of the generator,
--- an offset for each word and one more, as many places by rows as staged, and three numbers for each word
+-- an offset for each word and one more where there are words, as many places by rows as staged, and three numbers for each word
 unfoldable pub evolutionSizes : ℕ → ℕ → ℕ → ℕ → EvolutionSizes
 evolutionSizes qubits words touched entries =
     let g : GeneratorSizes = generatorSizes qubits words touched entries in
@@ -46,7 +47,7 @@ evolutionSizes qubits words touched entries =
       «stage_rows» = g .«stage_rows»;
       «stage_columns» = g .«stage_columns»;
       «stage_values» = g .«stage_values»;
-      offsets = n + 1;
+      offsets = whereAny n (n + 1);
       columns = g .«stage_columns»;
       values = g .«stage_values»;
       v = n;

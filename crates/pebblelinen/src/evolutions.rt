@@ -9,6 +9,7 @@ ghost use Rattle.evolution.specs.Evolutions.{evolve};
 ghost use Rattle.pebblelinen.specs.Evolutions.{evolvedOf, LeavesEvolution, evolutionSizes};
 use crate::generators::pebblelinen_generator_sizes;
 use lent::sizes::smaller;
+use lent::tests::where_any;
 use lent::words::MAX_WORDS;
 use model::stored::Model;
 use refusal::Status;
@@ -150,7 +151,7 @@ pub extern "C" fn pebblelinen_evolution_sizes(
         stage_rows: g.stage_rows,
         stage_columns: g.stage_columns,
         stage_values: g.stage_values,
-        offsets: n + 1,
+        offsets: where_any(n, n + 1),
         columns: g.stage_columns,
         values: g.stage_values,
         v: n,

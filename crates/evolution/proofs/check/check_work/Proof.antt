@@ -3,11 +3,9 @@
 
 -- `check::check_work` meets its contract, answer by answer. Assumes nothing.
 use mathlib.Core.Path.{ap, _∙_}
-use Prim.Native.Nat.{ℕ}
 use native.Mathlib.Numerals.{add-one}
 use native.Mathlib.Omega.{arith}
-use Rattle.refusal.specs.declared.Refusal.the-variants.{LengthMismatch}
-use Rattle.refusal.specs.declared.Answer.the-variants.{Refused}
+use Rattle.lent.specs.Tests.{whereAny}
 use Rattle.evolution.proofs.CheckLaws.{h-short, j-short, mask-short, heads-short, nexts-short, offsets-short, v-short, b-short, product-short, out-short, tables-accepted}
 use borrow.Author.Needs.{needs}
 use Rattle.evolution.proofs.check.check_work.Statement.{statement}
@@ -16,66 +14,63 @@ use Rattle.evolution.proofs.check.check_work.Tie as tie
 mul-where-any : tie.Need-mul-where-any
 mul-where-any c = omega (arith, c .pre .0)
 
+add-where-any : tie.Need-add-where-any
+add-where-any c = let h = c .before .before .pre .1 in search needs
+
 returns : tie.Need-returns
 returns c =
-    let a = c .before .before .before .before .args in
-    c .mismatch .ensures ∙ h-short (a .n) (a .len) (a .h-index) (a .j-index) (a .mask) (a .heads) (a .nexts) (a .offsets) (a .v) (a .b) (a .product) (a .out) (c .before .before .before .where-any .ensures) (c .before .before .where-any2 .ensures) (c .before .if1 .taken)
+    let a = c .before .before .before .before .before .args in
+    c .mismatch .ensures ∙ h-short (a .n) (a .len) (a .h-index) (a .j-index) (a .mask) (a .heads) (a .nexts) (a .offsets) (a .v) (a .b) (a .product) (a .out) (c .before .before .before .before .where-any .ensures) (c .before .before .before .where-any2 .ensures) (c .before .before .where-any3 .ensures ∙ ap (whereAny (a .len)) (add-one (a .len))) (c .before .if1 .taken)
 
 returns-2 : tie.Need-returns-2
 returns-2 c =
-    let a = c .before .before .before .before .before .args in
-    c .mismatch2 .ensures ∙ j-short (a .n) (a .len) (a .h-index) (a .j-index) (a .mask) (a .heads) (a .nexts) (a .offsets) (a .v) (a .b) (a .product) (a .out) (c .before .before .before .before .where-any .ensures) (c .before .before .before .where-any2 .ensures) (c .before .before .if1 .left) (c .before .if2 .taken)
+    let a = c .before .before .before .before .before .before .args in
+    c .mismatch2 .ensures ∙ j-short (a .n) (a .len) (a .h-index) (a .j-index) (a .mask) (a .heads) (a .nexts) (a .offsets) (a .v) (a .b) (a .product) (a .out) (c .before .before .before .before .before .where-any .ensures) (c .before .before .before .before .where-any2 .ensures) (c .before .before .before .where-any3 .ensures ∙ ap (whereAny (a .len)) (add-one (a .len))) (c .before .before .if1 .left) (c .before .if2 .taken)
 
 returns-3 : tie.Need-returns-3
 returns-3 c =
-    let a = c .before .before .before .before .before .before .args in
-    c .mismatch3 .ensures ∙ mask-short (a .n) (a .len) (a .h-index) (a .j-index) (a .mask) (a .heads) (a .nexts) (a .offsets) (a .v) (a .b) (a .product) (a .out) (c .before .before .before .before .before .where-any .ensures) (c .before .before .before .before .where-any2 .ensures) (c .before .before .before .if1 .left) (c .before .before .if2 .left) (c .before .if3 .taken)
+    let a = c .before .before .before .before .before .before .before .args in
+    c .mismatch3 .ensures ∙ mask-short (a .n) (a .len) (a .h-index) (a .j-index) (a .mask) (a .heads) (a .nexts) (a .offsets) (a .v) (a .b) (a .product) (a .out) (c .before .before .before .before .before .before .where-any .ensures) (c .before .before .before .before .before .where-any2 .ensures) (c .before .before .before .before .where-any3 .ensures ∙ ap (whereAny (a .len)) (add-one (a .len))) (c .before .before .before .if1 .left) (c .before .before .if2 .left) (c .before .if3 .taken)
 
 returns-4 : tie.Need-returns-4
 returns-4 c =
-    let a = c .before .before .before .before .before .before .before .args in
-    c .mismatch4 .ensures ∙ heads-short (a .n) (a .len) (a .h-index) (a .j-index) (a .mask) (a .heads) (a .nexts) (a .offsets) (a .v) (a .b) (a .product) (a .out) (c .before .before .before .before .before .before .where-any .ensures) (c .before .before .before .before .before .where-any2 .ensures) (c .before .before .before .before .if1 .left) (c .before .before .before .if2 .left) (c .before .before .if3 .left) (c .before .if4 .taken)
+    let a = c .before .before .before .before .before .before .before .before .args in
+    c .mismatch4 .ensures ∙ heads-short (a .n) (a .len) (a .h-index) (a .j-index) (a .mask) (a .heads) (a .nexts) (a .offsets) (a .v) (a .b) (a .product) (a .out) (c .before .before .before .before .before .before .before .where-any .ensures) (c .before .before .before .before .before .before .where-any2 .ensures) (c .before .before .before .before .before .where-any3 .ensures ∙ ap (whereAny (a .len)) (add-one (a .len))) (c .before .before .before .before .if1 .left) (c .before .before .before .if2 .left) (c .before .before .if3 .left) (c .before .if4 .taken)
 
 returns-5 : tie.Need-returns-5
 returns-5 c =
-    let a = c .before .before .before .before .before .before .before .before .args in
-    c .mismatch5 .ensures ∙ nexts-short (a .n) (a .len) (a .h-index) (a .j-index) (a .mask) (a .heads) (a .nexts) (a .offsets) (a .v) (a .b) (a .product) (a .out) (c .before .before .before .before .before .before .before .where-any .ensures) (c .before .before .before .before .before .before .where-any2 .ensures) (c .before .before .before .before .before .if1 .left) (c .before .before .before .before .if2 .left) (c .before .before .before .if3 .left) (c .before .before .if4 .left) (c .before .if5 .taken)
-
-add-if6 : tie.Need-add-if6
-add-if6 c = let h = c .before .before .before .before .before .before .before .pre .1 in search needs
-
-add-mismatch : tie.Need-add-mismatch
-add-mismatch c = let h = c .before .before .before .before .before .before .before .before .pre .1 in search needs
+    let a = c .before .before .before .before .before .before .before .before .before .args in
+    c .mismatch5 .ensures ∙ nexts-short (a .n) (a .len) (a .h-index) (a .j-index) (a .mask) (a .heads) (a .nexts) (a .offsets) (a .v) (a .b) (a .product) (a .out) (c .before .before .before .before .before .before .before .before .where-any .ensures) (c .before .before .before .before .before .before .before .where-any2 .ensures) (c .before .before .before .before .before .before .where-any3 .ensures ∙ ap (whereAny (a .len)) (add-one (a .len))) (c .before .before .before .before .before .if1 .left) (c .before .before .before .before .if2 .left) (c .before .before .before .if3 .left) (c .before .before .if4 .left) (c .before .if5 .taken)
 
 returns-6 : tie.Need-returns-6
 returns-6 c =
-    let a = c .before .before .before .before .before .before .before .before .before .args in
-    c .mismatch6 .ensures ∙ ap (λ (k : ℕ). Refused (LengthMismatch k (a .offsets))) (add-one (a .len)) ∙ offsets-short (a .n) (a .len) (a .h-index) (a .j-index) (a .mask) (a .heads) (a .nexts) (a .offsets) (a .v) (a .b) (a .product) (a .out) (c .before .before .before .before .before .before .before .before .where-any .ensures) (c .before .before .before .before .before .before .before .where-any2 .ensures) (c .before .before .before .before .before .before .if1 .left) (c .before .before .before .before .before .if2 .left) (c .before .before .before .before .if3 .left) (c .before .before .before .if4 .left) (c .before .before .if5 .left) (omega (arith, c .before .if6 .taken))
+    let a = c .before .before .before .before .before .before .before .before .before .before .args in
+    c .mismatch6 .ensures ∙ offsets-short (a .n) (a .len) (a .h-index) (a .j-index) (a .mask) (a .heads) (a .nexts) (a .offsets) (a .v) (a .b) (a .product) (a .out) (c .before .before .before .before .before .before .before .before .before .where-any .ensures) (c .before .before .before .before .before .before .before .before .where-any2 .ensures) (c .before .before .before .before .before .before .before .where-any3 .ensures ∙ ap (whereAny (a .len)) (add-one (a .len))) (c .before .before .before .before .before .before .if1 .left) (c .before .before .before .before .before .if2 .left) (c .before .before .before .before .if3 .left) (c .before .before .before .if4 .left) (c .before .before .if5 .left) (c .before .if6 .taken)
 
 returns-7 : tie.Need-returns-7
 returns-7 c =
-    let a = c .before .before .before .before .before .before .before .before .before .before .args in
-    c .mismatch7 .ensures ∙ v-short (a .n) (a .len) (a .h-index) (a .j-index) (a .mask) (a .heads) (a .nexts) (a .offsets) (a .v) (a .b) (a .product) (a .out) (c .before .before .before .before .before .before .before .before .before .where-any .ensures) (c .before .before .before .before .before .before .before .before .where-any2 .ensures) (c .before .before .before .before .before .before .before .if1 .left) (c .before .before .before .before .before .before .if2 .left) (c .before .before .before .before .before .if3 .left) (c .before .before .before .before .if4 .left) (c .before .before .before .if5 .left) (omega (arith, c .before .before .if6 .left)) (c .before .if7 .taken)
+    let a = c .before .before .before .before .before .before .before .before .before .before .before .args in
+    c .mismatch7 .ensures ∙ v-short (a .n) (a .len) (a .h-index) (a .j-index) (a .mask) (a .heads) (a .nexts) (a .offsets) (a .v) (a .b) (a .product) (a .out) (c .before .before .before .before .before .before .before .before .before .before .where-any .ensures) (c .before .before .before .before .before .before .before .before .before .where-any2 .ensures) (c .before .before .before .before .before .before .before .before .where-any3 .ensures ∙ ap (whereAny (a .len)) (add-one (a .len))) (c .before .before .before .before .before .before .before .if1 .left) (c .before .before .before .before .before .before .if2 .left) (c .before .before .before .before .before .if3 .left) (c .before .before .before .before .if4 .left) (c .before .before .before .if5 .left) (c .before .before .if6 .left) (c .before .if7 .taken)
 
 returns-8 : tie.Need-returns-8
 returns-8 c =
-    let a = c .before .before .before .before .before .before .before .before .before .before .before .args in
-    c .mismatch8 .ensures ∙ b-short (a .n) (a .len) (a .h-index) (a .j-index) (a .mask) (a .heads) (a .nexts) (a .offsets) (a .v) (a .b) (a .product) (a .out) (c .before .before .before .before .before .before .before .before .before .before .where-any .ensures) (c .before .before .before .before .before .before .before .before .before .where-any2 .ensures) (c .before .before .before .before .before .before .before .before .if1 .left) (c .before .before .before .before .before .before .before .if2 .left) (c .before .before .before .before .before .before .if3 .left) (c .before .before .before .before .before .if4 .left) (c .before .before .before .before .if5 .left) (omega (arith, c .before .before .before .if6 .left)) (c .before .before .if7 .left) (c .before .if8 .taken)
+    let a = c .before .before .before .before .before .before .before .before .before .before .before .before .args in
+    c .mismatch8 .ensures ∙ b-short (a .n) (a .len) (a .h-index) (a .j-index) (a .mask) (a .heads) (a .nexts) (a .offsets) (a .v) (a .b) (a .product) (a .out) (c .before .before .before .before .before .before .before .before .before .before .before .where-any .ensures) (c .before .before .before .before .before .before .before .before .before .before .where-any2 .ensures) (c .before .before .before .before .before .before .before .before .before .where-any3 .ensures ∙ ap (whereAny (a .len)) (add-one (a .len))) (c .before .before .before .before .before .before .before .before .if1 .left) (c .before .before .before .before .before .before .before .if2 .left) (c .before .before .before .before .before .before .if3 .left) (c .before .before .before .before .before .if4 .left) (c .before .before .before .before .if5 .left) (c .before .before .before .if6 .left) (c .before .before .if7 .left) (c .before .if8 .taken)
 
 returns-9 : tie.Need-returns-9
 returns-9 c =
-    let a = c .before .before .before .before .before .before .before .before .before .before .before .before .args in
-    c .mismatch9 .ensures ∙ product-short (a .n) (a .len) (a .h-index) (a .j-index) (a .mask) (a .heads) (a .nexts) (a .offsets) (a .v) (a .b) (a .product) (a .out) (c .before .before .before .before .before .before .before .before .before .before .before .where-any .ensures) (c .before .before .before .before .before .before .before .before .before .before .where-any2 .ensures) (c .before .before .before .before .before .before .before .before .before .if1 .left) (c .before .before .before .before .before .before .before .before .if2 .left) (c .before .before .before .before .before .before .before .if3 .left) (c .before .before .before .before .before .before .if4 .left) (c .before .before .before .before .before .if5 .left) (omega (arith, c .before .before .before .before .if6 .left)) (c .before .before .before .if7 .left) (c .before .before .if8 .left) (c .before .if9 .taken)
+    let a = c .before .before .before .before .before .before .before .before .before .before .before .before .before .args in
+    c .mismatch9 .ensures ∙ product-short (a .n) (a .len) (a .h-index) (a .j-index) (a .mask) (a .heads) (a .nexts) (a .offsets) (a .v) (a .b) (a .product) (a .out) (c .before .before .before .before .before .before .before .before .before .before .before .before .where-any .ensures) (c .before .before .before .before .before .before .before .before .before .before .before .where-any2 .ensures) (c .before .before .before .before .before .before .before .before .before .before .where-any3 .ensures ∙ ap (whereAny (a .len)) (add-one (a .len))) (c .before .before .before .before .before .before .before .before .before .if1 .left) (c .before .before .before .before .before .before .before .before .if2 .left) (c .before .before .before .before .before .before .before .if3 .left) (c .before .before .before .before .before .before .if4 .left) (c .before .before .before .before .before .if5 .left) (c .before .before .before .before .if6 .left) (c .before .before .before .if7 .left) (c .before .before .if8 .left) (c .before .if9 .taken)
 
 returns-10 : tie.Need-returns-10
 returns-10 c =
-    let a = c .before .before .before .before .before .before .before .before .before .before .before .before .before .args in
-    c .mismatch10 .ensures ∙ out-short (a .n) (a .len) (a .h-index) (a .j-index) (a .mask) (a .heads) (a .nexts) (a .offsets) (a .v) (a .b) (a .product) (a .out) (c .before .before .before .before .before .before .before .before .before .before .before .before .where-any .ensures) (c .before .before .before .before .before .before .before .before .before .before .before .where-any2 .ensures) (c .before .before .before .before .before .before .before .before .before .before .if1 .left) (c .before .before .before .before .before .before .before .before .before .if2 .left) (c .before .before .before .before .before .before .before .before .if3 .left) (c .before .before .before .before .before .before .before .if4 .left) (c .before .before .before .before .before .before .if5 .left) (omega (arith, c .before .before .before .before .before .if6 .left)) (c .before .before .before .before .if7 .left) (c .before .before .before .if8 .left) (c .before .before .if9 .left) (c .before .if10 .taken)
+    let a = c .before .before .before .before .before .before .before .before .before .before .before .before .before .before .args in
+    c .mismatch10 .ensures ∙ out-short (a .n) (a .len) (a .h-index) (a .j-index) (a .mask) (a .heads) (a .nexts) (a .offsets) (a .v) (a .b) (a .product) (a .out) (c .before .before .before .before .before .before .before .before .before .before .before .before .before .where-any .ensures) (c .before .before .before .before .before .before .before .before .before .before .before .before .where-any2 .ensures) (c .before .before .before .before .before .before .before .before .before .before .before .where-any3 .ensures ∙ ap (whereAny (a .len)) (add-one (a .len))) (c .before .before .before .before .before .before .before .before .before .before .if1 .left) (c .before .before .before .before .before .before .before .before .before .if2 .left) (c .before .before .before .before .before .before .before .before .if3 .left) (c .before .before .before .before .before .before .before .if4 .left) (c .before .before .before .before .before .before .if5 .left) (c .before .before .before .before .before .if6 .left) (c .before .before .before .before .if7 .left) (c .before .before .before .if8 .left) (c .before .before .if9 .left) (c .before .if10 .taken)
 
 returns-11 : tie.Need-returns-11
 returns-11 c =
-    let a = c .before .before .before .before .before .before .before .before .before .before .before .before .args in
-    tables-accepted (a .n) (a .len) (a .h-index) (a .j-index) (a .mask) (a .heads) (a .nexts) (a .offsets) (a .v) (a .b) (a .product) (a .out) (c .before .before .before .before .before .before .before .before .before .before .before .where-any .ensures) (c .before .before .before .before .before .before .before .before .before .before .where-any2 .ensures) (c .before .before .before .before .before .before .before .before .before .if1 .left) (c .before .before .before .before .before .before .before .before .if2 .left) (c .before .before .before .before .before .before .before .if3 .left) (c .before .before .before .before .before .before .if4 .left) (c .before .before .before .before .before .if5 .left) (omega (arith, c .before .before .before .before .if6 .left)) (c .before .before .before .if7 .left) (c .before .before .if8 .left) (c .before .if9 .left) (c .if10 .left)
+    let a = c .before .before .before .before .before .before .before .before .before .before .before .before .before .args in
+    tables-accepted (a .n) (a .len) (a .h-index) (a .j-index) (a .mask) (a .heads) (a .nexts) (a .offsets) (a .v) (a .b) (a .product) (a .out) (c .before .before .before .before .before .before .before .before .before .before .before .before .where-any .ensures) (c .before .before .before .before .before .before .before .before .before .before .before .where-any2 .ensures) (c .before .before .before .before .before .before .before .before .before .before .where-any3 .ensures ∙ ap (whereAny (a .len)) (add-one (a .len))) (c .before .before .before .before .before .before .before .before .before .if1 .left) (c .before .before .before .before .before .before .before .before .if2 .left) (c .before .before .before .before .before .before .before .if3 .left) (c .before .before .before .before .before .before .if4 .left) (c .before .before .before .before .before .if5 .left) (c .before .before .before .before .if6 .left) (c .before .before .before .if7 .left) (c .before .before .if8 .left) (c .before .if9 .left) (c .if10 .left)
 
 pub check-work-spec : {M : Type 1} → statement M
 check-work-spec =
@@ -83,6 +78,8 @@ check-work-spec =
     (tie.spec
     mul-where-any
     (λ c κs. search needs)
+    (λ c κs. search needs)
+    add-where-any
     (λ c κs. search needs)
     (λ c κs. search needs)
     returns
@@ -94,8 +91,6 @@ check-work-spec =
     returns-4
     (λ c κs. search needs)
     returns-5
-    add-if6
-    add-mismatch
     (λ c κs. search needs)
     returns-6
     (λ c κs. search needs)

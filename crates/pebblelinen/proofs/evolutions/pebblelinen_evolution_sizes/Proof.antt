@@ -10,7 +10,7 @@ use Rattle.pebblelinen.proofs.evolutions.pebblelinen_evolution_sizes.Ti
 
 returns : tie.Need-returns
 unfolding evolutionSizes
-returns c = rw (← (c .before .pebblelinen-generator-sizes .ensures), ← (c .smaller .ensures)) refl
+returns c = rw (← (c .before .before .pebblelinen-generator-sizes .ensures), ← (c .before .smaller .ensures), ← (c .where-any .ensures)) refl
 
 pub pebblelinen-evolution-sizes-spec : {M : Type 1} → statement M
-pebblelinen-evolution-sizes-spec = tie.close (tie.spec (λ c κs. search needs) (λ c κs. search needs) (λ c. search needs) returns)
+pebblelinen-evolution-sizes-spec = tie.close (tie.spec (λ c κs. search needs) (λ c κs. search needs) (λ c. search needs) (λ c κs. search needs) returns)
