@@ -1,26 +1,27 @@
 -- SPDX-FileCopyrightText: 2026 The PPVM Authors
 -- SPDX-License-Identifier: Apache-2.0
 
--- The next qubit that a word acts on, found lane by lane, and that a word reaches beyond a register exactly if there is one. Assumes nothing.
-use mathlib.Core.Path.{_≡_, sym, ap, _∙_}
-use mathlib.Core.Bool.{Bool, true, false, not, _&&_}
-use Prim.Native.Nat.{ℕ, _+_, _-_, _*_, _/_, _%_, _^_, _<_, _≤_}
-use native.Mathlib.Nat.{lt-of-le-of-lt}
+-- The next qubit that a word acts on, found lane by lane, and whether a lane has a qubit at or above another that it acts on. Assumes nothing.
+use mathlib.Core.Path.{_≡_, refl, sym, ap, _∙_}
+use mathlib.Core.Bool.{Bool, true, false, not, _&&_, cond}
+use Prim.Native.Nat.{ℕ, zero, suc, _+_, _-_, _*_, _/_, _%_, _^_, _<_, _≤_, min}
+use native.Mathlib.Nat.{lt-of-le-of-lt, lt-trans}
 use native.Mathlib.Omega.{arith}
 use native.Mathlib.Decide.{decLt}
-use borrow.Author.Tests.{eq-eqb, ne-eqb, lt-ltb, le-ltb, le-leb, lt-leb}
-use lib.Bits.{bitOr, or-lt}
+use borrow.Author.Tests.{eq-eqb, ne-eqb, le-leb, lt-leb}
+use lib.Bits.{bitAnd, bitOr, and-lt, or-lt}
 use lib.Count.{trailingZeros}
-use lib.Dec.{ltb, leb}
+use lib.Dec.{eqb, leb}
 use lib.ListN.{getD, List·getD-eq-default}
-use lib.Pow.{shr-shr, shr-le}
+use lib.Pow.{pow-pos, pow-lt, ones-lt, shl-exact, shr-shr, shr-le}
 use Rattle.word.specs.Word.{laneCount, maxQubits, bit, letterIn, Sound}
-use Rattle.word.specs.Register.{actsOn, reaches}
+use Rattle.word.specs.Count.{anyTo}
+use Rattle.word.specs.Register.{actsOn}
 use Rattle.word.specs.declared.word.Word.{Word}
-use Rattle.word.proofs.Sums.{any-none, any-there}
-use Rattle.word.proofs.Digits.{bit-or, zero-bit}
+use Rattle.word.proofs.Sums.{any-cong}
+use Rattle.word.proofs.Digits.{bit-lt, bit-and, bit-or, bit-not, zero-bit, any-digit}
 use Rattle.word.proofs.Lowest.{Lowest, lowest, bit-high}
-use Rattle.word.specs.Between.{NextQubit}
+use Rattle.word.specs.Between.{NextQubit, DigitsFrom}
 
 -- the qubits of lane i: those at which its x or its z is set
 abbrev pub acting : Word → ℕ → ℕ
@@ -48,6 +49,13 @@ module _ (w : Word) where
 -- it acts on none of the qubits from `from` on below lane i
 abbrev pub Passed : Word → ℕ → ℕ → Type 0
 Passed w from i = (q : ℕ) → from ≤ q → q < i * 64 → actsOn w q ≡ false
+
+-- a number of w digits 1
+all-set : (w k : ℕ) → k < w → bit (2 ^ w - 1) k ≡ 1
+all-set w k h =
+    let p = pow-pos w in
+    let e : (2 ^ w - 1) - 0 ≡ 2 ^ w - 1 = omega arith in
+    ap (λ (x : ℕ). bit x k) (sym e) ∙ bit-not w 0 k (omega (arith, p)) h ∙ rw (zero-bit k)
 
 -- digits above k
 shifted : (n k j : ℕ) → bit (n / 2 ^ k) j ≡ bit n (k + j)
@@ -161,19 +169,47 @@ module _ (w : Word) (s : Sound w) where
         go q l (yes m) = p q l (omega arith)
         go q l (no m) = beyond q (omega arith)
 
--- ---- a word reaches beyond a register exactly if there is a next qubit
-pub reaches-is : (w : Word) (n r : ℕ) → NextQubit w n r → ltb r maxQubits ≡ reaches w n
-unfolding reaches
-reaches-is w n r h = go (decLt r maxQubits)
-  where
-    go : Dec (r < maxQubits) → ltb r maxQubits ≡ reaches w n
-    go (yes l) =
-        let f = h .found l in
-        let b : leb n r ≡ true = le-leb n r (f .0) in
-        let a : (leb n r && actsOn w r) ≡ true = rw (b, f .1) in
-        lt-ltb r maxQubits l ∙ sym (any-there maxQubits (λ q. leb n q && actsOn w q) r l a)
-    go (no l) = le-ltb r maxQubits (omega arith) ∙ sym (any-none maxQubits (λ q. leb n q && actsOn w q) (λ q m. at q (decLt q n)))
-      where
-        at : (q : ℕ) → Dec (q < n) → (leb n q && actsOn w q) ≡ false
-        at q (yes k) = ap (λ (b : Bool). b && actsOn w q) (lt-leb n q k)
-        at q (no k) = ap (λ (b : Bool). b && actsOn w q) (le-leb n q (omega arith)) ∙ h .none (omega (arith, h .inside)) q (omega arith)
+-- ---- a lane has a digit at or above qubit n exactly if the word acts on one of its qubits there
+module _ (w : Word) (s : Sound w) (i n mask : ℕ) (fits : mask < 2 ^ 64) (d : DigitsFrom (64 * i) n mask) where
+  acts-digit : (k : ℕ) → k < 64 → not (eqb (bit (acting w i) k) 0) ≡ actsOn w (64 * i + k)
+  acts-digit k h = go (bit (acting w i) k) refl (bit-lt (acting w i) k)
+    where
+      go : (b : ℕ) → bit (acting w i) k ≡ b → b < 2 → not (eqb b 0) ≡ actsOn w (64 * i + k)
+      go zero e l =
+          let q : (64 * i + k) / 64 ≡ i = omega arith in
+          let r : (64 * i + k) % 64 ≡ k = omega arith in
+          sym (idle-at w i (64 * i + k) q (ap (bit (acting w i)) r ∙ e))
+      go (suc zero) e l =
+          let q : (64 * i + k) / 64 ≡ i = omega arith in
+          let r : (64 * i + k) % 64 ≡ k = omega arith in
+          sym (letter-there w (64 * i + k) (rw (q, r) e))
+      go (suc (suc b)) e l = absurd (omega arith)
+
+  masked-digit : (k : ℕ) → k < 64 → not (eqb (bit (bitAnd (acting w i) mask) k) 0) ≡ (leb n (64 * i + k) && actsOn w (64 * i + k))
+  masked-digit k h = ap (λ (x : ℕ). not (eqb x 0)) (bit-and (acting w i) mask k ∙ ap (min (bit (acting w i) k)) (d k h)) ∙ go (leb n (64 * i + k))
+    where
+      go : (b : Bool) → not (eqb (min (bit (acting w i) k) (cond b 1 0)) 0) ≡ (b && actsOn w (64 * i + k))
+      go true = let l = bit-lt (acting w i) k in let e : min (bit (acting w i) k) 1 ≡ bit (acting w i) k = omega (arith, l) in rw e (acts-digit k h)
+      go false = let e : min (bit (acting w i) k) 0 ≡ 0 = omega arith in rw e
+
+  pub lane-reaches : not (eqb (bitAnd (acting w i) mask) 0) ≡ anyTo 64 (λ k. leb n (64 * i + k) && actsOn w (64 * i + k))
+  lane-reaches = any-digit 64 _ (and-lt 64 _ _ (lane-lt w s i) fits) ∙ any-cong 64 _ _ masked-digit
+
+-- a 1 moved up inside a lane
+pub one-shifted : (k : ℕ) → k < 64 → (1 * 2 ^ k) % 2 ^ 64 ≡ 2 ^ k
+one-shifted k h = shl-exact {a = 1} 1 k 64 (omega arith) (omega (arith, h)) ∙ omega arith
+
+-- ---- the digits of a lane at or above a qubit: all, none, or all but the lowest ones
+module _ (from n : ℕ) where
+  pub digits-all : n ≤ from → DigitsFrom from n (2 ^ 64 - 1)
+  digits-all h k l = all-set 64 k l ∙ sym (ap (λ (b : Bool). cond b 1 0) (le-leb n (from + k) (omega (arith, h))))
+
+  pub digits-none : 64 ≤ n - from → DigitsFrom from n 0
+  digits-none h k l = zero-bit k ∙ sym (ap (λ (b : Bool). cond b 1 0) (lt-leb n (from + k) (omega (arith, h, l))))
+
+  pub digits-some : from < n → n - from < 64 → DigitsFrom from n ((2 ^ 64 - 1) - (2 ^ (n - from) - 1))
+  digits-some h f k l = bit-not 64 (2 ^ (n - from) - 1) k (lt-trans (ones-lt (n - from)) (pow-lt f)) l ∙ go (decLt k (n - from))
+    where
+      go : Dec (k < n - from) → 1 - bit (2 ^ (n - from) - 1) k ≡ cond (leb n (from + k)) 1 0
+      go (yes m) = rw (all-set (n - from) k m, lt-leb n (from + k) (omega (arith, h, m)))
+      go (no m) = rw (bit-high (n - from) (2 ^ (n - from) - 1) k (ones-lt (n - from)) (omega (arith, m)), le-leb n (from + k) (omega (arith, h, m)))

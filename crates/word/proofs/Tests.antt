@@ -5,24 +5,25 @@
 use mathlib.Core.Path.{_≡_, refl, sym, ap, ap₂, _∙_}
 use mathlib.Core.Bool.{Bool, true, false, not, _&&_, _||_, Bool·beq}
 use mathlib.Core.List.{List}
-use Prim.Native.Nat.{ℕ, zero, suc, _+_, _-_, _*_, _<_, _≤_, min, max}
+use Prim.Native.Nat.{ℕ, zero, suc, _+_, _-_, _*_, _^_, _<_, _≤_, min, max}
 use native.Mathlib.Omega.{arith}
 use native.Mathlib.Decide.{ℕ-discrete}
 use borrow.Author.Tests.{eq-eqb, ne-eqb}
-use lib.Dec.{T, eqb}
+use lib.Dec.{T, eqb, leb}
 use lib.Bits.{bitAnd, bitOr, bitXor, or-add-and, xor-add-and, and-le-l, and-le-r, and-lt, or-lt, xor-self}
 use lib.ListN.{getD, length}
 use lib.Seq.{ext-getD}
 use Rattle.word.specs.Count.{anyTo, tabulate}
 use Rattle.word.specs.Word.{laneCount, bit, Sound}
-use Rattle.word.specs.Register.{actsOn, share}
+use Rattle.word.specs.Register.{actsOn, reaches, share}
+use Rattle.word.specs.Between.{DigitsFrom}
 use Rattle.word.specs.Order.{same}
 use Rattle.word.specs.declared.word.Word.{Word}
 use Rattle.word.proofs.Sums.{any-cong, any-runs}
 use Rattle.word.proofs.Digits.{at-bits, bit-lt, bit-and, bit-or, any-digit}
 use Rattle.word.proofs.Lanes.{letter-in}
 use Rattle.word.proofs.Words.{word-eq, one-by-one}
-use Rattle.word.proofs.NextLaws.{acting}
+use Rattle.word.proofs.NextLaws.{acting, lane-reaches}
 use Rattle.word.proofs.OrderLaws.{same-self, same-eq}
 
 beq-eq : (a b : Bool) → T (Bool·beq a b) → a ≡ b
@@ -101,6 +102,15 @@ share-is p q sp sq =
     or-any (laneCount - 1) (λ i. bitAnd (acting p i) (acting q i))
     ∙ any-cong laneCount _ _ (λ i h. lane-shares p q i sp sq)
     ∙ sym (any-runs 64 laneCount (λ k. actsOn p k && actsOn q k))
+
+-- ---- reaching beyond a register
+pub reaches-is : (w : Word) → Sound w → (n : ℕ) (mask : ℕ → ℕ) → ((i : ℕ) → i < laneCount → (mask i < 2 ^ 64) × DigitsFrom (64 * i) n (mask i))
+    → not (eqb (orTo (laneCount - 1) (λ i. bitAnd (acting w i) (mask i))) 0) ≡ reaches w n
+unfolding reaches
+reaches-is w s n mask d =
+    or-any (laneCount - 1) (λ i. bitAnd (acting w i) (mask i))
+    ∙ any-cong laneCount _ _ (λ i h. lane-reaches w s i n (mask i) (d i h .0) (d i h .1))
+    ∙ sym (any-runs 64 laneCount (λ q. leb n q && actsOn w q))
 
 -- ---- equality
 abbrev differing : Word → Word → ℕ → ℕ

@@ -2,13 +2,14 @@
 -- SPDX-License-Identifier: Apache-2.0
 
 -- Contracts between functions: what laying a word leaves, what writing codes leaves, and where a word acts next.
-use Prim.Native.Nat.{ℕ, _<_, _≤_}
+use Prim.Native.Nat.{ℕ, _+_, _<_, _≤_}
 use mathlib.Core.Path.{_≡_}
 use mathlib.Core.List.{List}
+use lib.Dec.{leb}
 use lib.ListN.{set}
-use Rattle.word.specs.Word.{maxQubits}
+use Rattle.word.specs.Word.{maxQubits, bit}
 use Rattle.word.specs.declared.word.Word.{Word}
-use mathlib.Core.Bool.{true, false}
+use mathlib.Core.Bool.{true, false, cond}
 use Rattle.refusal.specs.declared.Answer.{Answer}
 use Rattle.word.specs.Register.{actsOn}
 use Rattle.word.specs.Flat.{words, layWord}
@@ -23,6 +24,10 @@ pub record LaysWord (l : List ℕ) (i : ℕ) (w : Word) (after : List ℕ) : Typ
 pub record Wrote (w : Word) (n : ℕ) (out : List ℕ) (answer : Answer) (after : List ℕ) : Type 0 where
   pub answers : answer ≡ writeAnswer w n out
   pub places : after ≡ written w n out
+
+-- the digits at or above qubit n of a lane whose first qubit is `from`
+abbrev pub DigitsFrom : ℕ → ℕ → ℕ → Type 0
+DigitsFrom from n r = (k : ℕ) → k < 64 → bit r k ≡ cond (leb n (from + k)) 1 0
 
 -- r is the first qubit at or after `from` at which it has one, and maxQubits where there is none
 pub record NextQubit (w : Word) (from r : ℕ) : Type 0 where

@@ -3,7 +3,7 @@
 
 // The packed Pauli word, its texts and codes, and the order of words.
 ghost use mathlib.Core.Path.{_≡_};
-ghost use Prim.Native.Nat.{ℕ, _+_, _*_, _≤_, _<_};
+ghost use Prim.Native.Nat.{ℕ, _+_, _*_, _≤_, _<_, _-_, _/_, _^_};
 ghost use lib.Dec.{eqb};
 ghost use lib.ListN.{length};
 ghost use Rattle.word.specs.Word.{maxQubits, bit, letterAt, identity, pack, unpack};
@@ -15,7 +15,7 @@ ghost use Rattle.word.specs.declared.word.Ordering.the-variants.{Equal};
 ghost use Rattle.word.specs.Steps.{chosen, Put, scanFrom};
 use refusal::Answer;
 use refusal::Refusal;
-ghost use Rattle.word.specs.Between.{Wrote, NextQubit};
+ghost use Rattle.word.specs.Between.{Wrote, NextQubit, DigitsFrom};
 
 // The lanes of a word's x and of its z, and the qubits that they hold, 64 to a lane.
 pub const LANES: usize = 4;
@@ -271,11 +271,35 @@ pub fn next_qubit(w: Word, from: usize) -> usize
     MAX_QUBITS
 }
 
-// Whether a word has a letter other than I at or above qubit n.
+// The digits at or above qubit n of a lane whose first qubit is `from`.
+fn digits_from(from: usize, n: usize) -> u64
+    ensures { λ r. ⌜ DigitsFrom from n r ⌝ }
+{
+    if n <= from {
+        return !0;
+    }
+    if 64 <= n - from {
+        return 0;
+    }
+    !((1 << (n - from)) - 1)
+}
+
+// Whether a word has a letter other than I at or above qubit n. All words of models and bases are asked
+// this: the digits are those of the register, and a loop over words finds them once.
 pub fn reaches_beyond(w: Word, n_qubits: usize) -> bool
     ensures { λ r. ⌜ r ≡ reaches w «n_qubits» ⌝ }
 {
-    next_qubit(w, n_qubits) < MAX_QUBITS
+    let m0 = digits_from(0, n_qubits);
+    let m1 = digits_from(64, n_qubits);
+    let m2 = digits_from(128, n_qubits);
+    let m3 = digits_from(192, n_qubits);
+    let x = w.x;
+    let z = w.z;
+    let s0 = (x[0] | z[0]) & m0;
+    let s1 = (x[1] | z[1]) & m1;
+    let s2 = (x[2] | z[2]) & m2;
+    let s3 = (x[3] | z[3]) & m3;
+    s0 | s1 | s2 | s3 != 0
 }
 
 // Writes a code for each of the first n_qubits qubits; places from n_qubits on stay as they were.
