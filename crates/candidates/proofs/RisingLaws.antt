@@ -10,7 +10,7 @@ use Rattle.word.specs.Order.{before}
 use Rattle.word.specs.declared.word.Word.{Word}
 use Rattle.number.specs.Floats.{floats}
 use Rattle.candidates.specs.Sums.{Row, row, putOver, putAll, AllAfter, Rising}
-use Rattle.candidates.specs.Log.{Rows, putRows}
+use Rattle.candidates.specs.Tables.{Rows, putRows}
 use Rattle.candidates.proofs.PutLaws.{Strict, strict}
 
 module _ {W S : Type 0} (lt : W → W → Bool) (plus : S → S → S) (start : S) (o : Strict lt) where

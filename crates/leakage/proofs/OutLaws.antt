@@ -13,7 +13,7 @@ use Rattle.refusal.specs.declared.Refusal.{Refusal}
 use Rattle.refusal.specs.declared.Refusal.the-variants.{TableFull}
 use Rattle.word.specs.Flat.{layWord, wordLanes}
 use Rattle.number.specs.Floats.{float0}
-use Rattle.candidates.specs.Log.{Rows}
+use Rattle.candidates.specs.Tables.{Rows}
 use Rattle.refusal.specs.declared.Answer.the-variants as Tests
 use Rattle.model.specs.Stored.{ModelTables}
 use Rattle.model.specs.declared.stored.Model.{Model}

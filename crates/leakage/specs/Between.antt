@@ -11,7 +11,7 @@ use Rattle.word.specs.Flat.{words, wordLanes}
 use Rattle.number.specs.Floats.{float0}
 use Rattle.order.specs.Magnitudes.{byMagnitude}
 use Rattle.slots.specs.Between.{Slotted}
-use Rattle.candidates.specs.Log.{Rows, candidateRows}
+use Rattle.candidates.specs.Tables.{Rows, candidateRows}
 use Rattle.lent.specs.Read.{Read, got, refused}
 use Rattle.action.specs.declared.act.Acted.the-variants.{Refused}
 use Rattle.passes.specs.declared.taken.Taken.{Taken}

@@ -20,7 +20,7 @@ use Rattle.word.specs.Word.{identity}
 use Rattle.word.specs.declared.word.Word.{Word}
 use Rattle.word.proofs.FlatLaws.{words-high}
 use Rattle.candidates.specs.Sums.{row}
-use Rattle.candidates.specs.Log.{Rows, rows, candidateRows, answer, Holds}
+use Rattle.candidates.specs.Tables.{Rows, rows, candidateRows, answer, Holds}
 use Rattle.candidates.proofs.RowLaws.{noRow, rows-set, rows-at, rows-long}
 use Rattle.candidates.proofs.LogLaws.{first-entries}
 use Rattle.passes.specs.Between.{Holding}

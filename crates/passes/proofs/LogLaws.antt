@@ -18,7 +18,7 @@ use Rattle.number.specs.Floats.{floats}
 use Rattle.order.specs.Places.{isAmong}
 use Rattle.sums.specs.Sums as Terms
 use Rattle.candidates.specs.Sums.{row}
-use Rattle.candidates.specs.Log.{Rows, rows, candidateRows}
+use Rattle.candidates.specs.Tables.{Rows, rows, candidateRows}
 use Rattle.candidates.proofs.RowLaws.{rows-set, rows-long}
 use Rattle.model.specs.Terms.{Term, termAt}
 use Rattle.action.specs.Acts.{listed}

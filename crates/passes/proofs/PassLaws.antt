@@ -24,7 +24,7 @@ use Rattle.number.specs.Floats.{floats}
 use Rattle.sums.specs.declared.sums.Added.{Added}
 use Rattle.sums.specs.declared.sums.Added.the-variants as Put
 use Rattle.candidates.specs.Sums.{Row, putAll}
-use Rattle.candidates.specs.Log.{Rows, rows, candidateRows, putRows, answer, Holds}
+use Rattle.candidates.specs.Tables.{Rows, rows, candidateRows, putRows, answer, Holds}
 use Rattle.candidates.proofs.PutLaws.{strict, all-append, all-grow}
 use Rattle.model.specs.Terms.{Term}
 use Rattle.lent.specs.Read.{Read, got, refused, refuseIf}

@@ -11,7 +11,7 @@ use lib.Ieee.{Float}
 use lib.ListN.{length, take, drop, length-drop, drop-of-length-le}
 use lib.Seq.{take-all, drop-drop}
 use Rattle.refusal.specs.declared.Refusal.{Refusal}
-use Rattle.candidates.specs.Log.{Rows, candidateRows}
+use Rattle.candidates.specs.Tables.{Rows, candidateRows}
 use Rattle.model.specs.Stored.{ModelTables}
 use Rattle.model.specs.declared.stored.Model.{Model}
 use Rattle.lent.specs.Read.{Read, got, refused, onward}

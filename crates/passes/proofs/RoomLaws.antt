@@ -21,7 +21,7 @@ use Rattle.keep.specs.Chosen.{flagOf, chosen}
 use Rattle.keep.proofs.ChosenLaws.{walked-length, chosen-unfixed}
 use Rattle.keep.proofs.FlagLaws.{flagged-few}
 use Rattle.keep.proofs.PickLaws.{pick-length}
-use Rattle.candidates.specs.Log.{Rows, candidateRows}
+use Rattle.candidates.specs.Tables.{Rows, candidateRows}
 use Rattle.candidates.proofs.RowLaws.{table-long}
 use Rattle.lent.specs.Read.{got, refused, refuseIf}
 use Rattle.lent.specs.Tests.{firstTo}

@@ -8,7 +8,7 @@ use Prim.Native.Nat.{ℕ, _≤_}
 use native.Mathlib.Omega.{arith}
 use lib.Ieee.{Float}
 use Rattle.refusal.specs.declared.Refusal.{Refusal}
-use Rattle.candidates.specs.Log.{Rows, candidateRows}
+use Rattle.candidates.specs.Tables.{Rows, candidateRows}
 use Rattle.lent.specs.Read.{Read, got, refused}
 use Rattle.passes.specs.Between.{Took}
 use Rattle.passes.specs.declared.taken.Taken.the-variants.{Held, Refused}

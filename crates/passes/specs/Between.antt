@@ -14,7 +14,7 @@ use Rattle.word.specs.Flat.{words, wordLanes}
 use Rattle.slots.specs.Between.{Slotted}
 use Rattle.sums.specs.declared.sums.Added.{Added}
 use Rattle.candidates.specs.Sums.{row}
-use Rattle.candidates.specs.Log.{Rows, candidateRows, putRows}
+use Rattle.candidates.specs.Tables.{Rows, candidateRows, putRows}
 use Rattle.model.specs.Stored.{ModelTables}
 use Rattle.lent.specs.Read.{Read, got, refused}
 use Rattle.model.specs.Tested.{testModel}

@@ -6,7 +6,7 @@ ghost use mathlib.Core.Path.{_≡_};
 ghost use Prim.Native.Nat.{_*_, _≤_};
 ghost use lib.ListN.{length};
 ghost use Rattle.word.specs.Flat.{wordLanes};
-ghost use Rattle.candidates.specs.Log.{candidateRows, putRows, Holds};
+ghost use Rattle.candidates.specs.Tables.{candidateRows, putRows, Holds};
 ghost use Rattle.passes.specs.Between.{Holding};
 use candidates::merge::absorb;
 use sums::sums::Added;

@@ -8,7 +8,7 @@ ghost use Prim.Native.Nat.{_+_, _*_, _≤_};
 ghost use lib.ListN.{length};
 ghost use Rattle.word.specs.Flat.{words, wordLanes};
 ghost use Rattle.sums.specs.Sums as Terms;
-ghost use Rattle.candidates.specs.Log.{candidateRows};
+ghost use Rattle.candidates.specs.Tables.{candidateRows};
 ghost use Rattle.slots.specs.Between.{Slotted};
 ghost use Rattle.action.specs.Acts.{listed};
 ghost use Rattle.passes.specs.Leaks.{outside, leaked};

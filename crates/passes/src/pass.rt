@@ -9,7 +9,7 @@ ghost use Prim.Native.Nat.{_*_, _≤_};
 ghost use lib.ListN.{length};
 ghost use Rattle.word.specs.Flat.{words as wordsIn, wordLanes};
 ghost use Rattle.order.specs.Between.{AllBelow};
-ghost use Rattle.candidates.specs.Log.{candidateRows, putRows};
+ghost use Rattle.candidates.specs.Tables.{candidateRows, putRows};
 ghost use Rattle.model.specs.Between.{modelTables};
 ghost use Rattle.passes.specs.Between.{heldAfter, noSums, logPlaces, ModelReady, BasisReady, ActionRoom, Holding, Opens, Took};
 ghost use Rattle.passes.specs.Leaks.{takenBy, touchedAt, leaksAt};

@@ -7,7 +7,7 @@ ghost use Prim.Native.Nat.{_*_, _≤_};
 ghost use lib.ListN.{length, take};
 ghost use Rattle.word.specs.Flat.{wordLanes};
 ghost use Rattle.order.specs.Between.{AreFinite};
-ghost use Rattle.candidates.specs.Log.{candidateRows};
+ghost use Rattle.candidates.specs.Tables.{candidateRows};
 ghost use Rattle.passes.specs.Leaks.{largest, ended};
 use crate::taken::Taken;
 use keep::largest::choose_largest_of;

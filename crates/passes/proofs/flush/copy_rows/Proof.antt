@@ -5,7 +5,7 @@
 use mathlib.Core.Path.{_≡_, refl}
 use Prim.Native.Nat.{_≤_, _-_}
 use lib.ListN.{length, length-set}
-use Rattle.candidates.specs.Log.{candidateRows}
+use Rattle.candidates.specs.Tables.{candidateRows}
 use Rattle.passes.proofs.FlushLaws.{copied}
 use native.Mathlib.Omega.{arith}
 use borrow.Author.Needs.{needs}

@@ -9,7 +9,7 @@ use native.Mathlib.Omega.{arith}
 use lib.ListN.{length, drop}
 use Rattle.word.specs.Flat.{words as wordsIn}
 use Rattle.order.proofs.Members.{all-take, all-drop}
-use Rattle.candidates.specs.Log.{candidateRows}
+use Rattle.candidates.specs.Tables.{candidateRows}
 use Rattle.model.specs.Between.{modelTables}
 use Rattle.passes.specs.Leaks.{passes, passCount, touchedAt, leaksAt}
 use Rattle.passes.proofs.PassesLaws.{ready-still, action-room-still, holding-still, rest, rest-start, pass-refused, end-refused, end-held, passes-end}
