@@ -18,7 +18,7 @@ use Rattle.keep.specs.Retained.{pick, flagged}
 use Rattle.keep.proofs.RetainLaws.{retained-words}
 use Rattle.candidates.specs.Sums.{row}
 use Rattle.candidates.specs.Tables.{Rows, rows, candidateRows}
-use Rattle.candidates.proofs.LogLaws.{first-entries}
+use Rattle.candidates.proofs.RowLaws.{first-entries}
 use Rattle.passes.specs.Leaks.{sumsOf}
 use Rattle.keep.specs.Between.{Retains}
 

@@ -201,6 +201,17 @@ module _ (ws : List Word) (heads₀ nexts₀ : List ℕ) where
           nexts-are = λ k u. rw (l .heads-same) (l .nexts-laid k (omega arith));
         }
 
+-- ---- no word
+pub none-slotted : (m : ℕ) → Slotted [] (replicate m 0) []
+unfolding lastIn
+none-slotted m =
+    record {
+      each = refl;
+      enough = omega arith;
+      heads-are = λ s h. getD-replicate m s 0 0 (omega (arith, length-replicate {A = ℕ} m 0));
+      nexts-are = λ i h. absurd (omega arith);
+    }
+
 -- ---- one word more
 module _ (slots : ℕ) (ws : List Word) (w : Word) where
   last-longer : (s b : ℕ) → b ≤ length ws → lastIn slots s (ws ++ (w ∷ [])) b ≡ lastIn slots s ws b

@@ -1,12 +1,12 @@
 -- SPDX-FileCopyrightText: 2026 The PPVM Authors
 -- SPDX-License-Identifier: Apache-2.0
 
--- `log::is_outside` meets its contract. Assumes nothing.
+-- `terms::is_outside` meets its contract. Assumes nothing.
 use mathlib.Core.Path.{sym, _∙_}
 use borrow.Author.Needs.{needs}
-use Rattle.passes.proofs.LogLaws.{inside-first, outside-second}
-use Rattle.passes.proofs.log.is_outside.Statement.{statement}
-use Rattle.passes.proofs.log.is_outside.Tie as tie
+use Rattle.passes.proofs.TermLaws.{inside-first, outside-second}
+use Rattle.passes.proofs.terms.is_outside.Statement.{statement}
+use Rattle.passes.proofs.terms.is_outside.Tie as tie
 
 returns : tie.Need-returns
 returns c = inside-first _ _ _ (sym (c .before .has-word .ensures) ∙ c .if1 .taken)
