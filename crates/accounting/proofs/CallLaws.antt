@@ -11,7 +11,7 @@ use lib.Ieee.{Float}
 use Rattle.word.specs.Flat.{words}
 use Rattle.word.specs.declared.word.Word.{Word}
 use Rattle.order.specs.Places.{isAmong}
-use Rattle.candidates.specs.Log.{Rows}
+use Rattle.candidates.specs.Tables.{Rows}
 use Rattle.model.specs.Terms.{Term}
 use Rattle.model.specs.Stored.{ModelTables}
 use Rattle.model.specs.declared.stored.Model.{Model}

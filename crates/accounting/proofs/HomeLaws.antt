@@ -20,7 +20,7 @@ use Rattle.model.specs.declared.stored.Model.{Model}
 use Rattle.action.specs.Acts.{actionOf}
 use Rattle.order.specs.Members.{Member}
 use Rattle.passes.specs.Leaks.{outside, wordsOf}
-use Rattle.candidates.specs.Log.{Rows}
+use Rattle.candidates.specs.Tables.{Rows}
 use Rattle.leakage.specs.Leakages.{Basis}
 use Rattle.leakage_laws.specs.Calls as Leak
 use Rattle.generator_laws.specs.Matrices.{HasRow, Reached}

@@ -4,8 +4,7 @@
 -- Laws of this crate.
 pub mod PutLaws
 pub mod RisingLaws
-pub mod Turns
 pub mod RowLaws
-pub mod PartLaws
-pub mod LogLaws
-pub mod MergeLaws
+pub mod WordOrderLaws
+pub mod PositionLaws
+pub mod StandLaws

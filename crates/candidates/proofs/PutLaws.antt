@@ -103,7 +103,7 @@ module _ {W S : Type 0} (lt : W → W → Bool) (plus : S → S → S) (start : 
     front w v r rs h = put-put w v r rs (asym lt o w (r .word) h) h
 
     -- entries of different words go in either order, into any table
-    commute : (u w : W) (x v : S) → lt u w ≡ true → (t : List (Row W S)) → put w v (put u x t) ≡ put u x (put w v t)
+    pub commute : (u w : W) (x v : S) → lt u w ≡ true → (t : List (Row W S)) → put w v (put u x t) ≡ put u x (put w v t)
     commute u w x v h [] =
         rw (put-end u x, put-end w v, put-past w v (row u (plus start x)) [] h, put-end w v, front u x (row w (plus start v)) [] h)
     commute u w x v h (r ∷ rs) = go (lt (r .word) u) refl (lt u (r .word)) refl (lt (r .word) w) refl (lt w (r .word)) refl (commute u w x v h rs)

@@ -10,7 +10,7 @@ use Rattle.word.specs.Order.{before}
 use Rattle.word.specs.declared.word.Word.{Word}
 use Rattle.number.specs.Floats.{floats}
 use Rattle.candidates.specs.Sums.{Row, row, putOver, putAll, AllAfter, Rising}
-use Rattle.candidates.specs.Log.{Rows, putRows}
+use Rattle.candidates.specs.Tables.{Rows, putRows}
 use Rattle.candidates.proofs.PutLaws.{Strict, strict}
 
 module _ {W S : Type 0} (lt : W → W → Bool) (plus : S → S → S) (start : S) (o : Strict lt) where
@@ -40,7 +40,7 @@ module _ {W S : Type 0} (lt : W → W → Bool) (plus : S → S → S) (start : 
       go false e true f i = ((f, after-trans w (r .word) t f (h .0)), h)
       go false e false f i = h
 
-  rising-all : {A : Type 0} (key : A → W) (val : A → S) (l : List A) (t : List (Row W S)) → Rising lt t → Rising lt (putAll lt plus start key val l t)
+  pub rising-all : {A : Type 0} (key : A → W) (val : A → S) (l : List A) (t : List (Row W S)) → Rising lt t → Rising lt (putAll lt plus start key val l t)
   unfolding putAll
   rising-all key val [] t h = h
   rising-all key val (e ∷ l) t h = rising-all key val l (putOver lt plus start (key e) (val e) t) (rising-put (key e) (val e) t h)

@@ -1,24 +1,21 @@
 -- SPDX-FileCopyrightText: 2026 The PPVM Authors
 -- SPDX-License-Identifier: Apache-2.0
 
--- Rows of two lists side by side, and answers. Assumes nothing.
+-- Rows of two lists side by side. Assumes nothing.
 use mathlib.Core.Path.{_≡_, refl, ap, sym, _∙_}
-use mathlib.Core.List.{List, [], _∷_}
-use mathlib.Core.Bool.{Bool, false, true≢false}
-use Prim.Native.Nat.{ℕ, zero, suc, _*_, _≤_, _<_}
+use mathlib.Core.List.{List, [], _∷_, _++_}
+use Prim.Native.Nat.{ℕ, zero, suc, _+_, _*_, _≤_, _<_}
+use native.Mathlib.Numerals.{add-one}
 use native.Mathlib.Omega.{arith}
-use native.Mathlib.Decide.{decLt}
-use borrow.Author.Tests.{le-ltb, lt-ltb}
 use lib.Ieee.{Float, nan}
-use lib.ListN.{length, getD, set}
-use lib.Seq.{getD-take, length-take-le}
+use lib.ListN.{length, getD, set, take}
+use lib.Seq.{getD-take, length-take-le, take-suc, take-suc-set}
 use Rattle.word.specs.declared.word.Word.{Word}
-use Rattle.sums.specs.declared.sums.Added.the-variants.{Full, Held}
 use Rattle.word.specs.Flat.{wordLanes, words}
 use Rattle.word.specs.Word.{identity}
-use Rattle.word.proofs.FlatLaws.{words-high}
+use Rattle.word.proofs.FlatLaws.{words-high, words-take}
 use Rattle.candidates.specs.Sums.{Row, row}
-use Rattle.candidates.specs.Log.{Rows, rows, candidateRows, answer, Holds, Beside}
+use Rattle.candidates.specs.Tables.{Rows, rows, candidateRows}
 
 abbrev pub noRow : Row Word Float
 noRow = row identity nan
@@ -56,21 +53,11 @@ rows-long [] b (suc n) h l = absurd (omega arith)
 rows-long (v ∷ a) [] (suc n) h l = absurd (omega arith)
 rows-long (v ∷ a) (y ∷ b) (suc n) h l = omega (arith, rows-long a b n (omega arith) (omega arith))
 
-rows-short : (a : List Word) (b : List Float) → length (rows a b) ≤ length b
-unfolding rows
-rows-short [] b = omega arith
-rows-short (v ∷ a) [] = omega arith
-rows-short (v ∷ a) (y ∷ b) = omega (arith, rows-short a b)
-
 pub rows-few : (a : List Word) (b : List Float) → length (rows a b) ≤ length a
 unfolding rows
 rows-few [] b = omega arith
 rows-few (v ∷ a) [] = omega arith
 rows-few (v ∷ a) (y ∷ b) = omega (arith, rows-few a b)
-
--- as many rows as sums, where there is a word for each
-pub rows-length : (t : List ℕ) (s : List Float) → length t ≡ wordLanes * length s → length (rows (words t) s) ≡ length s
-rows-length t s h = omega (arith, rows-short (words t) s, rows-long (words t) s (length s) (omega (arith, words-high t)) (omega arith))
 
 pub table-long : (n : ℕ) (t : List ℕ) (s : List Float) → wordLanes * n ≤ length t → n ≤ length s → length (candidateRows n t s) ≡ n
 table-long n t s h l = length-take-le n (rows (words t) s) (rows-long (words t) s n (omega (arith, words-high t)) l)
@@ -78,28 +65,33 @@ table-long n t s h l = length-take-le n (rows (words t) s) (rows-long (words t) 
 pub table-at : (n : ℕ) (t : List ℕ) (s : List Float) (i : ℕ) → wordLanes * n ≤ length t → n ≤ length s → i < n → getD (candidateRows n t s) i noRow ≡ row (getD (words t) i identity) (getD s i nan)
 table-at n t s i h l k = getD-take n (rows (words t) s) i noRow k ∙ rows-at (words t) s i (omega (arith, words-high t)) (omega arith)
 
--- ---- answers
-pub held-holds : (room k : ℕ) (g : Rows) (out : List ℕ) (s : List Float) → length out ≡ wordLanes * length s → room ≡ length s → k ≤ room → candidateRows k out s ≡ g → Holds room g out s (Held k)
-unfolding answer
-held-holds room k g out s h c l e =
-    let n : length g ≡ k = rw (← e) (table-long k out s (omega arith) (omega arith)) in
-    record {
-      answers = rw (n, le-ltb room k l);
-      holds = λ m z. let q : k ≡ m = cc in rw (← q) e;
-    }
+-- the first rows of lent lists are the rows of their first lanes
+rows-take : (k : ℕ) (a : List Word) (b : List Float) → rows (take k a) b ≡ take k (rows a b)
+unfolding rows
+rows-take zero a b = refl
+rows-take (suc k) [] b = refl
+rows-take (suc k) (w ∷ a) [] = refl
+rows-take (suc k) (w ∷ a) (x ∷ b) = ap (λ (t : Rows). row w x ∷ t) (rows-take k a b)
 
-pub full-holds : (room : ℕ) (g : Rows) (out : List ℕ) (s : List Float) → room < length g → Holds room g out s Full
-unfolding answer
-full-holds room g out s h =
-    record {
-      answers = rw (lt-ltb room (length g) h);
-      holds = λ m z. let q : _≡_ {A = ℕ} 0 1 = cc in absurd (omega arith);
-    }
+pub first-entries : (count : ℕ) (lanes : List ℕ) (sums : List Float) → rows (words (take (count * wordLanes) lanes)) sums ≡ candidateRows count lanes sums
+first-entries count lanes sums =
+    let e : count * wordLanes ≡ wordLanes * count = omega arith in
+    rw (e, words-take count lanes) (rows-take count (words lanes) sums)
 
--- ---- tests against a row that may not be there
-pub beside-false : (at n : ℕ) (b r : Bool) → Beside at n b r → r ≡ false → (at < n) × (b ≡ false)
-beside-false at n b r t e = go (decLt at n)
-  where
-    go : Dec (at < n) → (at < n) × (b ≡ false)
-    go (yes h) = (h, sym (t .inside h) ∙ e)
-    go (no h) = absurd (true≢false (sym (t .outside (omega arith)) ∙ e))
+-- one row more
+pub table-more : (k : ℕ) (lanes lanes′ : List ℕ) (sums : List Float) (w : Word) (x : Float) → wordLanes * k + wordLanes ≤ length lanes → k < length sums → words lanes′ ≡ set (words lanes) k w
+    → candidateRows (k + 1) lanes′ (set sums k x) ≡ candidateRows k lanes sums ++ (row w x ∷ [])
+table-more k lanes lanes′ sums w x h l e =
+    let R : Rows = rows (words lanes) sums in
+    let n : suc k ≤ length R = rows-long (words lanes) sums (suc k) (omega (arith, words-high lanes)) (omega arith) in
+    rw (add-one k, e, rows-set (words lanes) sums k w x) (take-suc-set R k (row w x) (omega (arith, n)))
+
+-- one row more is copied
+pub copied : (from to to′ : List ℕ) (sums copies copies′ : List Float) (i : ℕ) (w : Word) → wordLanes * i + wordLanes ≤ length from → i < length sums → wordLanes * i + wordLanes ≤ length to → i < length copies
+    → w ≡ getD (words from) i identity → (words to′ ≡ set (words to) i w) × (copies′ ≡ set copies i (getD sums i nan)) → candidateRows i to copies ≡ candidateRows i from sums
+    → candidateRows (i + 1) to′ copies′ ≡ candidateRows (i + 1) from sums
+copied from to to′ sums copies copies′ i w a b c d is-w laid e =
+    let F : Rows = rows (words from) sums in
+    let in-F : i < length F = omega (arith, rows-long (words from) sums (i + 1) (omega (arith, words-high from)) (omega arith)) in
+    let x : getD F i noRow ≡ row w (getD sums i nan) = rows-at (words from) sums i (omega (arith, words-high from)) b ∙ rw is-w in
+    ap (candidateRows (i + 1) to′) (laid .1) ∙ table-more i to to′ copies w (getD sums i nan) c d (laid .0) ∙ rw (add-one i, e, take-suc F i noRow in-F, x)

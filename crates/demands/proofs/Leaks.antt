@@ -20,7 +20,7 @@ use Rattle.order.specs.Magnitudes.{keyAt}
 use Rattle.keep.specs.Retained.{pick}
 use Rattle.keep.proofs.PruneLaws.{Number}
 use Rattle.candidates.specs.Sums.{Row, row}
-use Rattle.candidates.specs.Log.{Rows, candidateRows}
+use Rattle.candidates.specs.Tables.{Rows, candidateRows}
 use Rattle.model.specs.declared.stored.Model.{Model}
 use Rattle.action.specs.declared.act.Acted.the-variants.{Listed}
 use Rattle.passes.specs.Leaks.{sumsOf, passSize, passCount}

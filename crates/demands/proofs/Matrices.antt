@@ -14,7 +14,7 @@ use Rattle.model.specs.Tested.{testModel}
 use Rattle.model.specs.declared.stored.Model.{Model}
 use Rattle.action.specs.Acts.{actionOf}
 use Rattle.action.specs.declared.act.Acted.the-variants.{Listed}
-use Rattle.candidates.specs.Log.{Rows}
+use Rattle.candidates.specs.Tables.{Rows}
 use Rattle.in_use.specs.InUse.{SameModel}
 use Rattle.in_use.proofs.SameModels.{same-action}
 use Rattle.passes.specs.Leaks.{wordsOf}

@@ -53,7 +53,7 @@ use Rattle.truncate.specs.Prunes as Prunes
 use Rattle.truncate.specs.Admissions as Admissions
 use Rattle.truncate.specs.declared.kept.Kept.{Kept}
 use Rattle.truncate.specs.declared.kept.Kept.the-variants as Kept
-use Rattle.candidates.specs.Log.{Rows}
+use Rattle.candidates.specs.Tables.{Rows}
 use Rattle.passes.specs.Leaks.{wordsOf, sumsOf, above}
 use Rattle.leakage.specs.Leakages as Leakage
 use Rattle.limits.specs.Defaults.{tauOf}

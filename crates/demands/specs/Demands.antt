@@ -45,7 +45,7 @@ use Rattle.truncate.specs.declared.kept.Kept.the-variants as Kept
 use Rattle.leakage.specs.Leakages as Leakage
 use Rattle.passes.specs.Leaks.{wordsOf, passSize, passCount}
 use Rattle.candidates.specs.Sums.{Row}
-use Rattle.candidates.specs.Log.{Rows, candidateRows}
+use Rattle.candidates.specs.Tables.{Rows, candidateRows}
 use Rattle.generator.specs.Lent as Generator
 use Rattle.generator.specs.Lent.{basisOf}
 use Rattle.generator.specs.Generators.{Generating, CsrBuilding, generate, buildCsr}

@@ -94,22 +94,18 @@ module _ (m : Model) (t : ModelTables) (b : Basis) (w : Work) (p : Passed m t b 
   fixed-lent h = record { whole = p .protected-whole; nexts-long = need-some (b .len) (length (b .protected) / wordLanes) (length (w .fixedNexts)) h (p .fixed-nexts-long); slots-enough = p .fixed-heads-long h }
 
 -- ---- the places of the tables of the passes
-module _ (workWords : List ℕ) (workSums : List Float) (logWords : List ℕ) (logValues : List Float) (placeOrder placeWork : List ℕ) where
-  pub action-room : {r : ℕ} → r ≡ actionPlaces (length workWords) (length workSums) (length logWords) (length logValues) (length placeOrder) (length placeWork) → ActionRoom r workWords workSums logWords logValues placeOrder placeWork
+module _ (workWords : List ℕ) (workSums : List Float) where
+  pub action-room : {r : ℕ} → r ≡ actionPlaces (length workWords) (length workSums) → ActionRoom r workWords workSums
   unfolding actionPlaces
   action-room e = record {
     work-words = omega (arith, e);
     work-sums = omega (arith, e);
-    log-words = omega (arith, e);
-    log-values = omega (arith, e);
-    order-long = omega (arith, e);
-    work-long = omega (arith, e);
   }
 
 module _ (candWords : List ℕ) (candSums : List Float) (nextWords : List ℕ) (nextSums : List Float) (placeOrder placeWork placeKept : List ℕ) where
   pub record CandidateRoom (r : ℕ) : Type 0 where
     pub held : Holding r 0 candWords candSums
-    pub merged : Holding r 0 nextWords nextSums
+    pub copied : Holding r 0 nextWords nextSums
     pub order-long : r ≤ length placeOrder
     pub work-long : r ≤ length placeWork
     pub kept-long : r ≤ length placeKept
@@ -118,7 +114,7 @@ module _ (candWords : List ℕ) (candSums : List Float) (nextWords : List ℕ) (
   unfolding rowPlaces
   candidate-room e = record {
     held = record { lanes-long = omega (arith, e); sums-long = omega (arith, e); inside = omega arith };
-    merged = record { lanes-long = omega (arith, e); sums-long = omega (arith, e); inside = omega arith };
+    copied = record { lanes-long = omega (arith, e); sums-long = omega (arith, e); inside = omega arith };
     order-long = omega (arith, e);
     work-long = omega (arith, e);
     kept-long = omega (arith, e);

@@ -17,7 +17,7 @@ use Rattle.word.specs.declared.word.Word.{Word}
 use Rattle.order.specs.Merge.{positions, sortBy}
 use Rattle.order.specs.Magnitudes.{byMagnitude, fallsBefore}
 use Rattle.order.proofs.Members.{all-sort, positions-below}
-use Rattle.candidates.specs.Log.{Rows}
+use Rattle.candidates.specs.Tables.{Rows}
 use Rattle.word.proofs.FlatLaws.{words-take}
 use Rattle.model.specs.Stored.{ModelTables}
 use Rattle.lent.specs.Read.{Read}

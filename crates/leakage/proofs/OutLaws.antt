@@ -13,7 +13,7 @@ use Rattle.refusal.specs.declared.Refusal.{Refusal}
 use Rattle.refusal.specs.declared.Refusal.the-variants.{TableFull}
 use Rattle.word.specs.Flat.{layWord, wordLanes}
 use Rattle.number.specs.Floats.{float0}
-use Rattle.candidates.specs.Log.{Rows}
+use Rattle.candidates.specs.Tables.{Rows}
 use Rattle.refusal.specs.declared.Answer.the-variants as Tests
 use Rattle.model.specs.Stored.{ModelTables}
 use Rattle.model.specs.declared.stored.Model.{Model}
@@ -31,9 +31,9 @@ use Rattle.passes.specs.Between.{Took}
 use Rattle.leakage.specs.Between.{PassWork, passWork, zeroedPass, stepRows, HeldInside}
 
 -- ---- the places of the tables that 13 names
-pub action-places-are : (ww ws lw lv po pw : ℕ) {a b c d r : ℕ} → a ≡ min (ww / wordLanes) (ws / 2) → b ≡ min (lw / wordLanes) lv → c ≡ min po pw → d ≡ min b c → r ≡ min a d → r ≡ actionPlaces ww ws lw lv po pw
+pub action-places-are : (ww ws : ℕ) {r : ℕ} → r ≡ min (ww / wordLanes) (ws / 2) → r ≡ actionPlaces ww ws
 unfolding actionPlaces
-action-places-are ww ws lw lv po pw ea eb ec ed er = rw (er, ea, ed, eb, ec)
+action-places-are ww ws e = e
 
 pub row-places-are : (cw cs nw ns po pw pk : ℕ) {a b c d e r : ℕ} → a ≡ min (cw / wordLanes) cs → b ≡ min (nw / wordLanes) ns → c ≡ min a b → d ≡ min po pw → e ≡ min d pk → r ≡ min c e → r ≡ rowPlaces cw cs nw ns po pw pk
 unfolding rowPlaces
@@ -75,15 +75,15 @@ module _ (outWords : List ℕ) (outValues : List Float) (w : Work) (m : Model) (
   leak-accepted out after rows e er eo ez = rw (e, eo, ez, er)
 
 -- ---- work tables are zero afterwards
-pub pass-zero : (w : PassWork) {x0 x1 x3 x5 x7 x8 x9 : List ℕ} {x2 x4 x6 : List Float} → x0 ≡ replicate (length (w .mask)) 0 → x1 ≡ replicate (length (w .workWords)) 0 → x2 ≡ replicate (length (w .workSums)) float0
-    → x3 ≡ replicate (length (w .logWords)) 0 → x4 ≡ replicate (length (w .logValues)) float0 → x5 ≡ replicate (length (w .nextWords)) 0 → x6 ≡ replicate (length (w .nextSums)) float0
-    → x7 ≡ replicate (length (w .placeOrder)) 0 → x8 ≡ replicate (length (w .placeWork)) 0 → x9 ≡ replicate (length (w .placeKept)) 0 → passWork x0 x1 x2 x3 x4 x5 x6 x7 x8 x9 ≡ zeroedPass w
-pass-zero w e0 e1 e2 e3 e4 e5 e6 e7 e8 e9 = rw (e0, e1, e2, e3, e4, e5, e6, e7, e8, e9)
+pub pass-zero : (w : PassWork) {x0 x1 x3 x5 x6 x7 : List ℕ} {x2 x4 : List Float} → x0 ≡ replicate (length (w .mask)) 0 → x1 ≡ replicate (length (w .workWords)) 0 → x2 ≡ replicate (length (w .workSums)) float0
+    → x3 ≡ replicate (length (w .nextWords)) 0 → x4 ≡ replicate (length (w .nextSums)) float0
+    → x5 ≡ replicate (length (w .placeOrder)) 0 → x6 ≡ replicate (length (w .placeWork)) 0 → x7 ≡ replicate (length (w .placeKept)) 0 → passWork x0 x1 x2 x3 x4 x5 x6 x7 ≡ zeroedPass w
+pass-zero w e0 e1 e2 e3 e4 e5 e6 e7 = rw (e0, e1, e2, e3, e4, e5, e6, e7)
 
 -- every table zero is the work tables zero
-pub all-zero : (w : Work) {hIndex jIndex mask workWords order heads nexts fixedHeads fixedNexts logWords candWords nextWords placeOrder placeWork placeKept : List ℕ} {workSums logValues candSums nextSums : List Float}
-    → passWork mask workWords workSums logWords logValues nextWords nextSums placeOrder placeWork placeKept ≡ zeroedPass (passWork (w .mask) (w .workWords) (w .workSums) (w .logWords) (w .logValues) (w .nextWords) (w .nextSums) (w .placeOrder) (w .placeWork) (w .placeKept))
+pub all-zero : (w : Work) {hIndex jIndex mask workWords order heads nexts fixedHeads fixedNexts candWords nextWords placeOrder placeWork placeKept : List ℕ} {workSums candSums nextSums : List Float}
+    → passWork mask workWords workSums nextWords nextSums placeOrder placeWork placeKept ≡ zeroedPass (passWork (w .mask) (w .workWords) (w .workSums) (w .nextWords) (w .nextSums) (w .placeOrder) (w .placeWork) (w .placeKept))
     → hIndex ≡ replicate (length (w .hIndex)) 0 → jIndex ≡ replicate (length (w .jIndex)) 0 → order ≡ replicate (length (w .order)) 0 → heads ≡ replicate (length (w .heads)) 0 → nexts ≡ replicate (length (w .nexts)) 0 → fixedHeads ≡ replicate (length (w .fixedHeads)) 0 → fixedNexts ≡ replicate (length (w .fixedNexts)) 0 → candWords ≡ replicate (length (w .candWords)) 0 → candSums ≡ replicate (length (w .candSums)) float0
-    → workOf hIndex jIndex mask workWords workSums order heads nexts fixedHeads fixedNexts logWords logValues candWords candSums nextWords nextSums placeOrder placeWork placeKept ≡ zeroed w
+    → workOf hIndex jIndex mask workWords workSums order heads nexts fixedHeads fixedNexts candWords candSums nextWords nextSums placeOrder placeWork placeKept ≡ zeroed w
 all-zero w z e0 e1 e2 e3 e4 e5 e6 e7 e8 =
-    rw (ap (λ (p : PassWork). p .mask) z, ap (λ (p : PassWork). p .workWords) z, ap (λ (p : PassWork). p .workSums) z, ap (λ (p : PassWork). p .logWords) z, ap (λ (p : PassWork). p .logValues) z, ap (λ (p : PassWork). p .nextWords) z, ap (λ (p : PassWork). p .nextSums) z, ap (λ (p : PassWork). p .placeOrder) z, ap (λ (p : PassWork). p .placeWork) z, ap (λ (p : PassWork). p .placeKept) z, e0, e1, e2, e3, e4, e5, e6, e7, e8)
+    rw (ap (λ (p : PassWork). p .mask) z, ap (λ (p : PassWork). p .workWords) z, ap (λ (p : PassWork). p .workSums) z, ap (λ (p : PassWork). p .nextWords) z, ap (λ (p : PassWork). p .nextSums) z, ap (λ (p : PassWork). p .placeOrder) z, ap (λ (p : PassWork). p .placeWork) z, ap (λ (p : PassWork). p .placeKept) z, e0, e1, e2, e3, e4, e5, e6, e7, e8)

@@ -11,7 +11,7 @@ use Rattle.word.specs.Flat.{words, wordLanes}
 use Rattle.number.specs.Floats.{float0}
 use Rattle.order.specs.Magnitudes.{byMagnitude}
 use Rattle.slots.specs.Between.{Slotted}
-use Rattle.candidates.specs.Log.{Rows, candidateRows}
+use Rattle.candidates.specs.Tables.{Rows, candidateRows}
 use Rattle.lent.specs.Read.{Read, got, refused}
 use Rattle.action.specs.declared.act.Acted.the-variants.{Refused}
 use Rattle.passes.specs.declared.taken.Taken.{Taken}
@@ -42,22 +42,18 @@ pub record PassWork : Type 0 where
   pub mask : List ℕ
   pub workWords : List ℕ
   pub workSums : List Float
-  pub logWords : List ℕ
-  pub logValues : List Float
   pub nextWords : List ℕ
   pub nextSums : List Float
   pub placeOrder : List ℕ
   pub placeWork : List ℕ
   pub placeKept : List ℕ
 
-abbrev pub passWork : List ℕ → List ℕ → List Float → List ℕ → List Float → List ℕ → List Float → List ℕ → List ℕ → List ℕ → PassWork
-passWork mask workWords workSums logWords logValues nextWords nextSums placeOrder placeWork placeKept =
+abbrev pub passWork : List ℕ → List ℕ → List Float → List ℕ → List Float → List ℕ → List ℕ → List ℕ → PassWork
+passWork mask workWords workSums nextWords nextSums placeOrder placeWork placeKept =
     record {
       mask = mask;
       workWords = workWords;
       workSums = workSums;
-      logWords = logWords;
-      logValues = logValues;
       nextWords = nextWords;
       nextSums = nextSums;
       placeOrder = placeOrder;
@@ -71,8 +67,6 @@ zeroedPass w =
       mask = replicate (length (w .mask)) 0;
       workWords = replicate (length (w .workWords)) 0;
       workSums = replicate (length (w .workSums)) float0;
-      logWords = replicate (length (w .logWords)) 0;
-      logValues = replicate (length (w .logValues)) float0;
       nextWords = replicate (length (w .nextWords)) 0;
       nextSums = replicate (length (w .nextSums)) float0;
       placeOrder = replicate (length (w .placeOrder)) 0;

@@ -13,7 +13,7 @@ use Rattle.refusal.specs.declared.Answer.{Answer}
 use Rattle.refusal.specs.declared.Answer.the-variants as Tests
 use Rattle.word.specs.Flat.{words, layWord, wordLanes}
 use Rattle.number.specs.Floats.{float0}
-use Rattle.candidates.specs.Log.{Rows}
+use Rattle.candidates.specs.Tables.{Rows}
 use Rattle.model.specs.Stored.{ModelTables}
 use Rattle.lent.specs.Read.{Read, got, refused}
 use Rattle.lent.specs.Laid.{laid}
@@ -53,8 +53,6 @@ pub record Work : Type 0 where
   pub nexts : List ℕ
   pub fixedHeads : List ℕ
   pub fixedNexts : List ℕ
-  pub logWords : List ℕ
-  pub logValues : List Float
   pub candWords : List ℕ
   pub candSums : List Float
   pub nextWords : List ℕ
@@ -63,8 +61,8 @@ pub record Work : Type 0 where
   pub placeWork : List ℕ
   pub placeKept : List ℕ
 
-abbrev pub workOf : List ℕ → List ℕ → List ℕ → List ℕ → List Float → List ℕ → List ℕ → List ℕ → List ℕ → List ℕ → List ℕ → List Float → List ℕ → List Float → List ℕ → List Float → List ℕ → List ℕ → List ℕ → Work
-workOf hIndex jIndex mask workWords workSums order heads nexts fixedHeads fixedNexts logWords logValues candWords candSums nextWords nextSums placeOrder placeWork placeKept = record {
+abbrev pub workOf : List ℕ → List ℕ → List ℕ → List ℕ → List Float → List ℕ → List ℕ → List ℕ → List ℕ → List ℕ → List ℕ → List Float → List ℕ → List Float → List ℕ → List ℕ → List ℕ → Work
+workOf hIndex jIndex mask workWords workSums order heads nexts fixedHeads fixedNexts candWords candSums nextWords nextSums placeOrder placeWork placeKept = record {
   hIndex = hIndex;
   jIndex = jIndex;
   mask = mask;
@@ -75,8 +73,6 @@ workOf hIndex jIndex mask workWords workSums order heads nexts fixedHeads fixedN
   nexts = nexts;
   fixedHeads = fixedHeads;
   fixedNexts = fixedNexts;
-  logWords = logWords;
-  logValues = logValues;
   candWords = candWords;
   candSums = candSums;
   nextWords = nextWords;
@@ -98,8 +94,6 @@ zeroed w = record {
   nexts = replicate (length (w .nexts)) 0;
   fixedHeads = replicate (length (w .fixedHeads)) 0;
   fixedNexts = replicate (length (w .fixedNexts)) 0;
-  logWords = replicate (length (w .logWords)) 0;
-  logValues = replicate (length (w .logValues)) float0;
   candWords = replicate (length (w .candWords)) 0;
   candSums = replicate (length (w .candSums)) float0;
   nextWords = replicate (length (w .nextWords)) 0;
@@ -111,14 +105,14 @@ zeroed w = record {
 
 -- the places of table 1, words touched by one action, and of table 2, candidates: those of the shortest table that holds them, by
 -- the lengths of the tables
-unfoldable pub actionPlaces : (workWords workSums logWords logValues placeOrder placeWork : ℕ) → ℕ
-actionPlaces workWords workSums logWords logValues placeOrder placeWork = min (min (workWords / wordLanes) (workSums / 2)) (min (min (logWords / wordLanes) logValues) (min placeOrder placeWork))
+unfoldable pub actionPlaces : (workWords workSums : ℕ) → ℕ
+actionPlaces workWords workSums = min (workWords / wordLanes) (workSums / 2)
 
 unfoldable pub rowPlaces : (candWords candSums nextWords nextSums placeOrder placeWork placeKept : ℕ) → ℕ
 rowPlaces candWords candSums nextWords nextSums placeOrder placeWork placeKept = min (min (min (candWords / wordLanes) candSums) (min (nextWords / wordLanes) nextSums)) (min (min placeOrder placeWork) placeKept)
 
 abbrev pub sumPlaces : Work → ℕ
-sumPlaces w = actionPlaces (length (w .workWords)) (length (w .workSums)) (length (w .logWords)) (length (w .logValues)) (length (w .placeOrder)) (length (w .placeWork))
+sumPlaces w = actionPlaces (length (w .workWords)) (length (w .workSums))
 
 abbrev pub candidatePlaces : Work → ℕ
 candidatePlaces w =

@@ -3,7 +3,7 @@
 
 // The list after the last pass.
 ghost use mathlib.Core.Path.{_≡_};
-ghost use Rattle.candidates.specs.Log.{candidateRows};
+ghost use Rattle.candidates.specs.Tables.{candidateRows};
 ghost use Rattle.lent.specs.Read.{got};
 ghost use Rattle.passes.specs.Between.{Holding};
 ghost use Rattle.leakage.specs.Between.{HeldInside, stepRows};

@@ -7,22 +7,11 @@ ghost use Rattle.leakage.specs.Leakages.{actionPlaces, rowPlaces};
 use lent::sizes::smaller;
 use word::flat::WORD_LANES;
 
-// Table 1: those of the shortest table that holds the words of one action.
-pub fn action_places(
-    work_words: usize,
-    work_sums: usize,
-    log_words: usize,
-    log_values: usize,
-    place_order: usize,
-    place_work: usize,
-) -> usize
-    ensures { λ r. ⌜ r ≡ actionPlaces «work_words» «work_sums» «log_words» «log_values» «place_order» «place_work» ⌝ }
+// Table 1: those of the shorter table that holds the words of one action.
+pub fn action_places(work_words: usize, work_sums: usize) -> usize
+    ensures { λ r. ⌜ r ≡ actionPlaces «work_words» «work_sums» ⌝ }
 {
-    let summed = smaller(work_words / WORD_LANES, work_sums / 2);
-    let logged = smaller(log_words / WORD_LANES, log_values);
-    let ordered = smaller(place_order, place_work);
-    let entries = smaller(logged, ordered);
-    smaller(summed, entries)
+    smaller(work_words / WORD_LANES, work_sums / 2)
 }
 
 // Table 2: those of the shortest table that holds candidates.
@@ -38,8 +27,8 @@ pub fn row_places(
     ensures { λ r. ⌜ r ≡ rowPlaces «cand_words» «cand_sums» «next_words» «next_sums» «place_order» «place_work» «place_kept» ⌝ }
 {
     let held = smaller(cand_words / WORD_LANES, cand_sums);
-    let merged = smaller(next_words / WORD_LANES, next_sums);
-    let rows = smaller(held, merged);
+    let copied = smaller(next_words / WORD_LANES, next_sums);
+    let rows = smaller(held, copied);
     let ordered = smaller(place_order, place_work);
     let places = smaller(ordered, place_kept);
     smaller(rows, places)

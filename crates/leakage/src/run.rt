@@ -43,8 +43,6 @@ pub fn run_and_clear(
     fixed_heads: &[u64],
     fixed_nexts: &[u64],
     positions: &[u64],
-    log_words: &mut [u64],
-    log_values: &mut [f64],
     cand_words: &mut [u64],
     cand_sums: &mut [f64],
     room: usize,
@@ -56,16 +54,9 @@ pub fn run_and_clear(
 ) -> Taken
     requires { ⌜ (0 < length (now positions) → ModelReady m (modelTables (now «h_words») (now «h_coeffs») (now jumps) (now rates) (now «t_words») (now «t_numbers»)) (now «h_index») (now «j_index») (now mask)) ⌝ }
     requires { ⌜ (0 < length (now positions) → BasisReady (m .qubits) (now basis) (now coeffs) (now heads) (now nexts) (now protected) (now «fixed_heads») (now «fixed_nexts») × AllBelow (length (now coeffs)) (now positions)) ⌝ }
-    ensures { λ r. ⌜ Took (rowPlaces (length (now («cand_words» .entry))) (length (now («cand_sums» .entry))) (length (now («next_words» .entry))) (length (now («next_sums» .entry))) (length (now («place_order» .entry))) (length (now («place_work» .entry))) (length (now («place_kept» .entry)))) (passes (touchedAt m (modelTables (now («h_words» .entry)) (now («h_coeffs» .entry)) (now (jumps .entry)) (now (rates .entry)) (now («t_words» .entry)) (now («t_numbers» .entry))) (wordsIn (now (basis .entry))) (now (coeffs .entry)) (wordsIn (now (protected .entry)))) (leaksAt m (modelTables (now («h_words» .entry)) (now («h_coeffs» .entry)) (now (jumps .entry)) (now (rates .entry)) (now («t_words» .entry)) (now («t_numbers» .entry))) (wordsIn (now (basis .entry))) (now (coeffs .entry)) (wordsIn (now (protected .entry)))) (actionPlaces (length (now («work_words» .entry))) (length (now («work_sums» .entry))) (length (now («log_words» .entry))) (length (now («log_values» .entry))) (length (now («place_order» .entry))) (length (now («place_work» .entry)))) (rowPlaces (length (now («cand_words» .entry))) (length (now («cand_sums» .entry))) (length (now («next_words» .entry))) (length (now («next_sums» .entry))) (length (now («place_order» .entry))) (length (now («place_work» .entry))) (length (now («place_kept» .entry)))) room (passCount (length (now (positions .entry)))) (now (positions .entry)) []) (now («cand_words» .exit)) (now («cand_sums» .exit)) r × (passWork (now (mask .exit)) (now («work_words» .exit)) (now («work_sums» .exit)) (now («log_words» .exit)) (now («log_values» .exit)) (now («next_words» .exit)) (now («next_sums» .exit)) (now («place_order» .exit)) (now («place_work» .exit)) (now («place_kept» .exit)) ≡ zeroedPass (passWork (now (mask .entry)) (now («work_words» .entry)) (now («work_sums» .entry)) (now («log_words» .entry)) (now («log_values» .entry)) (now («next_words» .entry)) (now («next_sums» .entry)) (now («place_order» .entry)) (now («place_work» .entry)) (now («place_kept» .entry)))) ⌝ }
+    ensures { λ r. ⌜ Took (rowPlaces (length (now («cand_words» .entry))) (length (now («cand_sums» .entry))) (length (now («next_words» .entry))) (length (now («next_sums» .entry))) (length (now («place_order» .entry))) (length (now («place_work» .entry))) (length (now («place_kept» .entry)))) (passes (touchedAt m (modelTables (now («h_words» .entry)) (now («h_coeffs» .entry)) (now (jumps .entry)) (now (rates .entry)) (now («t_words» .entry)) (now («t_numbers» .entry))) (wordsIn (now (basis .entry))) (now (coeffs .entry)) (wordsIn (now (protected .entry)))) (leaksAt m (modelTables (now («h_words» .entry)) (now («h_coeffs» .entry)) (now (jumps .entry)) (now (rates .entry)) (now («t_words» .entry)) (now («t_numbers» .entry))) (wordsIn (now (basis .entry))) (now (coeffs .entry)) (wordsIn (now (protected .entry)))) (actionPlaces (length (now («work_words» .entry))) (length (now («work_sums» .entry)))) (rowPlaces (length (now («cand_words» .entry))) (length (now («cand_sums» .entry))) (length (now («next_words» .entry))) (length (now («next_sums» .entry))) (length (now («place_order» .entry))) (length (now («place_work» .entry))) (length (now («place_kept» .entry)))) room (passCount (length (now (positions .entry)))) (now (positions .entry)) []) (now («cand_words» .exit)) (now («cand_sums» .exit)) r × (passWork (now (mask .exit)) (now («work_words» .exit)) (now («work_sums» .exit)) (now («next_words» .exit)) (now («next_sums» .exit)) (now («place_order» .exit)) (now («place_work» .exit)) (now («place_kept» .exit)) ≡ zeroedPass (passWork (now (mask .entry)) (now («work_words» .entry)) (now («work_sums» .entry)) (now («next_words» .entry)) (now («next_sums» .entry)) (now («place_order» .entry)) (now («place_work» .entry)) (now («place_kept» .entry)))) ⌝ }
 {
-    let sum_room = action_places(
-        work_words.len(),
-        work_sums.len(),
-        log_words.len(),
-        log_values.len(),
-        place_order.len(),
-        place_work.len(),
-    );
+    let sum_room = action_places(work_words.len(), work_sums.len());
     let candidate_room = row_places(
         cand_words.len(),
         cand_sums.len(),
@@ -97,8 +88,6 @@ pub fn run_and_clear(
         fixed_heads,
         fixed_nexts,
         positions,
-        log_words,
-        log_values,
         cand_words,
         cand_sums,
         candidate_room,
@@ -111,7 +100,6 @@ pub fn run_and_clear(
     );
     clear_lanes(mask);
     clear_rows(work_words, work_sums);
-    clear_rows(log_words, log_values);
     clear_rows(next_words, next_sums);
     clear_three(place_order, place_work, place_kept);
     taken

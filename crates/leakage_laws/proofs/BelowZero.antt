@@ -20,7 +20,7 @@ use Rattle.number.specs.Key.{key, nonneg}
 use Rattle.number.proofs.KeyLaws.{lt-key, magnitude-nonneg, magnitude-fits, magnitude-key}
 use Rattle.keep.proofs.PruneLaws.{Number}
 use Rattle.truncate.proofs.ThresholdLaws.{finite-number}
-use Rattle.candidates.specs.Log.{Rows}
+use Rattle.candidates.specs.Tables.{Rows}
 use Rattle.passes.specs.Leaks.{sumsOf, above}
 use Rattle.limits.specs.Defaults.{isAbove}
 

@@ -26,7 +26,7 @@ use Rattle.number.specs.Floats.{float0, isFinite}
 use Rattle.number.specs.Key.{key}
 use Rattle.keep.proofs.PruneLaws.{Number}
 use Rattle.candidates.specs.Sums.{Row}
-use Rattle.candidates.specs.Log.{Rows, candidateRows}
+use Rattle.candidates.specs.Tables.{Rows, candidateRows}
 use Rattle.model.specs.Stored.{ModelTables}
 use Rattle.lent.specs.Read.{Read, got, refused}
 use Rattle.lent.specs.Laid.{laid}

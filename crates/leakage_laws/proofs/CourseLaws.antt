@@ -13,7 +13,7 @@ use Rattle.word.specs.Order.{before}
 use Rattle.word.specs.Flat.{words}
 use Rattle.order.specs.Magnitudes.{byMagnitude}
 use Rattle.candidates.specs.Sums.{Rising}
-use Rattle.candidates.specs.Log.{Rows}
+use Rattle.candidates.specs.Tables.{Rows}
 use Rattle.model.specs.Stored.{ModelTables}
 use Rattle.lent.specs.Read.{Read, got, refused, onward}
 use Rattle.model.specs.declared.stored.Model.{Model}

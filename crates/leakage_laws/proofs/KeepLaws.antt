@@ -28,7 +28,7 @@ use Rattle.keep.proofs.FlagLaws.{Kept}
 use Rattle.keep.proofs.ChosenLaws.{walked-length, chosen-more}
 use Rattle.keep.proofs.PruneLaws.{Number}
 use Rattle.candidates.specs.Sums.{Row, row, putOver, putAll, AllAfter, Rising}
-use Rattle.candidates.specs.Log.{Rows, putRow, putRows}
+use Rattle.candidates.specs.Tables.{Rows, putRow, putRows}
 use Rattle.candidates.proofs.RisingLaws.{rising-rows}
 use Rattle.lent.specs.Read.{got, refused, refuseIf}
 use Rattle.lent.specs.Tests.{firstTo}
@@ -143,30 +143,6 @@ pub gathered-rising : (leaks : ℕ → Rows) (ps : List ℕ) (R : Rows) → Risi
 unfolding gathered
 gathered-rising leaks [] R h = h
 gathered-rising leaks (p ∷ ps) R h = gathered-rising leaks ps (putRows (leaks p) R) (rising-rows (leaks p) R h)
-
-pick-after : (w : Word) (ks : List ℕ) (R : Rows) → AllAfter before w R → AllAfter before w (pick ks R)
-unfolding AllAfter pick
-pick-after w [] R h = tt
-pick-after w (k ∷ ks) [] h = tt
-pick-after w (k ∷ ks) (r ∷ R) h = go (eqb k 0) (pick-after w ks R (h .1))
-  where
-    go : (b : Bool) → AllAfter before w (pick ks R) → AllAfter before w (cond b (pick ks R) (r ∷ pick ks R))
-    go true rest = rest
-    go false rest = (h .0, rest)
-
-pick-rising : (ks : List ℕ) (R : Rows) → Rising before R → Rising before (pick ks R)
-unfolding AllAfter Rising pick
-pick-rising [] R h = tt
-pick-rising (k ∷ ks) [] h = tt
-pick-rising (k ∷ ks) (r ∷ R) h = go (eqb k 0) (pick-rising ks R (h .1))
-  where
-    go : (b : Bool) → Rising before (pick ks R) → Rising before (cond b (pick ks R) (r ∷ pick ks R))
-    go true rest = rest
-    go false rest = (pick-after (r .word) ks R (h .0), rest)
-
-pub largest-rising : (room : ℕ) (R : Rows) → Rising before R → Rising before (largest room R)
-unfolding largest
-largest-rising room R = pick-rising (roomFlags room R) R
 
 -- ---- a pass's end that is not refused
 pub ended-finite : (room : ℕ) (R S : Rows) → ended room R ≡ got S → (S ≡ largest room R) × ((i : ℕ) → i < length R → isFinite (getD (sumsOf R) i nan) ≡ true)

@@ -30,7 +30,7 @@ use Rattle.order.specs.Between.{All}
 use Rattle.keep.specs.Between.{occurrences}
 use Rattle.truncate.proofs.OrderOnce.{magnitude-once}
 use Rattle.candidates.specs.Sums.{row, putOver, putAll, AllAfter, Rising}
-use Rattle.candidates.specs.Log.{Rows, putRow, putRows}
+use Rattle.candidates.specs.Tables.{Rows, putRow, putRows}
 use Rattle.model.specs.Stored.{ModelTables}
 use Rattle.model.specs.Terms.{Term}
 use Rattle.model.specs.declared.stored.Model.{Model}

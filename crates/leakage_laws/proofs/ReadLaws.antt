@@ -24,7 +24,7 @@ use Rattle.number.specs.Floats.{floats}
 use Rattle.order.specs.Places.{isAmong}
 use Rattle.keep.specs.Retained.{pick}
 use Rattle.candidates.specs.Sums.{Row, row, putOver, putAll}
-use Rattle.candidates.specs.Log.{Rows, candidateRows, putRow, putRows}
+use Rattle.candidates.specs.Tables.{Rows, candidateRows, putRow, putRows}
 use Rattle.candidates.proofs.RowLaws.{noRow, table-at, table-long}
 use Rattle.model.specs.Stored.{ModelTables}
 use Rattle.model.specs.Terms.{Term}

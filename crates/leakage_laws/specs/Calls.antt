@@ -19,7 +19,7 @@ use Rattle.number.specs.Key.{key}
 use Rattle.order.specs.Magnitudes.{byMagnitude, keyAt}
 use Rattle.keep.specs.Retained.{pick}
 use Rattle.candidates.specs.Sums.{Row, Rising}
-use Rattle.candidates.specs.Log.{Rows, candidateRows, putRows}
+use Rattle.candidates.specs.Tables.{Rows, candidateRows, putRows}
 use Rattle.model.specs.Stored.{ModelTables}
 use Rattle.model.specs.Terms.{Term}
 use Rattle.model.specs.declared.stored.Model.{Model}

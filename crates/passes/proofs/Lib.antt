@@ -4,8 +4,7 @@
 -- Laws of this crate.
 pub mod TookLaws
 pub mod TableLaws
-pub mod FlushLaws
-pub mod LogLaws
+pub mod TermLaws
 pub mod PassLaws
 pub mod RoomLaws
 pub mod ListLaws

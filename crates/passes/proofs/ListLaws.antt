@@ -15,7 +15,7 @@ use Rattle.word.specs.Flat.{words, layWord, wordLanes}
 use Rattle.word.specs.Word.{identity}
 use Rattle.word.specs.declared.word.Word.{Word}
 use Rattle.candidates.specs.Sums.{Row, row}
-use Rattle.candidates.specs.Log.{Rows, candidateRows}
+use Rattle.candidates.specs.Tables.{Rows, candidateRows}
 use Rattle.candidates.proofs.RowLaws.{noRow, table-long, table-at}
 use Rattle.lent.specs.Laid.{laid}
 use Rattle.passes.specs.Leaks.{above, wordsOf, sumsOf}

@@ -2,42 +2,36 @@
 -- SPDX-License-Identifier: Apache-2.0
 
 -- The passes one by one: what is left of them gives the answer of all. Assumes nothing.
-use mathlib.Core.Path.{_≡_, ap, sym, _∙_}
+use mathlib.Core.Path.{_≡_, refl, ap, sym, _∙_}
 use mathlib.Core.List.{List, []}
-use Prim.Native.Nat.{ℕ, suc, _+_, _-_, _≤_, _<_, min}
+use Prim.Native.Nat.{ℕ, suc, _+_, _-_, _*_, _≤_, _<_, min}
 use native.Mathlib.Omega.{arith}
 use native.Mathlib.Decide.{decLt}
 use lib.Ieee.{Float}
-use lib.ListN.{length, take, drop, length-drop, drop-of-length-le}
+use lib.ListN.{length, take, drop, replicate, length-drop, drop-of-length-le}
 use lib.Seq.{take-all, drop-drop}
 use Rattle.refusal.specs.declared.Refusal.{Refusal}
-use Rattle.candidates.specs.Log.{Rows, candidateRows}
+use Rattle.word.specs.Flat.{wordLanes}
+use Rattle.slots.proofs.SlotLaws.{none-slotted}
+use Rattle.candidates.specs.Sums.{putAll}
+use Rattle.candidates.specs.Tables.{Rows, candidateRows, inWordOrder}
+use Rattle.candidates.specs.Between.{Standing, Orderable}
 use Rattle.model.specs.Stored.{ModelTables}
 use Rattle.model.specs.declared.stored.Model.{Model}
 use Rattle.lent.specs.Read.{Read, got, refused, onward}
 use Rattle.passes.specs.Leaks.{takenBy, ended, passSize, passCount, passes}
 use Rattle.passes.specs.declared.taken.Taken.{Taken}
 use Rattle.passes.specs.declared.taken.Taken.the-variants.{Held, Refused}
-use Rattle.passes.proofs.TookLaws.{took-held, took-refused}
-use Rattle.passes.specs.Between.{ModelReady, ActionRoom, Holding, Took}
+use Rattle.passes.proofs.TookLaws.{took-held, took-refused, stood-held, stood-refused}
+use Rattle.passes.proofs.RoomLaws.{stand-orderable}
+use Rattle.passes.specs.Between.{ModelReady, ActionRoom, Holding, Stood, Took}
 
 -- ---- tables that a pass has written keep their lengths, and so what is asked of them
 pub ready-still : (m : Model) (t : ModelTables) (hIndex jIndex mask mask′ : List ℕ) → ModelReady m t hIndex jIndex mask → length mask′ ≡ length mask → ModelReady m t hIndex jIndex mask′
 ready-still m t hIndex jIndex mask mask′ r e = record { tested = r .tested; indexed = r .indexed; h-rows = r .h-rows; j-rows = r .j-rows; row = omega (arith, r .row, e) }
 
-pub action-room-still : (room : ℕ) (workWords workWords′ : List ℕ) (workSums workSums′ : List Float) (logWords logWords′ : List ℕ) (logValues logValues′ : List Float) (order order′ work work′ : List ℕ)
-    → ActionRoom room workWords workSums logWords logValues order work
-    → length workWords′ ≡ length workWords → length workSums′ ≡ length workSums → length logWords′ ≡ length logWords → length logValues′ ≡ length logValues → length order′ ≡ length order → length work′ ≡ length work
-    → ActionRoom room workWords′ workSums′ logWords′ logValues′ order′ work′
-action-room-still room workWords workWords′ workSums workSums′ logWords logWords′ logValues logValues′ order order′ work work′ r e1 e2 e3 e4 e5 e6 =
-    record {
-      work-words = omega (arith, r .work-words, e1);
-      work-sums = omega (arith, r .work-sums, e2);
-      log-words = omega (arith, r .log-words, e3);
-      log-values = omega (arith, r .log-values, e4);
-      order-long = omega (arith, r .order-long, e5);
-      work-long = omega (arith, r .work-long, e6);
-    }
+pub action-room-still : (room : ℕ) (workWords workWords′ : List ℕ) (workSums workSums′ : List Float) → ActionRoom room workWords workSums → length workWords′ ≡ length workWords → length workSums′ ≡ length workSums → ActionRoom room workWords′ workSums′
+action-room-still room workWords workWords′ workSums workSums′ r e1 e2 = record { work-words = omega (arith, r .work-words, e1); work-sums = omega (arith, r .work-sums, e2) }
 
 pub holding-still : (room n n′ : ℕ) (lanes lanes′ : List ℕ) (sums sums′ : List Float) → Holding room n lanes sums → length lanes′ ≡ length lanes → length sums′ ≡ length sums → n′ ≤ room → Holding room n′ lanes′ sums′
 holding-still room n n′ lanes lanes′ sums sums′ h el es l = record { lanes-long = omega (arith, h .lanes-long, el); sums-long = omega (arith, h .sums-long, es); inside = l }
@@ -76,8 +70,9 @@ module _ (touched : ℕ → ℕ) (leaks : ℕ → Rows) (sumRoom candidateRoom r
   abbrev pub rest : ℕ → Rows → Read Rows
   rest from = passes touched leaks sumRoom candidateRoom room (passCount (length ps - from)) (drop from ps)
 
-  pub rest-start : rest 0 [] ≡ passes touched leaks sumRoom candidateRoom room (passCount (length ps)) ps []
-  rest-start = let z : length ps - 0 ≡ length ps = omega arith in rw z
+  pub first-rest : (lanes : List ℕ) (sums : List Float) → rest 0 (inWordOrder (candidateRows 0 lanes sums)) ≡ passes touched leaks sumRoom candidateRoom room (passCount (length ps)) ps []
+  unfolding inWordOrder putAll
+  first-rest lanes sums = let z : length ps - 0 ≡ length ps = omega arith in rw z
 
   pub rest-none : (from : ℕ) (T : Rows) → length ps ≤ from → rest from T ≡ got T
   unfolding passes
@@ -93,27 +88,48 @@ module _ (touched : ℕ → ℕ) (leaks : ℕ → Rows) (sumRoom candidateRoom r
     through : onward (taken (take (to - from) (drop from ps)) T) (λ (T′ : Rows). onward (ended room T′) (rest to)) ≡ all
     through = sym (rest-next from to T is h) ∙ going
 
-    module _ (lanes : List ℕ) (sums : List Float) (r : Taken) (took : Took candidateRoom (taken (take (to - from) (drop from ps)) T) lanes sums r) where
-      pub pass-refused : (q : Refusal) → r ≡ Refused q → Took candidateRoom all lanes sums r
+    module _ (lanes : List ℕ) (sums : List Float) (heads nexts : List ℕ) (r : Taken) (took : Stood candidateRoom (taken (take (to - from) (drop from ps)) T) lanes sums heads nexts r) where
+      pub pass-refused : (q : Refusal) → r ≡ Refused q → Stood candidateRoom all lanes sums heads nexts r
       pass-refused q e =
           let stop : taken (take (to - from) (drop from ps)) T ≡ refused q = took .stopped q e in
-          rw e (took-refused candidateRoom all lanes sums q (sym (rw stop at through)))
+          rw e (stood-refused candidateRoom all lanes sums heads nexts q (sym (rw stop at through)))
 
       module _ (n : ℕ) (e : r ≡ Held n) where
-        after : onward (ended room (candidateRows n lanes sums)) (rest to) ≡ all
-        after = let gave : taken (take (to - from) (drop from ps)) T ≡ got (candidateRows n lanes sums) = took .held n e .0 in rw gave at through
+        abbrev now : Rows
+        now = inWordOrder (candidateRows n lanes sums)
 
-        module _ (lanes′ : List ℕ) (sums′ : List Float) (r′ : Taken) (end : Took n (ended room (candidateRows n lanes sums)) lanes′ sums′ r′) where
-          pub end-refused : (q : Refusal) → r′ ≡ Refused q → Took candidateRoom all lanes′ sums′ r′
+        after : onward (ended room now) (rest to) ≡ all
+        after = let gave : taken (take (to - from) (drop from ps)) T ≡ got now = took .held n e .1 in rw gave at through
+
+        module _ (lanes′ : List ℕ) (sums′ : List Float) (heads′ nexts′ : List ℕ) (r′ : Taken) (end : Stood candidateRoom (ended room (inWordOrder (candidateRows n lanes sums))) lanes′ sums′ heads′ nexts′ r′) where
+          pub end-refused : (q : Refusal) → r′ ≡ Refused q → Stood candidateRoom all lanes′ sums′ heads′ nexts′ r′
           end-refused q e′ =
-              let stop : ended room (candidateRows n lanes sums) ≡ refused q = end .stopped q e′ in
-              rw e′ (took-refused candidateRoom all lanes′ sums′ q (sym (rw stop at after)))
+              let stop : ended room now ≡ refused q = end .stopped q e′ in
+              rw e′ (stood-refused candidateRoom all lanes′ sums′ heads′ nexts′ q (sym (rw stop at after)))
 
-          pub end-held : (k : ℕ) → r′ ≡ Held k → (rest to (candidateRows k lanes′ sums′) ≡ all) × (k ≤ candidateRoom)
+          pub end-held : (k : ℕ) → r′ ≡ Held k → (rest to (inWordOrder (candidateRows k lanes′ sums′)) ≡ all) × Standing candidateRoom k lanes′ sums′ heads′ nexts′
           end-held k e′ =
-              let gave : ended room (candidateRows n lanes sums) ≡ got (candidateRows k lanes′ sums′) = end .held k e′ .0 in
-              (rw gave at after, omega (arith, end .held k e′ .1, took .held n e .1))
+              let gave : ended room now ≡ got (inWordOrder (candidateRows k lanes′ sums′)) = end .held k e′ .1 in
+              (rw gave at after, end .held k e′ .0)
 
-  pub passes-end : (all : Read Rows) (from n : ℕ) (lanes : List ℕ) (sums : List Float) → rest from (candidateRows n lanes sums) ≡ all → length ps ≤ from → n ≤ candidateRoom
-      → Took candidateRoom all lanes sums (Held n)
-  passes-end all from n lanes sums going h l = took-held candidateRoom all lanes sums n l (sym going ∙ rest-none from (candidateRows n lanes sums) h)
+  pub passes-end : (all : Read Rows) (from n : ℕ) (lanes : List ℕ) (sums : List Float) (heads nexts : List ℕ) → rest from (inWordOrder (candidateRows n lanes sums)) ≡ all → length ps ≤ from → Standing candidateRoom n lanes sums heads nexts
+      → Stood candidateRoom all lanes sums heads nexts (Held n)
+  passes-end all from n lanes sums heads nexts going h s = stood-held candidateRoom all lanes sums heads nexts n s (sym going ∙ rest-none from (inWordOrder (candidateRows n lanes sums)) h)
+
+-- ---- before the first pass, and after the last
+pub none-stand : (room m : ℕ) (lanes : List ℕ) (sums : List Float) (heads nexts : List ℕ) → wordLanes * room ≤ length lanes → room ≤ length sums → heads ≡ replicate m 0 → room ≤ length heads → room ≤ length nexts → Standing room 0 lanes sums heads nexts
+unfolding inWordOrder putAll
+none-stand room m lanes sums heads nexts hl hs e hh hn =
+    record { lanes-long = hl; sums-long = hs; heads-long = hh; nexts-long = hn; inside = omega arith; slots = rw e (none-slotted m); once = refl }
+
+module _ (room : ℕ) (course : Read Rows) (lanes : List ℕ) (sums : List Float) (heads nexts : List ℕ) (r : Taken) (s : Stood room course lanes sums heads nexts r) where
+  pub run-refused : (q : Refusal) → r ≡ Refused q → Took room course lanes sums r
+  run-refused q e = rw e (took-refused room course lanes sums q (s .stopped q e))
+
+  pub run-orderable : (n : ℕ) → r ≡ Held n → (nextLanes : List ℕ) (nextSums : List Float) → wordLanes * room ≤ length nextLanes → room ≤ length nextSums → Orderable n lanes sums heads nexts nextLanes nextSums
+  run-orderable n e nextLanes nextSums hl hs =
+      let k = s .held n e .0 in
+      stand-orderable room n lanes sums heads nexts k nextLanes nextSums (omega (arith, hl, k .inside)) (omega (arith, hs, k .inside))
+
+  pub run-held : (n : ℕ) → r ≡ Held n → (lanes′ : List ℕ) (sums′ : List Float) → candidateRows n lanes′ sums′ ≡ inWordOrder (candidateRows n lanes sums) → Took room course lanes′ sums′ (Held n)
+  run-held n e lanes′ sums′ f = took-held room course lanes′ sums′ n (s .held n e .0 .inside) (rw f (s .held n e .1))

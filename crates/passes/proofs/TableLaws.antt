@@ -17,8 +17,8 @@ use Rattle.word.proofs.FlatLaws.{words-high}
 use Rattle.keep.specs.Retained.{pick, flagged}
 use Rattle.keep.proofs.RetainLaws.{retained-words}
 use Rattle.candidates.specs.Sums.{row}
-use Rattle.candidates.specs.Log.{Rows, rows, candidateRows}
-use Rattle.candidates.proofs.LogLaws.{first-entries}
+use Rattle.candidates.specs.Tables.{Rows, rows, candidateRows}
+use Rattle.candidates.proofs.RowLaws.{first-entries}
 use Rattle.passes.specs.Leaks.{sumsOf}
 use Rattle.keep.specs.Between.{Retains}
 

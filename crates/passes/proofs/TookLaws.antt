@@ -8,9 +8,10 @@ use Prim.Native.Nat.{ℕ, _≤_}
 use native.Mathlib.Omega.{arith}
 use lib.Ieee.{Float}
 use Rattle.refusal.specs.declared.Refusal.{Refusal}
-use Rattle.candidates.specs.Log.{Rows, candidateRows}
+use Rattle.candidates.specs.Tables.{Rows, candidateRows, inWordOrder}
+use Rattle.candidates.specs.Between.{Standing}
 use Rattle.lent.specs.Read.{Read, got, refused}
-use Rattle.passes.specs.Between.{Took}
+use Rattle.passes.specs.Between.{Stood, Took}
 use Rattle.passes.specs.declared.taken.Taken.the-variants.{Held, Refused}
 
 module _ (room : ℕ) (course : Read Rows) (lanes : List ℕ) (sums : List Float) where
@@ -23,6 +24,21 @@ module _ (room : ℕ) (course : Read Rows) (lanes : List ℕ) (sums : List Float
 
   pub took-refused : (r : Refusal) → course ≡ refused r → Took room course lanes sums (Refused r)
   took-refused r e =
+      record {
+        held = λ m z. let q : _≡_ {A = ℕ} 0 1 = cc in absurd (omega arith);
+        stopped = λ s z. let q : r ≡ s = cc in e ∙ ap refused q;
+      }
+
+module _ (room : ℕ) (course : Read Rows) (lanes : List ℕ) (sums : List Float) (heads nexts : List ℕ) where
+  pub stood-held : (n : ℕ) → Standing room n lanes sums heads nexts → course ≡ got (inWordOrder (candidateRows n lanes sums)) → Stood room course lanes sums heads nexts (Held n)
+  stood-held n s e =
+      record {
+        held = λ m z. let q : n ≡ m = cc in (rw (← q) s, rw (← q) e);
+        stopped = λ r z. let q : _≡_ {A = ℕ} 0 1 = cc in absurd (omega arith);
+      }
+
+  pub stood-refused : (r : Refusal) → course ≡ refused r → Stood room course lanes sums heads nexts (Refused r)
+  stood-refused r e =
       record {
         held = λ m z. let q : _≡_ {A = ℕ} 0 1 = cc in absurd (omega arith);
         stopped = λ s z. let q : r ≡ s = cc in e ∙ ap refused q;

@@ -18,7 +18,7 @@ use Rattle.keep.specs.Retained.{pick}
 use Rattle.keep.specs.Chosen.{chosen}
 use Rattle.sums.specs.declared.sums.Added.the-variants as Put
 use Rattle.candidates.specs.Sums.{Row, row}
-use Rattle.candidates.specs.Log.{Rows, putRows}
+use Rattle.candidates.specs.Tables.{Rows, putRows}
 use Rattle.model.specs.Stored.{ModelTables}
 use Rattle.model.specs.Terms.{Term}
 use Rattle.lent.specs.Read.{Read, got, onward, refuseIf}

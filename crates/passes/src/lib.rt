@@ -2,10 +2,9 @@
 // SPDX-License-Identifier: Apache-2.0
 
 // The passes of leakage: the candidates of a pass, what stays of them, and the list after the last pass.
-pub mod flush;
 pub mod list;
-pub mod log;
 pub mod pass;
 pub mod passes;
 pub mod room;
 pub mod taken;
+pub mod terms;

@@ -6,7 +6,7 @@ ghost use mathlib.Core.Path.{_≡_};
 ghost use Prim.Native.Nat.{_*_, _≤_};
 ghost use lib.ListN.{length, set};
 ghost use Rattle.word.specs.Flat.{layWord, wordLanes};
-ghost use Rattle.candidates.specs.Log.{candidateRows};
+ghost use Rattle.candidates.specs.Tables.{candidateRows};
 ghost use Rattle.lent.specs.Laid.{laid};
 ghost use Rattle.passes.specs.Leaks.{above, wordsOf, sumsOf};
 use limits::is_above;

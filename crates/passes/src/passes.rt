@@ -8,18 +8,22 @@ ghost use Prim.Native.Nat.{_≤_, _<_};
 ghost use lib.ListN.{length};
 ghost use Rattle.word.specs.Flat.{words as wordsIn};
 ghost use Rattle.order.specs.Between.{AllBelow};
+ghost use Rattle.candidates.specs.Between.{Standing};
 ghost use Rattle.model.specs.Between.{modelTables};
-ghost use Rattle.passes.specs.Between.{ModelReady, BasisReady, ActionRoom, Holding, Took};
+ghost use Rattle.passes.specs.Between.{ModelReady, BasisReady, ActionRoom, Holding, Stood, Took};
 ghost use Rattle.passes.specs.Leaks.{passes, passCount, touchedAt, leaksAt};
 use crate::pass::take_pass;
 use crate::room::end_pass;
 use crate::taken::Taken;
+use candidates::ordered::put_in_order;
+use lent::clear::clear_lanes;
 use lent::sizes::smaller;
 use model::stored::Model;
 
 pub const PASS_SIZE: usize = 4096;
 
-pub fn run_passes(
+// Candidates that stand with their slots, after each pass and at the end.
+fn take_passes(
     m: Model,
     h_words: &[u64],
     h_coeffs: &[f64],
@@ -41,8 +45,6 @@ pub fn run_passes(
     fixed_heads: &[u64],
     fixed_nexts: &[u64],
     positions: &[u64],
-    log_words: &mut [u64],
-    log_values: &mut [f64],
     words: &mut [u64],
     sums: &mut [f64],
     candidate_room: usize,
@@ -55,9 +57,9 @@ pub fn run_passes(
 ) -> Taken
     requires { ⌜ (0 < length (now positions) → ModelReady m (modelTables (now «h_words») (now «h_coeffs») (now jumps) (now rates) (now «t_words») (now «t_numbers»)) (now «h_index») (now «j_index») (now mask)) ⌝ }
     requires { ⌜ (0 < length (now positions) → BasisReady (m .qubits) (now basis) (now coeffs) (now heads) (now nexts) (now protected) (now «fixed_heads») (now «fixed_nexts») × AllBelow (length (now coeffs)) (now positions)) ⌝ }
-    requires { ⌜ ActionRoom «sum_room» (now «work_words») (now «work_sums») (now «log_words») (now «log_values») (now order) (now work) ⌝ }
-    requires { ⌜ Holding «candidate_room» 0 (now words) (now sums) × Holding «candidate_room» 0 (now «next_words») (now «next_sums») × («candidate_room» ≤ length (now order)) × («candidate_room» ≤ length (now work)) × («candidate_room» ≤ length (now kept)) ⌝ }
-    ensures { λ r. ⌜ Took «candidate_room» (passes (touchedAt m (modelTables (now («h_words» .entry)) (now («h_coeffs» .entry)) (now (jumps .entry)) (now (rates .entry)) (now («t_words» .entry)) (now («t_numbers» .entry))) (wordsIn (now (basis .entry))) (now (coeffs .entry)) (wordsIn (now (protected .entry)))) (leaksAt m (modelTables (now («h_words» .entry)) (now («h_coeffs» .entry)) (now (jumps .entry)) (now (rates .entry)) (now («t_words» .entry)) (now («t_numbers» .entry))) (wordsIn (now (basis .entry))) (now (coeffs .entry)) (wordsIn (now (protected .entry)))) «sum_room» «candidate_room» room (passCount (length (now (positions .entry)))) (now (positions .entry)) []) (now (words .exit)) (now (sums .exit)) r ⌝ }
+    requires { ⌜ ActionRoom «sum_room» (now «work_words») (now «work_sums») ⌝ }
+    requires { ⌜ Standing «candidate_room» 0 (now words) (now sums) (now order) (now work) × Holding «candidate_room» 0 (now «next_words») (now «next_sums») × («candidate_room» ≤ length (now kept)) ⌝ }
+    ensures { λ r. ⌜ Stood «candidate_room» (passes (touchedAt m (modelTables (now («h_words» .entry)) (now («h_coeffs» .entry)) (now (jumps .entry)) (now (rates .entry)) (now («t_words» .entry)) (now («t_numbers» .entry))) (wordsIn (now (basis .entry))) (now (coeffs .entry)) (wordsIn (now (protected .entry)))) (leaksAt m (modelTables (now («h_words» .entry)) (now («h_coeffs» .entry)) (now (jumps .entry)) (now (rates .entry)) (now («t_words» .entry)) (now («t_numbers» .entry))) (wordsIn (now (basis .entry))) (now (coeffs .entry)) (wordsIn (now (protected .entry)))) «sum_room» «candidate_room» room (passCount (length (now (positions .entry)))) (now (positions .entry)) []) (now (words .exit)) (now (sums .exit)) (now (order .exit)) (now (work .exit)) r ⌝ }
 {
     let mut held = 0;
     let mut from = 0;
@@ -85,21 +87,28 @@ pub fn run_passes(
             fixed_heads,
             fixed_nexts,
             &positions[from..to],
-            log_words,
-            log_values,
             words,
             sums,
             candidate_room,
             held,
             order,
             work,
-            next_words,
-            next_sums,
         );
         let Taken::Held(n) = taken else {
             return taken;
         };
-        let ended = end_pass(words, sums, n, room, order, work, kept);
+        let ended = end_pass(
+            words,
+            sums,
+            candidate_room,
+            n,
+            room,
+            order,
+            work,
+            kept,
+            next_words,
+            next_sums,
+        );
         let Taken::Held(stay) = ended else {
             return ended;
         };
@@ -107,4 +116,83 @@ pub fn run_passes(
         from = to;
     }
     Taken::Held(held)
+}
+
+// The same from an empty table of slots; the candidates are put into word order at the end.
+pub fn run_passes(
+    m: Model,
+    h_words: &[u64],
+    h_coeffs: &[f64],
+    jumps: &[u64],
+    rates: &[f64],
+    t_words: &[u64],
+    t_numbers: &[f64],
+    h_index: &[u64],
+    j_index: &[u64],
+    mask: &mut [u64],
+    work_words: &mut [u64],
+    work_sums: &mut [f64],
+    sum_room: usize,
+    basis: &[u64],
+    coeffs: &[f64],
+    heads: &[u64],
+    nexts: &[u64],
+    protected: &[u64],
+    fixed_heads: &[u64],
+    fixed_nexts: &[u64],
+    positions: &[u64],
+    words: &mut [u64],
+    sums: &mut [f64],
+    candidate_room: usize,
+    room: usize,
+    order: &mut [u64],
+    work: &mut [u64],
+    kept: &mut [u64],
+    next_words: &mut [u64],
+    next_sums: &mut [f64],
+) -> Taken
+    requires { ⌜ (0 < length (now positions) → ModelReady m (modelTables (now «h_words») (now «h_coeffs») (now jumps) (now rates) (now «t_words») (now «t_numbers»)) (now «h_index») (now «j_index») (now mask)) ⌝ }
+    requires { ⌜ (0 < length (now positions) → BasisReady (m .qubits) (now basis) (now coeffs) (now heads) (now nexts) (now protected) (now «fixed_heads») (now «fixed_nexts») × AllBelow (length (now coeffs)) (now positions)) ⌝ }
+    requires { ⌜ ActionRoom «sum_room» (now «work_words») (now «work_sums») ⌝ }
+    requires { ⌜ Holding «candidate_room» 0 (now words) (now sums) × Holding «candidate_room» 0 (now «next_words») (now «next_sums») × («candidate_room» ≤ length (now order)) × («candidate_room» ≤ length (now work)) × («candidate_room» ≤ length (now kept)) ⌝ }
+    ensures { λ r. ⌜ Took «candidate_room» (passes (touchedAt m (modelTables (now («h_words» .entry)) (now («h_coeffs» .entry)) (now (jumps .entry)) (now (rates .entry)) (now («t_words» .entry)) (now («t_numbers» .entry))) (wordsIn (now (basis .entry))) (now (coeffs .entry)) (wordsIn (now (protected .entry)))) (leaksAt m (modelTables (now («h_words» .entry)) (now («h_coeffs» .entry)) (now (jumps .entry)) (now (rates .entry)) (now («t_words» .entry)) (now («t_numbers» .entry))) (wordsIn (now (basis .entry))) (now (coeffs .entry)) (wordsIn (now (protected .entry)))) «sum_room» «candidate_room» room (passCount (length (now (positions .entry)))) (now (positions .entry)) []) (now (words .exit)) (now (sums .exit)) r ⌝ }
+{
+    clear_lanes(order);
+    let taken = take_passes(
+        m,
+        h_words,
+        h_coeffs,
+        jumps,
+        rates,
+        t_words,
+        t_numbers,
+        h_index,
+        j_index,
+        mask,
+        work_words,
+        work_sums,
+        sum_room,
+        basis,
+        coeffs,
+        heads,
+        nexts,
+        protected,
+        fixed_heads,
+        fixed_nexts,
+        positions,
+        words,
+        sums,
+        candidate_room,
+        room,
+        order,
+        work,
+        kept,
+        next_words,
+        next_sums,
+    );
+    let Taken::Held(n) = taken else {
+        return taken;
+    };
+    put_in_order(words, sums, n, order, work, next_words, next_sums);
+    Taken::Held(n)
 }

@@ -7,16 +7,19 @@ ghost use Prim.Native.Nat.{_*_, _≤_};
 ghost use lib.ListN.{length, take};
 ghost use Rattle.word.specs.Flat.{wordLanes};
 ghost use Rattle.order.specs.Between.{AreFinite};
-ghost use Rattle.candidates.specs.Log.{candidateRows};
+ghost use Rattle.candidates.specs.Tables.{candidateRows, inWordOrder};
+ghost use Rattle.candidates.specs.Between.{Standing, Orderable};
 ghost use Rattle.passes.specs.Leaks.{largest, ended};
 use crate::taken::Taken;
+use candidates::ordered::put_in_order;
 use keep::largest::choose_largest_of;
 use keep::retain::retain_in_place;
 use lent::clear::clear_lanes;
 use lent::numbers::first_not_finite;
 use refusal::Refusal;
+use slots::lay_slots;
 use word::flat::WORD_LANES;
-ghost use Rattle.passes.specs.Between.{Holding, Took};
+ghost use Rattle.passes.specs.Between.{Holding, FiniteRows, Stood};
 
 // Keeps the largest, ties to the lower word: how many stay. The tables are of exact lengths. The work table
 // is cleared and says that no candidate is fixed.
@@ -37,8 +40,7 @@ fn retain_largest(
     retain_in_place(words, sums, n, kept)
 }
 
-// The room rule on the first n candidates: how many stay. With room for all, or for none, nothing is
-// looked for.
+// The room rule on the first n candidates, which are in word order: how many stay.
 fn keep_largest(
     words: &mut [u64],
     sums: &mut [f64],
@@ -51,12 +53,6 @@ fn keep_largest(
     requires { ⌜ Holding n n (now words) (now sums) × (n ≤ length (now order)) × (n ≤ length (now work)) × (n ≤ length (now kept)) × AreFinite (take n (now sums)) ⌝ }
     ensures { λ r. ⌜ (r ≤ n) × (candidateRows r (now (words .exit)) (now (sums .exit)) ≡ largest room (candidateRows n (now (words .entry)) (now (sums .entry)))) ⌝ }
 {
-    if n <= room {
-        return n;
-    }
-    if room == 0 {
-        return 0;
-    }
     retain_largest(
         &mut words[..n * WORD_LANES],
         &mut sums[..n],
@@ -67,8 +63,9 @@ fn keep_largest(
     )
 }
 
-// 14, then the room rule.
-pub fn end_pass(
+// The room rule on candidates that stand in any order: they are put into word order first. With room for none
+// nothing is looked for.
+fn cut_rows(
     words: &mut [u64],
     sums: &mut [f64],
     n: usize,
@@ -76,14 +73,77 @@ pub fn end_pass(
     order: &mut [u64],
     work: &mut [u64],
     kept: &mut [u64],
+    next_words: &mut [u64],
+    next_sums: &mut [f64],
+) -> usize
+    requires { ⌜ Orderable n (now words) (now sums) (now order) (now work) (now «next_words») (now «next_sums») × (n ≤ length (now kept)) × FiniteRows (inWordOrder (candidateRows n (now words) (now sums))) ⌝ }
+    ensures { λ r. ⌜ (r ≤ n) × (candidateRows r (now (words .exit)) (now (sums .exit)) ≡ largest room (inWordOrder (candidateRows n (now (words .entry)) (now (sums .entry))))) ⌝ }
+{
+    if room == 0 {
+        return 0;
+    }
+    put_in_order(words, sums, n, order, work, next_words, next_sums);
+    keep_largest(words, sums, n, room, order, work, kept)
+}
+
+// And their slots are laid again.
+fn cut(
+    words: &mut [u64],
+    sums: &mut [f64],
+    places: usize,
+    n: usize,
+    room: usize,
+    order: &mut [u64],
+    work: &mut [u64],
+    kept: &mut [u64],
+    next_words: &mut [u64],
+    next_sums: &mut [f64],
+) -> usize
+    requires { ⌜ Standing places n (now words) (now sums) (now order) (now work) × Holding n n (now «next_words») (now «next_sums») × (n ≤ length (now kept)) × FiniteRows (inWordOrder (candidateRows n (now words) (now sums))) ⌝ }
+    ensures { λ r. ⌜ Standing places r (now (words .exit)) (now (sums .exit)) (now (order .exit)) (now (work .exit)) × (inWordOrder (candidateRows r (now (words .exit)) (now (sums .exit))) ≡ largest room (inWordOrder (candidateRows n (now (words .entry)) (now (sums .entry))))) ⌝ }
+{
+    let held = cut_rows(words, sums, n, room, order, work, kept, next_words, next_sums);
+    lay_slots(&words[..held * WORD_LANES], order, &mut work[..held]);
+    held
+}
+
+// 14, then the room rule; of so many places n candidates stand. Word order decides only which sum is the first
+// that is not finite, and which candidates stay.
+pub fn end_pass(
+    words: &mut [u64],
+    sums: &mut [f64],
+    places: usize,
+    n: usize,
+    room: usize,
+    order: &mut [u64],
+    work: &mut [u64],
+    kept: &mut [u64],
+    next_words: &mut [u64],
+    next_sums: &mut [f64],
 ) -> Taken
-    requires { ⌜ Holding n n (now words) (now sums) × (n ≤ length (now order)) × (n ≤ length (now work)) × (n ≤ length (now kept)) ⌝ }
-    ensures { λ r. ⌜ Took n (ended room (candidateRows n (now (words .entry)) (now (sums .entry)))) (now (words .exit)) (now (sums .exit)) r ⌝ }
+    requires { ⌜ Standing places n (now words) (now sums) (now order) (now work) × Holding n n (now «next_words») (now «next_sums») × (n ≤ length (now kept)) ⌝ }
+    ensures { λ r. ⌜ Stood places (ended room (inWordOrder (candidateRows n (now (words .entry)) (now (sums .entry))))) (now (words .exit)) (now (sums .exit)) (now (order .exit)) (now (work .exit)) r ⌝ }
 {
     let bad = first_not_finite(sums, n);
     if bad < n {
-        return Taken::Refused(Refusal::SumNotFinite { position: bad });
+        put_in_order(words, sums, n, order, work, next_words, next_sums);
+        let position = first_not_finite(sums, n);
+        return Taken::Refused(Refusal::SumNotFinite { position });
     }
-    let held = keep_largest(words, sums, n, room, order, work, kept);
+    if n <= room {
+        return Taken::Held(n);
+    }
+    let held = cut(
+        words,
+        sums,
+        places,
+        n,
+        room,
+        order,
+        work,
+        kept,
+        next_words,
+        next_sums,
+    );
     Taken::Held(held)
 }

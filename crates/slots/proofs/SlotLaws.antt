@@ -1,18 +1,18 @@
 -- SPDX-FileCopyrightText: 2026 The PPVM Authors
 -- SPDX-License-Identifier: Apache-2.0
 
--- The last place of a word lies in the chain of its slot; laying chains, following one, and whether a list holds a word. Assumes nothing.
+-- The last place of a word lies in the chain of its slot; laying chains, following one, whether a list holds a word, and one word more. Assumes nothing.
 use mathlib.Core.Path.{_≡_, refl, ap, sym, _∙_}
 use mathlib.Core.Bool.{Bool, true, false, not, _||_, cond}
-use mathlib.Core.List.{List, [], _∷_}
+use mathlib.Core.List.{List, [], _∷_, _++_}
 use Prim.Native.Nat.{ℕ, zero, suc, _+_, _-_, _≤_, _<_}
 use native.Mathlib.Numerals.{add-one}
 use native.Mathlib.Omega.{arith}
 use native.Mathlib.Decide.{ℕ-discrete}
 use borrow.Author.Tests.{eqb-true, eqb-false, eq-eqb, ne-eqb}
 use lib.Dec.{eqb, eqb·suc-zero}
-use lib.ListN.{length, getD, set, replicate, length-set, getD-replicate, length-replicate}
-use lib.Seq.{getD-set-same, getD-set-other}
+use lib.ListN.{length, getD, set, take, replicate, length-append, length-set, getD-replicate, length-replicate, List·getD-append}
+use lib.Seq.{getD-set-same, getD-set-other, getD-at, length-take-le, take-suc-set}
 use Rattle.word.specs.Order.{same}
 use Rattle.word.specs.Word.{identity}
 use Rattle.word.specs.declared.word.Word.{Word}
@@ -200,3 +200,58 @@ module _ (ws : List Word) (heads₀ nexts₀ : List ℕ) where
           heads-are = λ s u. rw (l .heads-same, ← z) (l .heads-laid s (omega (arith, l .heads-same)));
           nexts-are = λ k u. rw (l .heads-same) (l .nexts-laid k (omega arith));
         }
+
+-- ---- no word
+pub none-slotted : (m : ℕ) → Slotted [] (replicate m 0) []
+unfolding lastIn
+none-slotted m =
+    record {
+      each = refl;
+      enough = omega arith;
+      heads-are = λ s h. getD-replicate m s 0 0 (omega (arith, length-replicate {A = ℕ} m 0));
+      nexts-are = λ i h. absurd (omega arith);
+    }
+
+-- ---- one word more
+module _ (slots : ℕ) (ws : List Word) (w : Word) where
+  last-longer : (s b : ℕ) → b ≤ length ws → lastIn slots s (ws ++ (w ∷ [])) b ≡ lastIn slots s ws b
+  unfolding lastIn
+  last-longer s zero h = refl
+  last-longer s (suc b) h = rw (List·getD-append ws (w ∷ []) identity b (omega arith), last-longer s b (omega arith))
+
+module _ (ws : List Word) (w : Word) (heads nexts : List ℕ) (n s : ℕ) (long : length ws ≡ n) (is : s ≡ slotOf (length heads) w) (low : s < length heads) (few : n < length heads) (free : n < length nexts) (laid : Slotted ws heads (take n nexts)) where
+  abbrev more : List Word
+  more = ws ++ (w ∷ [])
+
+  more-long : length more ≡ suc n
+  more-long = omega (arith, length-append ws (w ∷ []), long)
+
+  pub slot-added : Slotted (ws ++ (w ∷ [])) (set heads s (n + 1)) (take (n + 1) (set nexts n (getD heads s 0)))
+  unfolding lastIn
+  slot-added =
+      rw (add-one n, take-suc-set nexts n (getD heads s 0) free)
+      (record {
+        each = omega (arith, more-long, length-append (take n nexts) (getD heads s 0 ∷ []), length-take-le n nexts (omega arith));
+        enough = omega (arith, more-long, length-set heads s (suc n));
+        heads-are = λ t u. rw (length-set heads s (suc n), more-long) (head t (omega (arith, length-set heads s (suc n))) (ℕ-discrete t s));
+        nexts-are = λ k u. rw (length-set heads s (suc n)) (next k (omega (arith, more-long)) (ℕ-discrete k n));
+      })
+    where
+      here : getD more n identity ≡ w
+      here = getD-at ws w [] identity n long
+
+      head : (t : ℕ) → t < length heads → Dec (t ≡ s) → getD (set heads s (suc n)) t 0 ≡ cond (eqb (slotOf (length heads) (getD more n identity)) t) (suc n) (lastIn (length heads) t more n)
+      head t u (yes q) = rw (q, here, eq-eqb (slotOf (length heads) w) s (sym is)) (getD-set-same heads s (suc n) 0 low)
+      head t u (no q) =
+          rw (here, ne-eqb (slotOf (length heads) w) t (λ z. q (sym z ∙ sym is)), last-longer (length heads) ws w t n (omega arith))
+          (getD-set-other heads s t (suc n) 0 q ∙ laid .heads-are t u ∙ ap (lastIn (length heads) t ws) long)
+
+      next : (k : ℕ) → k < suc n → Dec (k ≡ n) → getD (take n nexts ++ (getD heads s 0 ∷ [])) k 0 ≡ lastIn (length heads) (slotOf (length heads) (getD more k identity)) more k
+      next k u (yes q) =
+          rw (q, here, last-longer (length heads) ws w (slotOf (length heads) w) n (omega arith), ← is)
+          (getD-at (take n nexts) (getD heads s 0) [] 0 n (length-take-le n nexts (omega arith)) ∙ laid .heads-are s low ∙ ap (lastIn (length heads) s ws) long)
+      next k u (no q) =
+          let h : k < n = omega arith in
+          let l : k < length ws = omega arith in
+          rw (List·getD-append ws (w ∷ []) identity k l, last-longer (length heads) ws w (slotOf (length heads) (getD ws k identity)) k (omega arith))
+          (List·getD-append (take n nexts) (getD heads s 0 ∷ []) 0 k (omega (arith, length-take-le n nexts (omega arith))) ∙ laid .nexts-are k l)

@@ -4,8 +4,9 @@
 // Where a word stands in a flat list of words, by chains of places whose words have the same slot. More
 // slots than words keep the chains short; the answers do not depend on their number.
 ghost use mathlib.Core.Path.{_≡_};
-ghost use Prim.Native.Nat.{_*_, _≤_, _<_};
-ghost use lib.ListN.{length, getD};
+ghost use mathlib.Core.List.{List, [], _∷_, _++_};
+ghost use Prim.Native.Nat.{_+_, _*_, _≤_, _<_};
+ghost use lib.ListN.{length, getD, take};
 ghost use Rattle.word.specs.Word.{identity};
 ghost use Rattle.word.specs.Flat.{wordLanes, words};
 ghost use Rattle.order.specs.Places.{isAmong};
@@ -65,6 +66,16 @@ pub fn lay_slots(lanes: &[u64], heads: &mut [u64], nexts: &mut [u64])
         heads[s] = i as u64 + 1;
         i += 1;
     }
+}
+
+// Links the chain of a word that comes to stand behind n others.
+pub fn add_slot(heads: &mut [u64], nexts: &mut [u64], n: usize, w: Word)
+    requires { ⌜ (n < length (now heads)) × (n < length (now nexts)) ⌝ }
+    ensures { λ _. ⌜ ((ws : List Word) → length ws ≡ n → Slotted ws (now (heads .entry)) (take n (now (nexts .entry))) → Slotted (ws ++ (w ∷ [])) (now (heads .exit)) (take (n + 1) (now (nexts .exit)))) ⌝ }
+{
+    let s = slot_of(w, heads.len());
+    nexts[n] = heads[s];
+    heads[s] = n as u64 + 1;
 }
 
 // One more than the last place of w, or 0.

@@ -3,7 +3,7 @@
 
 -- `listing::list_held` meets its contract. Assumes nothing.
 use native.Mathlib.Omega.{arith}
-use Rattle.candidates.specs.Log.{candidateRows}
+use Rattle.candidates.specs.Tables.{candidateRows}
 use Rattle.leakage.proofs.OutLaws.{listing-full, listing-done}
 use borrow.Author.Needs.{needs}
 use Rattle.leakage.proofs.listing.list_held.Statement.{statement}
