@@ -57,7 +57,19 @@ class ModelFile(NamedTuple):
 def load(path: str | os.PathLike[str]) -> ModelFile:
     """Reads a model file."""
     name = os.fspath(path)
-    data = _read(name)
+    return _found(_read(name), name)
+
+
+def loads(text: str, name: str) -> ModelFile:
+    """Reads the text of a model file, which errors call by this name."""
+    try:
+        data = tomllib.loads(text)
+    except (tomllib.TOMLDecodeError, RecursionError) as error:
+        raise InputError(f"this is no TOML: {error}", where=name) from None
+    return _found(data, name)
+
+
+def _found(data: dict[str, Any], name: str) -> ModelFile:
     try:
         return _made(data)
     except (InputError, Refusal) as error:
