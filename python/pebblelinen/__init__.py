@@ -20,6 +20,7 @@ from .leakage import Leakage
 from .matrix import Choice, product, row, select_ms
 from .model import Degree, Evolved, Model, Norm
 from .modelfile import ModelFile, load, save
+from .step import Stepped
 from .terms import Terms
 from .words import Position, Qubit, Word
 
@@ -43,6 +44,7 @@ __all__ = [
     "Position",
     "Qubit",
     "Refusal",
+    "Stepped",
     "Terms",
     "Word",
     "__version__",

@@ -23,6 +23,7 @@ from .combining import summed
 from .errors import InputError, Refusal
 from .items import operator_text, row_text
 from .leakage import TAU_ADD, Leakage
+from .step import Stepped, rules_of, take_step
 from .terms import AnyTerms, Terms
 from .words import (
     MAX_WORDS,
@@ -611,6 +612,37 @@ class Model(Shown, Sealed):
             evolved = basis.copy()
         evolved.coefficients = out
         return Evolved(evolved, answer.products)
+
+    def step(
+        self,
+        basis: Basis,
+        *,
+        dt: float,
+        max_basis: int,
+        admit_basis: int | None = None,
+        tau_add: float | None = None,
+        drop_tol: float = 0.0,
+        protected: AnyWords = (),
+    ) -> Stepped:
+        """The basis after a predictor-corrector step: another basis, whose words may be others, and the number of products
+        with the generator that it took. The basis given stays as it is.
+
+        What leaks out of the basis is admitted with coefficient 0, as far as there is room below max_basis, or admit_basis
+        where that is larger, and above tau_add in magnitude (2^-40 where none is given). The predictor is evolved by dt. If
+        there is room left, what leaks at the predicted numbers is admitted too, and if that brought words, the corrector is
+        evolved from the numbers given. At the end entries below drop_tol are pruned and the largest max_basis kept;
+        protected words that are there stay. A drop_tol of at least 1e-4 asks evolutions for less accuracy."""
+        self._check(basis)
+        rules = rules_of(
+            self.n,
+            max_basis=max_basis,
+            admit_basis=admit_basis,
+            tau_add=tau_add,
+            drop_tol=drop_tol,
+            protected=protected,
+        )
+        with basis._lock:
+            return take_step(self, basis, _given.real(dt, "dt", ("dt",)), rules)
 
     def _largest_column(self, basis: Basis) -> float:
         """The norm of the generator without a shift: magnitudes are added in their order, from 0."""
