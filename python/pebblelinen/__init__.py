@@ -13,6 +13,7 @@ proved to give it; this package carries numbers in and out.
 from . import noise
 from ._version import __version__
 from .basis import Basis, Entry
+from .curve import Curve, Steps
 from .errors import CAUSES, InputError, LibraryMissing, NotPositive, PebblelinenError, Refusal
 from .items import Jump, Matrix
 from .kossakowski import split_matrix
@@ -20,6 +21,10 @@ from .leakage import Leakage
 from .matrix import Choice, product, row, select_ms
 from .model import Degree, Evolved, Model, Norm
 from .modelfile import ModelFile, load, save
+from .resuming import resume
+from .run import Run
+from .state import ProductState
+from .step import Stepped
 from .terms import Terms
 from .words import Position, Qubit, Word
 
@@ -27,6 +32,7 @@ __all__ = [
     "Basis",
     "CAUSES",
     "Choice",
+    "Curve",
     "Degree",
     "Entry",
     "Evolved",
@@ -41,14 +47,19 @@ __all__ = [
     "NotPositive",
     "PebblelinenError",
     "Position",
+    "ProductState",
     "Qubit",
     "Refusal",
+    "Run",
+    "Stepped",
+    "Steps",
     "Terms",
     "Word",
     "__version__",
     "load",
     "noise",
     "product",
+    "resume",
     "row",
     "save",
     "select_ms",
