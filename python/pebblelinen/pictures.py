@@ -1,6 +1,7 @@
 # SPDX-FileCopyrightText: 2026 The PPVM Authors
 # SPDX-License-Identifier: Apache-2.0
-"""Pictures of curves: on top the curve with what is known of its error, below it the words held and what was lost.
+"""Pictures of curves: on top the curve with what is known of its error, below it the coefficients that were followed,
+where there are any and one curve is drawn, the words held, and what was lost.
 
     from pebblelinen import pictures
 
@@ -9,6 +10,8 @@
 
 They are drawn by matplotlib, which is imported only where a picture is asked for; pyplot and its figures are left
 alone."""
+import base64
+import html
 import io
 import math
 import os
@@ -18,11 +21,12 @@ from typing import Any
 
 import numpy as np
 
-from ._curves import CurveLike, Result, Results, curve_of, is_checked, named
+from ._curves import Result, Results, curve_of, is_checked, named
 from ._files import write_whole
 from ._optional import needed
 from ._types import NumberTable
 from ._version import __version__
+from .curve import Curve
 from .errors import InputError, LibraryMissing
 
 ENDINGS = "png", "svg", "pdf"
@@ -50,8 +54,9 @@ _ESTIMATE = "estimate of the error's bound"
 # How much room the estimate may take above and below the curve, in parts of the curve's own height.
 _ROOM_FOR_ESTIMATE = 0.25
 
-# About as many dots as an exact curve is shown with.
+# About as many dots as an exact curve is shown with, and the most coefficients that are drawn.
 _DOTS = 40
+_WORDS = 12
 
 # A legend stands above what it explains, where it hides nothing.
 _ABOVE = {"loc": "lower left", "bbox_to_anchor": (0.0, 1.0), "borderpad": 0.0, "frameon": False, "fontsize": "small"}
@@ -69,7 +74,7 @@ def plot(results: Results, path: str | os.PathLike[str] | None = None, *, figure
     pairs = named(results)
     matplotlib = load()
     with matplotlib.rc_context(_DRAWN):
-        drawn = _new(matplotlib) if figure is None else figure
+        drawn = _new(matplotlib, _followed(pairs)) if figure is None else figure
         _draw(matplotlib, drawn, pairs)
     if path is not None and form is not None:
         write_whole(path, _rendered(matplotlib, drawn, form))
@@ -84,11 +89,19 @@ def picture_bytes(results: Results, form: str = "png") -> bytes:
 
 
 def shown_png(result: Result) -> bytes | None:
-    """The picture that a result shows in Jupyter, and nothing where there is no matplotlib."""
+    """The picture that a result shows in IPython, and nothing where there is no matplotlib."""
     try:
         return picture_bytes(result)
     except LibraryMissing:
         return None
+
+
+def shown_html(result: Result) -> str:
+    """The same as HTML, which Jupyter takes before a picture."""
+    png = shown_png(result)
+    if png is None:
+        return ""
+    return f'<img alt="{html.escape(repr(result))}" src="data:image/png;base64,{base64.b64encode(png).decode()}"/>'
 
 
 def ending(path: str | os.PathLike[str]) -> str:
@@ -106,8 +119,8 @@ def load() -> Any:
     return needed("matplotlib", "a picture", "plot")
 
 
-def _new(matplotlib: Any) -> Any:
-    figure = matplotlib.figure.Figure(figsize=(7.0, 6.4), layout="constrained")
+def _new(matplotlib: Any, followed: bool) -> Any:
+    figure = matplotlib.figure.Figure(figsize=(7.0, 8.4 if followed else 6.4), layout="constrained")
     # IPython shows figures of pyplot only, but for this.
     figure._repr_png_ = lambda: _rendered(matplotlib, figure, "png")
     return figure
@@ -124,20 +137,33 @@ def _rendered(matplotlib: Any, figure: Any, form: str) -> bytes:
 
 
 def _draw(matplotlib: Any, figure: Any, pairs: list[tuple[str, Result]]) -> None:
-    top, held, lost = figure.subplots(3, 1, sharex=True, gridspec_kw={"height_ratios": [4.0, 1.2, 1.7]})
-    styles = [{"color": _COLOURS[i % len(_COLOURS)], "linestyle": _STYLES[i % len(_STYLES)]} for i in range(len(pairs))]
+    heights = [4.0, 2.0, 1.2, 1.7] if _followed(pairs) else [4.0, 1.2, 1.7]
+    panels = figure.subplots(len(heights), 1, sharex=True, gridspec_kw={"height_ratios": heights})
+    top, held, lost = panels[0], panels[-2], panels[-1]
+    styles = [_style(i) for i in range(len(pairs))]
     # What stands for a kind of line in a legend has the colour of the only curve, or none.
     common = styles[0]["color"] if len(pairs) == 1 else _GREY
     _draw_curves(matplotlib, top, pairs, styles, common)
+    if _followed(pairs):
+        _draw_words(panels[1], pairs[0][1])
     _draw_held(matplotlib, held, pairs, styles)
     _draw_lost(matplotlib, lost, pairs, styles, common)
     lost.set_xlabel(_TIME)
-    for axes in top, held, lost:
+    for axes in panels:
         axes.grid(True, color="#DDDDDD", linewidth=0.6)
         axes.set_axisbelow(True)
-    figure.align_ylabels([top, held, lost])
+    figure.align_ylabels(panels)
     if len(pairs) == 1 and is_checked(pairs[0][1]):
         figure.suptitle(textwrap.fill(pairs[0][1].says, 105), fontsize="small", x=0.01, horizontalalignment="left")
+
+
+def _style(place: int) -> dict[str, Any]:
+    return {"color": _COLOURS[place % len(_COLOURS)], "linestyle": _STYLES[place % len(_STYLES)]}
+
+
+def _followed(pairs: list[tuple[str, Result]]) -> bool:
+    """Whether there are coefficients to draw: those of several curves could not be told apart."""
+    return len(pairs) == 1 and bool(curve_of(pairs[0][1]).words)
 
 
 def _draw_curves(
@@ -177,9 +203,24 @@ def _draw_curves(
     axes.legend([*handles, *kinds.values()], labels, ncol=columns, **_ABOVE)
 
 
+def _draw_words(axes: Any, result: Result) -> None:
+    """The coefficients that were followed, of a check with how far they moved."""
+    curve = curve_of(result)
+    for place, (word, values) in enumerate(list(curve.words.items())[:_WORDS]):
+        style = _style(place)
+        axes.plot(curve.times, values, label=word, linewidth=1.4, **style)
+        if is_checked(result):
+            moved = sum(abs(other.words[word] - values) for other in (result.half_step, result.double_room))
+            axes.fill_between(curve.times, values - moved, values + moved, color=style["color"], alpha=0.2, linewidth=0)
+    some = "" if len(curve.words) <= _WORDS else f"\n({_WORDS} of {len(curve.words)})"
+    axes.set_ylabel(f"coefficient{some}")
+    longest = max(map(len, curve.words))
+    axes.legend(ncol=max(1, 80 // (longest + 8)), **_ABOVE)
+
+
 def _limits(pairs: list[tuple[str, Result]]) -> tuple[float, float]:
-    """The lowest and highest number that is shown: of curves, bands and exact curves all, of estimates as much as leaves
-    the curves legible."""
+    """The lowest and highest number that is shown: of curves, bands and exact curves all, of estimates as much as
+    leaves the curves legible."""
     low, high = _span(_certain(result) for _, result in pairs)
     height = high - low or abs(high) or 1.0
     curves = [curve_of(result) for _, result in pairs]
@@ -248,7 +289,7 @@ def _draw_lost(
     axes.legend(handles, labels, ncol=2, **_ABOVE)
 
 
-def leaked_in_steps(curve: CurveLike) -> NumberTable:
+def leaked_in_steps(curve: Curve) -> NumberTable:
     """What leaked in each step: its length times the mean of the rates at its ends, NaN where one is not known."""
     steps = curve.steps
     leaked: NumberTable = (steps.leak_sum_before + steps.leak_sum_after) / 2 * steps.dt

@@ -6,9 +6,10 @@ curve.
     from pebblelinen import results
 
     results.save("decay.h5", curve)             # or a check, or several in a list; decay.csv for a table
-    (stored,) = results.load("decay.h5")        # numpy arrays under the same names
-    results.as_dataset(stored)                  # the same as an xarray data set
-    results.model_of("decay.h5")                # the model file that the curve was made from
+    (stored,) = results.load("decay.h5")        # the same curve, with its numpy arrays
+    results.as_dataset(stored)                  # as an xarray data set
+    results.model_of("decay.h5")                # the model file that it was made from
+    results.rerun("decay.h5")                   # the curve, made again
 
 HDF5 is written and read by h5py, data sets are xarray's; each is imported only where it is asked for. A file has a
 group for each result, "0", "1" and so on, and in it a data set for each array, with its units."""
@@ -16,22 +17,23 @@ import csv
 import io
 import json
 import os
-from collections.abc import Iterator, Mapping, Sequence
-from dataclasses import dataclass
-from typing import Any, NamedTuple
+from collections.abc import Mapping, Sequence
+from typing import Any
 
 import numpy as np
 from numpy.typing import NDArray
 
-from . import modelfile, pictures
-from ._curves import CheckedLike, CurveLike, Result, Results, curve_of, is_checked, named
+from . import modelfile
+from ._curves import Result, Results, curve_of, is_checked, named
 from ._files import write_whole
-from ._given import counted
 from ._optional import needed
 from ._types import NumberTable
 from ._version import __version__
 from .basis import Basis
+from .check import Checked
+from .curve import Curve, Steps
 from .errors import InputError
+from .resuming import run_of
 
 # What a file says that it is, and how its groups are laid out: another layout has another number.
 _FORMAT = "pebblelinen results"
@@ -42,6 +44,7 @@ ENDINGS = "h5", "hdf5", "csv"
 _TIME = "model unit of time"
 _RATE = "1 / model unit of time"
 _NUMBER = "1"
+_LANES = "bits: x[0] to x[3], then z[0] to z[3], qubit q at bit q % 64 of lane q / 64"
 
 # The units of every array that is written.
 _CURVE_UNITS = {
@@ -68,71 +71,6 @@ _CHECK_COLUMNS = "moved_by_step", "moved_by_room", "exact"
 _SETTING_UNITS = {"dt": _TIME, "times": _TIME}
 
 
-class StoredSteps(NamedTuple):
-    """What each step did, from a file: arrays with an entry for each."""
-
-    time: NumberTable
-    dt: NumberTable
-    held: NDArray[np.int64]
-    products: NDArray[np.int64]
-    leak_sum_before: NumberTable
-    leak_root_before: NumberTable
-    leak_sum_after: NumberTable
-    leak_root_after: NumberTable
-    dropped_sum: NumberTable
-    dropped_root: NumberTable
-
-
-@dataclass(frozen=True, eq=False)
-class StoredCurve:
-    """A curve from a file, with the names that it had when it was computed. Its label is the name that it was given in
-    the file, for legends."""
-
-    name: str
-    label: str
-    times: NumberTable
-    values: NumberTable
-    words: dict[str, NumberTable]
-    steps: StoredSteps
-    basis: Basis
-    finished: bool
-    settings: dict[str, Any]
-    leaked: NumberTable
-    dropped: NumberTable
-    estimate: NumberTable
-
-    def __repr__(self) -> str:
-        return f"StoredCurve {self.label}: expectation of {self.name} at {counted(len(self.times), 'time')}"
-
-    def _repr_png_(self) -> bytes | None:
-        return pictures.shown_png(self)
-
-
-@dataclass(frozen=True, eq=False)
-class StoredChecked:
-    """A curve with its check, from a file, with the names that it had when it was computed."""
-
-    curve: StoredCurve
-    half_step: StoredCurve
-    double_room: StoredCurve
-    moved_by_step: NumberTable
-    moved_by_room: NumberTable
-    band: NumberTable
-    exact: NumberTable | None
-    tolerance: float
-    says: str
-    ok: bool
-
-    def __repr__(self) -> str:
-        return f"StoredChecked {self.curve.label}: {self.says}"
-
-    def _repr_png_(self) -> bytes | None:
-        return pictures.shown_png(self)
-
-
-Stored = StoredCurve | StoredChecked
-
-
 def save(path: str | os.PathLike[str], results: Results) -> None:
     """Writes one or several curves, from a run, a check or another file, to a file, whole or not at all: .h5 or .hdf5
     for HDF5 with everything, .csv for a table of the curve. Of a mapping the names are kept as labels."""
@@ -141,19 +79,31 @@ def save(path: str | os.PathLike[str], results: Results) -> None:
     write_whole(path, csv_text(results).encode() if kind == "csv" else _hdf5(load_h5py(), pairs))
 
 
-def load(path: str | os.PathLike[str]) -> list[Stored]:
+def load(path: str | os.PathLike[str]) -> list[Result]:
     """Reads the results of an HDF5 file, in the order in which they were given."""
-    with _Opened(path) as file:
-        return [_checked(group) if group.attrs["kind"] == "check" else _curve(group) for group in _groups(file)]
+    return [result for _, result in _read(path)]
+
+
+def load_named(path: str | os.PathLike[str]) -> dict[str, Result]:
+    """The same, by the names that they had when they were saved: those of a mapping, or of the observables."""
+    return dict(_read(path))
 
 
 def model_of(path: str | os.PathLike[str], place: int = 0) -> modelfile.ModelFile:
-    """The model file that a result was made from: that of the first, or of the one at a place in the file, counted
-    from 0."""
+    """The model file that a result was made from: the first of the file, or the one at a place, counted from 0."""
+    return modelfile.loads(_settings(path, place)["model"], f"{os.fspath(path)}: the model")
+
+
+def rerun(path: str | os.PathLike[str], place: int = 0, *, progress: bool = True) -> Curve:
+    """The curve of a result, made again from its file alone: of the first, or of the one at a place, counted from 0."""
+    return run_of(_settings(path, place), os.fspath(path)).go(progress=progress)
+
+
+def _settings(path: str | os.PathLike[str], place: int) -> dict[str, Any]:
     stored = load(path)
     if not 0 <= place < len(stored):
         raise InputError(f"there is no result {place}: the file has {len(stored)}", where=os.fspath(path))
-    return modelfile.loads(curve_of(stored[place]).settings["model"], f"{os.fspath(path)}: the model")
+    return curve_of(stored[place]).settings
 
 
 def ending(path: str | os.PathLike[str]) -> str:
@@ -181,14 +131,15 @@ def _hdf5(h5py: Any, pairs: list[tuple[str, Result]]) -> bytes:
         file.attrs["version"] = __version__
         for place, (label, result) in enumerate(pairs):
             group = file.create_group(str(place))
+            group.attrs["label"] = label
             if is_checked(result):
-                _put_checked(h5py, group, label, result)
+                _put_checked(h5py, group, result)
             else:
-                _put_curve(h5py, group, label, curve_of(result))
+                _put_curve(h5py, group, curve_of(result))
     return made.getvalue()
 
 
-def _put_checked(h5py: Any, group: Any, label: str, checked: CheckedLike) -> None:
+def _put_checked(h5py: Any, group: Any, checked: Checked) -> None:
     group.attrs["kind"] = "check"
     group.attrs["tolerance"] = float(checked.tolerance)
     group.attrs["ok"] = bool(checked.ok)
@@ -198,13 +149,12 @@ def _put_checked(h5py: Any, group: Any, label: str, checked: CheckedLike) -> Non
     if checked.exact is not None:
         _put(group, "exact", checked.exact, _NUMBER)
     for key in "curve", "half_step", "double_room":
-        _put_curve(h5py, group.create_group(key), label, getattr(checked, key))
+        _put_curve(h5py, group.create_group(key), getattr(checked, key))
 
 
-def _put_curve(h5py: Any, group: Any, label: str, curve: CurveLike) -> None:
+def _put_curve(h5py: Any, group: Any, curve: Curve) -> None:
     group.attrs["kind"] = "curve"
     group.attrs["name"] = curve.name
-    group.attrs["label"] = label
     group.attrs["finished"] = bool(curve.finished)
     for key, unit in _CURVE_UNITS.items():
         _put(group, key, getattr(curve, key), unit)
@@ -217,9 +167,9 @@ def _put_curve(h5py: Any, group: Any, label: str, curve: CurveLike) -> None:
         _put(steps, key, getattr(curve.steps, key), unit)
     basis = group.create_group("basis")
     basis.attrs["n"] = curve.basis.n
-    _put(basis, "words", curve.basis.words, "bits: x[0] to x[3], then z[0] to z[3], qubit q at bit q % 64 of lane q / 64")
+    _put(basis, "words", curve.basis.words, _LANES)
     _put(basis, "coefficients", curve.basis.coefficients, _NUMBER)
-    settings = group.create_group("settings", track_order=True)
+    settings = group.create_group("settings")
     for key, value in curve.settings.items():
         _put_setting(h5py, settings, key, value)
 
@@ -293,16 +243,23 @@ class _Opened:
             raise InputError(f"something is missing or damaged in this file: {error}", where=self.name) from None
 
 
-def _groups(file: Any) -> Iterator[Any]:
-    return (file[str(place)] for place in range(len(file)))
+def _read(path: str | os.PathLike[str]) -> list[tuple[str, Result]]:
+    with _Opened(path) as file:
+        groups = [file[str(place)] for place in range(len(file))]
+        return [(group.attrs["label"], _result(group)) for group in groups]
 
 
-def _checked(group: Any) -> StoredChecked:
-    return StoredChecked(
+def _result(group: Any) -> Result:
+    return _checked(group) if group.attrs["kind"] == "check" else _curve(group)
+
+
+def _checked(group: Any) -> Checked:
+    return Checked(
         curve=_curve(group["curve"]),
         half_step=_curve(group["half_step"]),
         double_room=_curve(group["double_room"]),
-        **{key: group[key][()] for key in _CHECK_UNITS},
+        moved_by_step=group["moved_by_step"][()],
+        moved_by_room=group["moved_by_room"][()],
         exact=group["exact"][()] if "exact" in group else None,
         tolerance=float(group.attrs["tolerance"]),
         says=group.attrs["says"],
@@ -310,15 +267,15 @@ def _checked(group: Any) -> StoredChecked:
     )
 
 
-def _curve(group: Any) -> StoredCurve:
+def _curve(group: Any) -> Curve:
     basis = group["basis"]
-    return StoredCurve(
+    return Curve(
         name=group.attrs["name"],
-        label=group.attrs["label"],
         finished=bool(group.attrs["finished"]),
-        **{key: group[key][()] for key in _CURVE_UNITS},
+        times=group["times"][()],
+        values=group["values"][()],
         words=dict(zip(group["word_names"].asstr()[()], group["word_coefficients"][()])),
-        steps=StoredSteps(**{key: group["steps"][key][()] for key in _STEP_UNITS}),
+        steps=Steps(**{key: group["steps"][key][()] for key in _STEP_UNITS}),
         basis=Basis.from_arrays(int(basis.attrs["n"]), basis["words"][()], basis["coefficients"][()]),
         settings={key: _setting(made) for key, made in group["settings"].items()},
     )
@@ -348,18 +305,18 @@ def csv_text(results: Results) -> str:
     table.writerow([*first, "time", "value", *words, "held", "leaked", "dropped", "estimate", *checks])
     for name, result in pairs:
         curve = curve_of(result)
-        columns: list[Sequence[float | None] | None] = [
+        columns: list[list[float] | None] = [
             curve.times.tolist(),
             curve.values.tolist(),
             *(curve.words[word].tolist() if word in curve.words else None for word in words),
-            held_at_times(curve),
+            curve.held_at().tolist(),
             curve.leaked.tolist(),
             curve.dropped.tolist(),
             curve.estimate.tolist(),
             *(_column(result, key) for key in checks),
         ]
         for i in range(len(curve.times)):
-            cells = ["" if column is None or column[i] is None else repr(column[i]) for column in columns]
+            cells = ["" if column is None else repr(column[i]) for column in columns]
             table.writerow([name, *cells] if first else cells)
     return made.getvalue()
 
@@ -369,18 +326,10 @@ def _column(result: Result, key: str) -> list[float] | None:
     return None if found is None else found.tolist()
 
 
-def held_at_times(curve: CurveLike) -> list[int | None]:
-    """How many words were held at each time: after the last step up to it, and not known before the first."""
-    steps = curve.steps
-    # A step ends at the time after its middle: their last bits may differ.
-    last = np.searchsorted(steps.time - steps.dt / 2, curve.times) - 1
-    return [int(steps.held[place]) if place >= 0 else None for place in last]
-
-
 def as_dataset(result: Result) -> Any:
-    """A result as an xarray data set: by time the value, the losses, the coefficients of chosen words, and of a check how
-    far the curve moved; by step what each step did; by position the basis at the last time. Every variable has its
-    units, and the attributes have the settings."""
+    """A result as an xarray data set: by time the value, the losses, the coefficients of chosen words, and of a check
+    how far the curve moved; by step what each step did; by position the basis at the last time. Every variable has
+    its units, and the attributes have the settings."""
     xarray = needed("xarray", "a data set", "results")
     curve = curve_of(result)
     variables: dict[str, tuple[Any, ...]] = {

@@ -1,6 +1,8 @@
 # SPDX-FileCopyrightText: 2026 The PPVM Authors
 # SPDX-License-Identifier: Apache-2.0
 """Pictures of curves: what stands in them is looked at, in the figure and in the files."""
+import base64
+import html
 import struct
 import sys
 import tempfile
@@ -38,11 +40,13 @@ class Drawn(unittest.TestCase):
 
     def test_a_curve(self):
         curve = made_curves.curve()
-        top, held, lost = pictures.plot(curve).axes
+        top, words, held, lost = pictures.plot(curve).axes
         drawn = lines(top)
         self.same(drawn["Z1"], curve.times, curve.values)
         self.same(drawn["Z1: estimate above"], curve.times, curve.values + curve.estimate)
         self.same(drawn["Z1: estimate below"], curve.times, curve.values - curve.estimate)
+        for word, values in curve.words.items():
+            self.same(lines(words)[word], curve.times, values)
         self.same(lines(held)["Z1"], curve.steps.time, curve.steps.held)
         leaked = (curve.steps.leak_sum_before + curve.steps.leak_sum_after) / 2 * curve.steps.dt
         self.same(lines(lost)["Z1: leaked"], curve.steps.time, leaked)
@@ -52,12 +56,14 @@ class Drawn(unittest.TestCase):
         self.assertEqual(lost.get_yscale(), "log")
 
     def test_labels(self):
-        top, held, lost = pictures.plot(made_curves.curve()).axes
+        top, words, held, lost = pictures.plot(made_curves.curve()).axes
         self.assertEqual(top.get_ylabel(), "expectation of Z1")
+        self.assertEqual(words.get_ylabel(), "coefficient")
         self.assertEqual(held.get_ylabel(), "words held")
         self.assertEqual(lost.get_ylabel(), "lost in a step")
         self.assertEqual(lost.get_xlabel(), "time (in the model's unit of time)")
         self.assertEqual(legend(top), ["Z1", "estimate of the error's bound"])
+        self.assertEqual(legend(words), ["Z1", "Y0 X1"])
         self.assertEqual(
             legend(lost), ["leaked: rate times step, not known in 2 of 10 steps", "dropped by prune and cap"]
         )
@@ -100,19 +106,17 @@ class Drawn(unittest.TestCase):
         self.assertEqual(legend(pictures.plot(curves).axes[0])[:3], names)
         # A dollar starts no formula.
         odd = "$x_1$ & <rate> \\alpha"
-        self.assertIn(odd.encode().replace(b"&", b"&amp;").replace(b"<", b"&lt;").replace(b">", b"&gt;"),
-                      pictures.picture_bytes({odd: curves[0]}, "svg"))
+        self.assertIn(html.escape(odd).encode(), pictures.picture_bytes({odd: curves[0]}, "svg"))
 
     def test_many_are_told_apart(self):
         figure = pictures.plot([made_curves.curve(rate=i / 100) for i in range(30)])
-        told = [(line.get_color(), str(line.get_linestyle()), line._unscaled_dash_pattern) for line in figure.axes[1].lines]
-        self.assertEqual(len({str(each) for each in told}), 30)
+        told = {str((line.get_color(), line._unscaled_dash_pattern)) for line in figure.axes[1].lines}
+        self.assertEqual(len(told), 30)
 
     def test_the_estimate_does_not_squash_the_curve(self):
-        curve = made_curves.curve(unknown=0)
-        low, high = curve.values.min(), curve.values.max()
-        for factor in 0, 1, 1e6:
-            curve.estimate = curve.leaked * factor
+        for leaking in 0.0, 1e-3, 1e3:
+            curve = made_curves.curve(unknown=0, leaking=leaking)
+            low, high = curve.values.min(), curve.values.max()
             least, most = pictures.plot(curve).axes[0].get_ylim()
             self.assertLess(least, low)
             self.assertGreater(most, high)
@@ -120,21 +124,18 @@ class Drawn(unittest.TestCase):
 
     def test_what_is_unknown_or_nothing(self):
         for unknown, said in (0, "nothing was lost"), (10, "what leaked is not known, and nothing was dropped"):
-            curve = made_curves.curve(unknown=unknown, dropped=0.0)
-            if not unknown:
-                for table in curve.steps.leak_sum_before, curve.steps.leak_sum_after:
-                    table[:] = 0.0
-            lost = pictures.plot(curve).axes[2]
+            curve = made_curves.curve(unknown=unknown, leaking=0.0, dropped=0.0)
+            lost = pictures.plot(curve).axes[-1]
             self.assertEqual([text.get_text() for text in lost.texts], [said])
             self.assertTrue(pictures.picture_bytes(curve))
-        curve.estimate[:] = np.nan
+        steps = curve.steps._replace(dropped_sum=curve.steps.dropped_sum * np.nan)
+        curve = made_curves.curve(times=curve.times[1:], values=curve.values[1:], words={}, steps=steps)
         self.assertEqual(legend(pictures.plot(curve).axes[0]), ["Z1"])
 
     def test_one_time_and_a_flat_curve(self):
         self.assertTrue(pictures.picture_bytes(made_curves.curve(count=1, unknown=0)))
         for value in 0.0, -2.0:
-            curve = made_curves.curve()
-            curve.values[:] = value
+            curve = made_curves.curve(values=np.full(11, value))
             least, most = pictures.plot(curve).axes[0].get_ylim()
             self.assertLess(least, value)
             self.assertGreater(most, value)
@@ -142,7 +143,18 @@ class Drawn(unittest.TestCase):
     def test_a_figure_of_the_user(self):
         figure = Figure(figsize=(4, 3))
         self.assertIs(pictures.plot(made_curves.curve(), figure=figure), figure)
-        self.assertEqual(len(figure.axes), 3)
+        self.assertEqual(len(figure.axes), 4)
+
+    def test_words_that_were_followed(self):
+        many = {f"Z{q}": np.zeros(11) for q in range(40)}
+        words = pictures.plot(made_curves.curve(words=many)).axes[1]
+        self.assertEqual(len(words.lines), 12)
+        self.assertEqual(words.get_ylabel(), "coefficient\n(12 of 40)")
+        self.assertEqual(len(pictures.plot(made_curves.curve(words={})).axes), 3)
+        # Those of a check have their bands.
+        checked = made_curves.checked()
+        bands = pictures.plot(checked).axes[1].collections
+        self.assertEqual(len(bands), 2)
 
     def test_what_is_no_curve(self):
         for given, said in ([], "no curve"), ([3], "3 is no curve"), (3, "a list is needed"), ("Z0", "a list"):
@@ -162,7 +174,7 @@ class Files(unittest.TestCase):
             pictures.plot(made_curves.checked(), self.folder / name)
             self.assertTrue((self.folder / name).read_bytes().startswith(head), name)
         self.assertEqual({path.name for path in self.folder.iterdir()}, set(heads))
-        self.assertEqual(shown_size((self.folder / "one.png").read_bytes()), (700, 640))
+        self.assertEqual(shown_size((self.folder / "one.png").read_bytes()), (700, 840))
 
     def test_letters_in_an_svg(self):
         pictures.plot({"before": made_curves.checked()}, self.folder / "one.svg")
@@ -188,8 +200,7 @@ class Files(unittest.TestCase):
     def test_nothing_is_written_on_an_error(self):
         old = self.folder / "old.png"
         old.write_bytes(b"before")
-        broken = made_curves.curve()
-        broken.values = broken.values[:-1]
+        broken = made_curves.curve(values=np.zeros(3))
         with self.assertRaises(ValueError):
             pictures.plot(broken, old)
         self.assertEqual(old.read_bytes(), b"before")
@@ -198,8 +209,15 @@ class Files(unittest.TestCase):
         self.assertEqual(list(self.folder.iterdir()), [old])
 
     def test_in_jupyter(self):
-        curve = made_curves.curve()
-        self.assertEqual(pictures.plot(curve)._repr_png_(), pictures.shown_png(curve))
+        for result in made_curves.curve(), made_curves.checked():
+            png = result._repr_png_()
+            self.assertEqual(png, pictures.plot(result)._repr_png_())
+            # Of HTML and a picture, Jupyter shows the first: it has both, and a table.
+            root = xml.etree.ElementTree.fromstring(f"<div>{result._repr_html_()}</div>")
+            kind, _, data = root.find("img").get("src").partition(",")
+            self.assertEqual((kind, base64.b64decode(data)), ("data:image/png;base64", png))
+            self.assertEqual(root.find("img").get("alt"), repr(result))
+            self.assertEqual(len(root.findall("table/tr")), 12)
 
     def test_pyplot_is_left_alone(self):
         self.assertNotIn("matplotlib.pyplot", sys.modules)
@@ -208,9 +226,11 @@ class Files(unittest.TestCase):
 class WithoutMatplotlib(unittest.TestCase):
     def test_it_says_so(self):
         with mock.patch.dict(sys.modules, {"matplotlib": None, "matplotlib.figure": None}):
-            with self.assertRaisesRegex(LibraryMissing, "a picture needs matplotlib.*apt-get install python3-matplotlib"):
+            said = r"a picture needs matplotlib.*apt-get install python3-matplotlib.*pebblelinen\[plot\]"
+            with self.assertRaisesRegex(LibraryMissing, said):
                 pictures.plot(made_curves.curve(), "never.png")
-            self.assertIsNone(pictures.shown_png(made_curves.curve()))
+            self.assertIsNone(made_curves.curve()._repr_png_())
+            self.assertTrue(made_curves.curve()._repr_html_().startswith("<p>"))
 
 
 if __name__ == "__main__":
