@@ -13,6 +13,7 @@ proved to give it; this package carries numbers in and out.
 from . import noise
 from ._version import __version__
 from .basis import Basis, Entry
+from .check import Checked
 from .curve import Curve, Steps
 from .errors import CAUSES, InputError, LibraryMissing, NotPositive, PebblelinenError, Refusal
 from .items import Jump, Matrix
@@ -31,6 +32,7 @@ from .words import Position, Qubit, Word
 __all__ = [
     "Basis",
     "CAUSES",
+    "Checked",
     "Choice",
     "Curve",
     "Degree",

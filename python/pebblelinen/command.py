@@ -2,30 +2,41 @@
 # SPDX-License-Identifier: Apache-2.0
 """The command: a model file in, answers out, for people, as JSON or as CSV.
 
-Exit status: 0 answered, 1 refused by the library, 2 bad usage (options, file, words that cannot be read)."""
+Exit status: 0 answered, 1 refused by the library, 2 bad usage (options, file, words that cannot be read), 3 a check
+whose curve does not hold, 130 a run that was interrupted."""
 import argparse
 import csv
-import json
 import math
 import signal
 import sys
-import warnings
-from collections.abc import Callable, Iterable, Iterator, Sequence
+from collections.abc import Callable, Iterator, Sequence
 from typing import Any, NoReturn
 
-from . import _given, demo, modelfile
+from . import _given, demo, modelfile, runcommand
 from ._files import write_whole
 from ._given import counted
+from ._printing import (
+    SHOWN,
+    Answers,
+    Rows,
+    aligned,
+    error_answer,
+    json_number,
+    largest_answer,
+    listed_lines,
+    loaded,
+    loaded_with_basis,
+    more_lines,
+    print_json,
+    terms_answer,
+)
 from ._progress import working
 from ._version import __version__
 from .basis import Basis
-from .errors import InputError, NotPositive, PebblelinenError, Refusal
+from .errors import InputError, PebblelinenError, Refusal
 from .model import Degree
 from .terms import Terms
 from .words import Word, qubits
-
-# Lines of a list that are shown to people.
-_SHOWN = 40
 
 _ABOUT = """\
 How noise moves an observable of a quantum device: the adjoint Lindblad generator on Pauli words.
@@ -38,6 +49,7 @@ How noise moves an observable of a quantum device: the adjoint Lindblad generato
   pebblelinen generator chain.toml --matrix-market chain.mtx
   pebblelinen degree chain.toml --dt 0.1
   pebblelinen evolve chain.toml --dt 0.1      the coefficients after one time step
+""" + runcommand.ABOUT + """
 
 Every command has its own --help. A qubit is a site of the device, a position is a place in the basis; both
 are counted from 0, and no line says one for the other."""
@@ -45,10 +57,6 @@ are counted from 0, and no line says one for the other."""
 _WORDS = """\
 A word is given by site, "X12 Z40" for X on qubit 12 and Z on qubit 40 (the identity is "I0"), or as a text
 with a letter for each qubit, qubit 0 first."""
-
-# What a command gives, when asked: an answer for programs, lines for people, and the rows of a table.
-_Rows = Iterable[Iterable[object]]
-_Answers = tuple[Callable[[], dict[str, Any]], Callable[[], Iterable[str]], Callable[[], _Rows]]
 
 _FILE = "A model file:\n" + modelfile.__doc__.split("\n", 1)[1]
 
@@ -64,11 +72,11 @@ def run() -> NoReturn:
 def main(arguments: Sequence[str] | None = None) -> int:
     """Runs the command with these arguments, or those of the process, and returns its exit status."""
     options = _parser().parse_args(_joined(sys.argv[1:] if arguments is None else arguments))
-    options.warnings = []
+    options.warnings, options.status = [], 0
     try:
         answer, lines, rows = options.run(options)
         if options.json:
-            _print_json({**answer(), "warnings": options.warnings} if options.warnings else answer())
+            print_json({**answer(), "warnings": options.warnings} if options.warnings else answer())
         elif options.csv:
             csv.writer(sys.stdout, lineterminator="\n").writerows(rows())
         else:
@@ -77,9 +85,9 @@ def main(arguments: Sequence[str] | None = None) -> int:
     except (PebblelinenError, MemoryError) as error:
         print(f"pebblelinen: {error}", file=sys.stderr)
         if options.json:
-            _print_json({"error": _error(error)})
+            print_json({"error": error_answer(error)})
         return 1 if isinstance(error, Refusal) else 2
-    return 0
+    return int(options.status)
 
 
 def _joined(arguments: Sequence[str]) -> list[str]:
@@ -109,7 +117,7 @@ def _parser() -> argparse.ArgumentParser:
     commands = parser.add_subparsers(title="commands", metavar="COMMAND", required=True)
 
     def command(
-        name: str, run: Callable[[argparse.Namespace], _Answers], help_: str, about: str, file: bool = True
+        name: str, run: Callable[[argparse.Namespace], Answers], help_: str, about: str, file: bool = True
     ) -> argparse.ArgumentParser:
         made = commands.add_parser(
             name,
@@ -125,7 +133,7 @@ def _parser() -> argparse.ArgumentParser:
         form.add_argument("--json", action="store_true", help="answer as JSON, numbers in full")
         form.add_argument("--csv", action="store_true", help="answer as a table in CSV, numbers in full")
         if name not in ("degree", "demo"):
-            made.add_argument("--all", action="store_true", help=f"show more than {_SHOWN} lines")
+            made.add_argument("--all", action="store_true", help=f"show more than {SHOWN} lines")
         return made
 
     made = command(
@@ -199,6 +207,7 @@ def _parser() -> argparse.ArgumentParser:
     )
     _add_step(made)
     made.add_argument("--save", metavar="OUT", help="write a model file with the evolved basis to OUT")
+    runcommand.add(command)
     return parser
 
 
@@ -213,8 +222,8 @@ def _add_step(made: argparse.ArgumentParser) -> None:
 # ---- commands ----
 
 
-def _action(options: argparse.Namespace) -> _Answers:
-    file = _loaded(options)
+def _action(options: argparse.Namespace) -> Answers:
+    file = loaded(options)
     model = file.model
     words = [Word(word, n=model.n) for word in options.words] or [entry.word for entry in file.basis]
     if not words:
@@ -227,7 +236,7 @@ def _action(options: argparse.Namespace) -> _Answers:
             yield word, terms
 
     def answer() -> dict[str, Any]:
-        actions = [{"word": word.by_site, "terms": _terms(terms)} for word, terms in act()]
+        actions = [{"word": word.by_site, "terms": terms_answer(terms)} for word, terms in act()]
         return {"qubits": model.n, "actions": actions}
 
     def lines() -> Iterator[str]:
@@ -235,9 +244,9 @@ def _action(options: argparse.Namespace) -> _Answers:
         for word, terms in act():
             yield ""
             yield f"action on {word.by_site}: {counted(len(terms), 'word')}"
-            yield from _listed(terms, options.all)
+            yield from listed_lines(terms, options.all)
 
-    def rows() -> _Rows:
+    def rows() -> Rows:
         yield "observable", "word", "value"
         for word, terms in act():
             for listed, value in terms:
@@ -246,8 +255,8 @@ def _action(options: argparse.Namespace) -> _Answers:
     return answer, lines, rows
 
 
-def _leakage(options: argparse.Namespace) -> _Answers:
-    file = _loaded_with_basis(options)
+def _leakage(options: argparse.Namespace) -> Answers:
+    file = loaded_with_basis(options)
     with working(f"leakage out of {len(file.basis)} entries"):
         terms = file.model.leakage(
             file.basis,
@@ -268,8 +277,8 @@ def _leakage(options: argparse.Namespace) -> _Answers:
             "qubits": file.model.n,
             "room": terms.room,
             "full": terms.full,
-            "largest": _largest(terms.largest()),
-            "terms": _terms(terms),
+            "largest": largest_answer(terms.largest()),
+            "terms": terms_answer(terms),
         }
 
     def lines() -> Iterator[str]:
@@ -280,9 +289,9 @@ def _leakage(options: argparse.Namespace) -> _Answers:
         yield ""
         yield summary()
         if len(terms):
-            yield from _listed(terms, options.all)
+            yield from listed_lines(terms, options.all)
 
-    def rows() -> _Rows:
+    def rows() -> Rows:
         # A table has no place to say that it is not all.
         if terms.full or not len(terms):
             print(f"pebblelinen: {summary()}", file=sys.stderr)
@@ -293,8 +302,8 @@ def _leakage(options: argparse.Namespace) -> _Answers:
     return answer, lines, rows
 
 
-def _generator(options: argparse.Namespace) -> _Answers:
-    file = _loaded_with_basis(options)
+def _generator(options: argparse.Namespace) -> Answers:
+    file = loaded_with_basis(options)
     if options.matrix_market is not None:
         return _matrix_market(options, file)
     with working(f"generator over {len(file.basis)} entries"):
@@ -315,12 +324,12 @@ def _generator(options: argparse.Namespace) -> _Answers:
         )
         shown = [
             (f"position {row}: {words[row]}", f"position {column}: {words[column]}", repr(value))
-            for row, column, value in (entries if options.all else entries[:_SHOWN])
+            for row, column, value in (entries if options.all else entries[:SHOWN])
         ]
-        yield from _aligned([("row", "column", "value"), *shown])
-        yield from _more(len(entries), options.all)
+        yield from aligned([("row", "column", "value"), *shown])
+        yield from more_lines(len(entries), options.all)
 
-    def rows() -> _Rows:
+    def rows() -> Rows:
         yield "row", "column", "value", "row word", "column word"
         for row, column, value in entries:
             yield row, column, repr(value), words[row], words[column]
@@ -328,7 +337,7 @@ def _generator(options: argparse.Namespace) -> _Answers:
     return answer, lines, rows
 
 
-def _matrix_market(options: argparse.Namespace, file: modelfile.ModelFile) -> _Answers:
+def _matrix_market(options: argparse.Namespace, file: modelfile.ModelFile) -> Answers:
     out: str = options.matrix_market
     if options.csv:
         raise InputError("--matrix-market writes the entries to a file: there is no table of them for --csv")
@@ -354,8 +363,8 @@ def _matrix_market(options: argparse.Namespace, file: modelfile.ModelFile) -> _A
     return answer, lines, list
 
 
-def _degree(options: argparse.Namespace) -> _Answers:
-    file = _loaded_with_basis(options)
+def _degree(options: argparse.Namespace) -> Answers:
+    file = loaded_with_basis(options)
     with working(f"norm over {len(file.basis)} entries"):
         degree = file.model.degree(file.basis, dt=options.dt, drop_tol=options.drop_tol)
 
@@ -366,7 +375,7 @@ def _degree(options: argparse.Namespace) -> _Answers:
         yield str(file.model)
         yield from _degree_lines(len(file.basis), options.dt, degree)
 
-    def rows() -> _Rows:
+    def rows() -> Rows:
         yield "dt", *degree._fields
         yield map(repr, (options.dt, *degree))
 
@@ -374,12 +383,12 @@ def _degree(options: argparse.Namespace) -> _Answers:
 
 
 def _degree_answer(degree: Degree) -> dict[str, Any]:
-    return {name: _json_number(x) for name, x in degree._asdict().items()}
+    return {name: json_number(x) for name, x in degree._asdict().items()}
 
 
 def _degree_lines(positions: int, dt: float, degree: Degree) -> Iterator[str]:
     yield f"generator over {counted(positions, 'position')}:"
-    yield from _aligned(
+    yield from aligned(
         [
             ("norm", repr(degree.norm)),
             ("mu", f"{degree.mu!r} (mean of the diagonal)"),
@@ -388,8 +397,8 @@ def _degree_lines(positions: int, dt: float, degree: Degree) -> Iterator[str]:
     )
 
 
-def _evolve(options: argparse.Namespace) -> _Answers:
-    file = _loaded_with_basis(options)
+def _evolve(options: argparse.Namespace) -> Answers:
+    file = loaded_with_basis(options)
     with working(f"evolution of {len(file.basis)} entries"):
         basis, products = file.model.evolve(file.basis, dt=options.dt, drop_tol=options.drop_tol)
     if options.save is not None:
@@ -411,14 +420,14 @@ def _evolve(options: argparse.Namespace) -> _Answers:
         )
         shown = [
             (f"position {p}: {word}", repr(before), repr(after))
-            for p, word, before, after in (entries if options.all else entries[:_SHOWN])
+            for p, word, before, after in (entries if options.all else entries[:SHOWN])
         ]
-        yield from _aligned([("word", "before", "coefficient"), *shown])
-        yield from _more(len(entries), options.all)
+        yield from aligned([("word", "before", "coefficient"), *shown])
+        yield from more_lines(len(entries), options.all)
         if options.save is not None:
             yield f"written to {options.save} with the evolved basis"
 
-    def rows() -> _Rows:
+    def rows() -> Rows:
         yield "position", "word", "before", "coefficient"
         for p, word, before, after in entries:
             yield p, word, repr(before), repr(after)
@@ -426,7 +435,7 @@ def _evolve(options: argparse.Namespace) -> _Answers:
     return answer, lines, rows
 
 
-def _demo(options: argparse.Namespace) -> _Answers:
+def _demo(options: argparse.Namespace) -> Answers:
     if options.model:
         if options.csv:
             raise InputError("--model prints a model file: there is no table of it for --csv")
@@ -447,9 +456,9 @@ def _demo(options: argparse.Namespace) -> _Answers:
         return model.degree(basis, dt=options.dt)
 
     def answer() -> dict[str, Any]:
-        action = _terms(model.action(demo.OBSERVABLE))
+        action = terms_answer(model.action(demo.OBSERVABLE))
         done = [
-            {**each._asdict(), "largest_leakage": _largest(each.largest_leakage)} for each in rounds()
+            {**each._asdict(), "largest_leakage": largest_answer(each.largest_leakage)} for each in rounds()
         ]
         return {
             "qubits": model.n,
@@ -464,7 +473,7 @@ def _demo(options: argparse.Namespace) -> _Answers:
         yield str(model)
         yield ""
         yield f"action on the observable, Z on qubit {demo.SITE}:"
-        yield from _listed(model.action(demo.OBSERVABLE), True)
+        yield from listed_lines(model.action(demo.OBSERVABLE), True)
         yield ""
         yield f"a basis grows around it: at most {options.limit} words, time step {options.dt!r}"
         yield "  round  leaked  largest leakage  words  products  seconds"
@@ -484,80 +493,9 @@ def _demo(options: argparse.Namespace) -> _Answers:
         yield ""
         yield from _degree_lines(len(basis), options.dt, degree())
 
-    def rows() -> _Rows:
+    def rows() -> Rows:
         yield demo.Round._fields
         for each in rounds():
             yield map(repr, each)
 
     return answer, lines, rows
-
-
-def _loaded(options: argparse.Namespace) -> modelfile.ModelFile:
-    """What the file holds. A warning goes to standard error, and is kept for the answer to programs."""
-    with working(f"reading {options.file}"), warnings.catch_warnings(record=True) as caught:
-        warnings.simplefilter("always", NotPositive)
-        file = modelfile.load(options.file)
-    for warning in caught:
-        options.warnings.append(f"{options.file}: {warning.message}")
-        print(f"pebblelinen: warning: {options.warnings[-1]}", file=sys.stderr)
-    return file
-
-
-def _loaded_with_basis(options: argparse.Namespace) -> modelfile.ModelFile:
-    """What the file holds, where it has a basis to work on."""
-    file = _loaded(options)
-    if not len(file.basis):
-        raise InputError("this file has no basis to work on: give it a [basis] with words", where=options.file)
-    return file
-
-
-# ---- what is printed ----
-
-
-def _terms(terms: Terms) -> list[dict[str, Any]]:
-    return [{"word": word.by_site, "value": _json_number(value)} for word, value in terms]
-
-
-def _json_number(x: float) -> float | str:
-    """JSON has no infinity and no NaN: these are texts."""
-    return x if math.isfinite(x) else str(x)
-
-
-def _largest(x: float) -> float | str | None:
-    """The largest leakage, which is not known where there was no room to list any."""
-    return None if math.isnan(x) else _json_number(x)
-
-
-def _error(error: Exception) -> dict[str, Any]:
-    told: dict[str, Any] = {"said": str(error)}
-    if isinstance(error, Refusal):
-        values = {name: x if isinstance(x, (int, float, str)) else int(x) for name, x in error.values.items()}
-        told |= {"refusal": error.number, "cause": error.cause, "values": values}
-    where = getattr(error, "where", "")
-    if where:
-        told |= {"where": where}
-    return told
-
-
-def _print_json(answer: dict[str, Any]) -> None:
-    print(json.dumps(answer, allow_nan=False))
-
-
-def _listed(terms: Terms, all_: bool) -> Iterator[str]:
-    rows = [(word.by_site, repr(value)) for word, value in terms]
-    yield from _aligned(rows if all_ else rows[:_SHOWN])
-    yield from _more(len(rows), all_)
-
-
-def _more(count: int, all_: bool) -> Iterator[str]:
-    if count > _SHOWN and not all_:
-        yield f"  .. and {count - _SHOWN} more: --all shows them"
-
-
-def _aligned(rows: Sequence[Sequence[str]]) -> Iterator[str]:
-    """Columns of one width each, indented; what stands last has room for a sign."""
-    widths = [max(len(cell) for cell in column) for column in zip(*rows)]
-    for row in rows:
-        cells = [f"{cell:{width}}" for cell, width in zip(row[:-1], widths)]
-        signed = row[-1] if row[-1].startswith("-") else f" {row[-1]}"
-        yield "  " + "  ".join([*cells, signed])

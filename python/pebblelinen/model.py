@@ -19,13 +19,14 @@ from ._showing import Shown, Table
 from ._tables import MOST_TOUCHED, work_tables
 from ._types import LaneTable, NumberTable
 from .basis import AnyWords, Basis, Entry, not_finite, refusal, too_short
+from .check import Checked, checked
 from .combining import summed
 from .curve import Curve
 from .errors import InputError, Refusal
 from .items import operator_text, row_text
 from .leakage import TAU_ADD, Leakage
 from .plan import AnyTimes
-from .run import begun, settings_of
+from .run import begun, settings_of, tolerance_of
 from .state import AnyState
 from .step import Stepped, rules_of, take_step
 from .terms import AnyTerms, Terms
@@ -704,6 +705,17 @@ class Model(Shown, Sealed):
             name=name,
         )
         return begun(self, basis, settings, checkpoint).go(progress=progress, checkpoint=checkpoint)
+
+    def check(self, basis: Basis, *, tolerance: float = 1e-3, progress: bool = True, **settings: Any) -> Checked:
+        """The curve of `run`, which takes the same settings, and whether it is the device's or the run's: the same run with
+        each step in two halves and with the word limits doubled, and whether the expectation, or the coefficient of a
+        word that is followed, moves by more than the tolerance; and through which of the two, in plain words. Where at
+        most 4,096 words can be reached, the exact curve stands beside it.
+
+        It says nothing of what tau_add and drop_tol cost, which all three runs have alike: the curve's `dropped` does."""
+        tolerance = tolerance_of(tolerance)
+        self._check(basis)
+        return checked(self, basis, settings_of(self.n, **settings), tolerance=tolerance, progress=progress)
 
     def _largest_column(self, basis: Basis) -> float:
         """The norm of the generator without a shift: magnitudes are added in their order, from 0."""

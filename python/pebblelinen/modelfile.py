@@ -24,7 +24,7 @@
     [basis]                             # words with their coefficients; positions count from 0
     "Z0" = 1.0
 
-For the commands run and check, which follow the basis where there are no observables:
+    # For run and check, which follow the basis where there are no observables:
 
     [observables]                       # each by its name: a word, or words with their numbers
     site = "Z0"
@@ -60,6 +60,7 @@ from ._types import ItemPath
 from .basis import Basis, not_finite
 from .errors import InputError, Refusal
 from .model import Model
+from .run import tolerance_of
 from .state import AnyState, ProductState
 from .words import MAX_WORDS, AnyWord
 
@@ -195,14 +196,6 @@ def _threshold(given: Any, name: str) -> float:
         refused = not_finite({name: x})
         raise Refusal(7, refused.said, refused.values, (name,))
     return x
-
-
-def tolerance_of(given: float, path: ItemPath = ("tolerance",)) -> float:
-    """By how much a curve may move."""
-    tolerance = _given.real(given, "the tolerance", path)
-    if not (math.isfinite(tolerance) and tolerance > 0):
-        raise InputError(f"the tolerance is {tolerance!r}: a finite number above 0 is needed", path)
-    return tolerance
 
 
 def _words(given: Any, n: int) -> list[words.Word]:

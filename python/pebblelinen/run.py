@@ -19,7 +19,7 @@ from . import _checkpoint, _given, _library, plan, step
 from ._lanes import WORD_LANES
 from ._modeltext import text_of
 from ._progress import bar
-from ._types import NumberTable
+from ._types import ItemPath, NumberTable
 from ._version import __version__
 from .basis import AnyWords, Basis
 from .curve import Curve, Steps
@@ -95,6 +95,14 @@ def settings_of(
     )
 
 
+def tolerance_of(given: float, path: ItemPath = ("tolerance",)) -> float:
+    """By how much a curve may move."""
+    tolerance = _given.real(given, "the tolerance", path)
+    if not (math.isfinite(tolerance) and tolerance > 0):
+        raise InputError(f"the tolerance is {tolerance!r}: a finite number above 0 is needed", path)
+    return tolerance
+
+
 class Run:
     """A run that can be stopped, looked at and gone on with.
 
@@ -113,6 +121,8 @@ class Run:
         self._steps = np.full((len(Steps._fields), steps), np.nan)
         self._values = np.full(times, np.nan)
         self._followed = np.full((times, len(settings.words)), np.nan)
+        # Whether the room was full in a step.
+        self.filled = False
         # Steps done, and the basis after them, in one: an interrupt may come at any time.
         self._now = 0, self._observable
         self._look(0, self._observable)
@@ -168,6 +178,7 @@ class Run:
         wider, products = self._widened(basis, dt)
         step.test(wider, dt, rules)
         grown = step.grow(self.model, wider, dt, rules)
+        self.filled = self.filled or len(grown.before) >= rules.room
         leaks = [*self._leak(grown.before), *self._leak(grown.evolved)]
         after = grown.evolved.copy()
         step.shorten(after, rules)

@@ -1,0 +1,387 @@
+# SPDX-FileCopyrightText: 2026 The PPVM Authors
+# SPDX-License-Identifier: Apache-2.0
+"""The commands that follow an observable in time: one step, a run, and the check of a run."""
+import argparse
+import math
+import os
+import signal
+import sys
+from collections.abc import Callable, Iterator, Sequence
+from contextlib import contextmanager
+from pathlib import Path
+from typing import Any
+
+from . import modelfile
+from ._given import counted
+from ._printing import SHOWN, Answers, Rows, aligned, loaded, loaded_with_basis, more_lines
+from ._progress import working
+from ._types import NumberTable
+from .basis import Basis
+from .check import Checked
+from .curve import Curve
+from .errors import InputError, Refusal
+
+# Exit statuses of their own: a curve that does not hold, and a run that was interrupted.
+NOT_HELD = 3
+INTERRUPTED = 130
+
+ABOUT = """\
+  pebblelinen step chain.toml --dt 0.05 --max-basis 1000    one step of a run: words enter, are evolved and dropped
+  pebblelinen run chain.toml                  the curve of an observable up to given times
+  pebblelinen check chain.toml                whether the time step or the room made that curve up"""
+
+# How a command is made: its name, what it does, a line about it, and more about it.
+_Make = Callable[[str, Callable[[argparse.Namespace], Answers], str, str], argparse.ArgumentParser]
+
+
+def add(command: _Make) -> None:
+    """Adds the commands to the parser."""
+    made = command(
+        "step",
+        _step,
+        "the basis after one predictor-corrector step",
+        "The file's basis after one step of a run: what leaks out of it is admitted, the coefficients are evolved, what\n"
+        "leaks then is admitted too and the evolution done again from the start, and at the end small entries are\n"
+        "dropped. Protected words that are there stay. With --save the model is written to a file with the basis\n"
+        "after the step, to go on from.",
+    )
+    made.add_argument("--dt", type=float, required=True, metavar="T", help="the time step")
+    made.add_argument("--max-basis", type=int, required=True, metavar="N", help="the most words at the end")
+    _add_rules(made)
+    made.set_defaults(drop_tol=0.0)
+    made.add_argument("--save", metavar="OUT", help="write a model file with the basis after the step to OUT")
+
+    made = command(
+        "run",
+        _run,
+        "the curve of an observable up to given times",
+        "Follows the file's observables, or its basis where it has none, from the time 0 to each of the times, and\n"
+        "gives the expectation in the product state, the words held, and an estimate of a bound on what the run lost:\n"
+        "what leaked out of the basis, and what was dropped. The file says times, limits and thresholds in [run];\n"
+        "options go before it. An interrupt gives the curve so far, and ends with 130.",
+    )
+    _add_settings(made)
+    made.add_argument("--no-losses", action="store_true", help="do not ask what leaks, which takes time")
+    made.add_argument(
+        "--checkpoint", metavar="FILE", help="write what is done to FILE now and then; go on from it if it stands there"
+    )
+
+    made = command(
+        "check",
+        _check,
+        "whether the time step or the room made a curve up",
+        "Runs as `run` does, then with each step in two halves, and with twice the room, and says whether the curve\n"
+        "moved by more than the tolerance, and through which of the two. Where at most 4,096 words can be reached, the\n"
+        "exact curve stands beside it. It ends with 0 where every curve holds, and with 3 where one does not.",
+    )
+    _add_settings(made)
+    made.add_argument("--tolerance", type=float, metavar="X", help="by how much a curve may move (default 1e-3)")
+
+
+def _add_rules(made: argparse.ArgumentParser) -> None:
+    made.add_argument("--admit-basis", type=int, metavar="N", help="room until then, where it is larger")
+    made.add_argument("--tau-add", type=float, metavar="X", help="admit what leaks above X (default 2^-40)")
+    made.add_argument(
+        "--drop-tol", type=float, metavar="X", help="drop entries below X; from 1e-4 on evolutions are less accurate"
+    )
+
+
+def _add_settings(made: argparse.ArgumentParser) -> None:
+    """What goes before the file's [run] and [state]."""
+    made.add_argument("--times", type=float, nargs="+", metavar="T", help="the times, rising")
+    made.add_argument("--dt", type=float, metavar="T", help="the longest step (default: one between two times)")
+    made.add_argument("--max-basis", type=int, metavar="N", help="the most words held")
+    _add_rules(made)
+    made.add_argument("--admissions", type=int, metavar="K", help="how often words enter before a step's end")
+    made.add_argument("--state", metavar="S", help="the product state: 0 1 + - +i -i, or a letter for each qubit")
+    made.add_argument("--words", nargs="+", metavar="WORD", help="words whose coefficients are followed")
+    made.add_argument("--observable", action="append", metavar="NAME", help="one of the file's, not all; may be repeated")
+
+
+# ---- what is done with the results: files and pictures of them are made here ----
+
+
+def _done_with_run(options: argparse.Namespace, curves: Sequence[Curve]) -> list[str]:
+    """What else is done with the curves of a run. Lines that say so."""
+    return []
+
+
+def _done_with_check(options: argparse.Namespace, checks: Sequence[Checked]) -> list[str]:
+    """What else is done with the curves of a check. Lines that say so."""
+    return []
+
+
+# ---- one step ----
+
+
+def _step(options: argparse.Namespace) -> Answers:
+    file = loaded_with_basis(options)
+    with working(f"step of {len(file.basis)} entries"):
+        basis, products = file.model.step(
+            file.basis,
+            dt=options.dt,
+            max_basis=options.max_basis,
+            admit_basis=options.admit_basis,
+            tau_add=options.tau_add,
+            drop_tol=options.drop_tol,
+            protected=file.protected,
+        )
+    if options.save is not None:
+        modelfile.save(
+            options.save,
+            file.model,
+            basis,
+            file.protected,
+            observables=file.observables,
+            run=file.run,
+            state=file.state,
+        )
+    before, after = file.basis.by_site(), basis.by_site()
+    left = [word for word in before if word not in after]
+    entered = sum(word not in before for word in after)
+
+    def answer() -> dict[str, Any]:
+        named = [{"word": word, "before": before.get(word), "coefficient": x} for word, x in after.items()]
+        saved = {} if options.save is None else {"saved": options.save}
+        return {"qubits": file.model.n, "products": products, "entries": named, "left": left, **saved}
+
+    def lines() -> Iterator[str]:
+        yield str(file.model)
+        yield ""
+        yield (
+            f"{counted(len(after), 'position')} after the step dt = {options.dt!r}: {counted(products, 'product')} with the"
+            f" generator, {counted(entered, 'word')} entered, {len(left)} left"
+        )
+        shown = [
+            (f"position {p}: {word}", repr(before[word]) if word in before else "-", repr(x))
+            for p, (word, x) in enumerate(after.items())
+            if options.all or p < SHOWN
+        ]
+        yield from aligned([("word", "before", "coefficient"), *shown])
+        yield from more_lines(len(after), options.all)
+        if options.save is not None:
+            yield f"written to {options.save} with the basis after the step"
+
+    def rows() -> Rows:
+        yield "position", "word", "before", "coefficient"
+        for p, (word, x) in enumerate(after.items()):
+            yield p, word, repr(before[word]) if word in before else "", repr(x)
+
+    return answer, lines, rows
+
+
+# ---- runs ----
+
+
+def _run(options: argparse.Namespace) -> Answers:
+    file, chosen, settings = _asked(options)
+    if options.no_losses:
+        settings["losses"] = False
+    curves: list[Curve] = []
+    with _interrupts(), _from_the_file(options.file):
+        for name, basis in chosen.items():
+            checkpoint = _checkpoint(options.checkpoint, name, len(chosen))
+            curves.append(file.model.run(basis, name=name, checkpoint=checkpoint, **settings))
+            if not curves[-1].finished:
+                options.status = INTERRUPTED
+                print("pebblelinen: interrupted: this is the curve so far", file=sys.stderr)
+                break
+    further = _done_with_run(options, curves)
+
+    def answer() -> dict[str, Any]:
+        return {"qubits": file.model.n, "curves": list(map(_curve_answer, curves))}
+
+    def lines() -> Iterator[str]:
+        yield str(file.model)
+        for curve in curves:
+            yield ""
+            yield from _curve_lines(curve, options.all)
+        yield from further
+
+    def rows() -> Rows:
+        yield from _curve_rows(curves)
+
+    return answer, lines, rows
+
+
+def _check(options: argparse.Namespace) -> Answers:
+    file, chosen, settings = _asked(options)
+    tolerance = file.run.get("tolerance", 1e-3) if options.tolerance is None else options.tolerance
+    with _interrupts(), _from_the_file(options.file):
+        try:
+            checks = [
+                file.model.check(basis, name=name, tolerance=tolerance, **settings) for name, basis in chosen.items()
+            ]
+        except KeyboardInterrupt:
+            raise InputError("interrupted: there is no answer yet") from None
+    further = _done_with_check(options, checks)
+    if not all(each.ok for each in checks):
+        options.status = NOT_HELD
+
+    def answer() -> dict[str, Any]:
+        return {"qubits": file.model.n, "ok": all(each.ok for each in checks), "checks": list(map(_check_answer, checks))}
+
+    def lines() -> Iterator[str]:
+        yield str(file.model)
+        for each in checks:
+            yield ""
+            yield from _check_lines(each, options.all)
+        yield from further
+
+    def rows() -> Rows:
+        yield "observable", "time", "value", "moved_by_step", "moved_by_room", "exact", "ok"
+        for each in checks:
+            exact = [""] * len(each.curve.times) if each.exact is None else map(repr, each.exact.tolist())
+            columns = each.curve.times, each.curve.values, each.moved_by_step, each.moved_by_room
+            for *numbers, x in zip(*(column.tolist() for column in columns), exact):
+                yield each.curve.name, *map(repr, numbers), x, each.ok
+
+    return answer, lines, rows
+
+
+def _asked(options: argparse.Namespace) -> tuple[modelfile.ModelFile, dict[str | None, Basis], dict[str, Any]]:
+    """The file, the observables that were chosen, and the settings: options before the file's."""
+    file = loaded(options)
+    chosen = file.followed()
+    if options.observable is not None:
+        unknown = [name for name in options.observable if name not in file.observables]
+        if unknown:
+            known = f"known are {', '.join(file.observables)}" if file.observables else "the file has none"
+            raise InputError(f"there is no observable {unknown[0]!r}: {known}", where=options.file)
+        chosen = {name: file.observables[name] for name in options.observable}
+    if not any(map(len, chosen.values())):
+        said = "this file has no observable to follow: give it [observables], or a [basis] with words"
+        raise InputError(said, where=options.file)
+    settings = {key: x for key, x in file.run.items() if key != "tolerance"}
+    settings["protected"] = file.protected
+    if file.state is not None:
+        settings["state"] = file.state
+    names = "times dt max_basis admit_basis tau_add drop_tol admissions state words".split()
+    settings |= {name: getattr(options, name) for name in names if getattr(options, name) is not None}
+    for key in "times", "max_basis":
+        if key not in settings:
+            option = f"--{key.replace('_', '-')}"
+            raise InputError(f"{key} is missing: give the file [run] with {key}, or {option}", where=options.file)
+    return file, chosen, settings
+
+
+def _checkpoint(path: str | None, name: str | None, count: int) -> str | None:
+    """The checkpoint of one of several observables has its name in it."""
+    if path is None or count == 1:
+        return path
+    place = Path(path)
+    # A name may have anything in it that a file's name may not.
+    plain = "".join(c if c.isalnum() or c in "-_ " else f"%{ord(c):x}" for c in name or "")
+    return os.fspath(place.with_name(f"{place.stem}.{plain}{place.suffix}"))
+
+
+@contextmanager
+def _from_the_file(name: str) -> Iterator[None]:
+    """Errors inside are about what a file says, and name it."""
+    try:
+        yield
+    except (InputError, Refusal) as error:
+        raise error if error.where else error.at(name) from None
+
+
+@contextmanager
+def _interrupts() -> Iterator[None]:
+    """Within, an interrupt is heard by Python and keeps what was computed; outside, it may end the process at once."""
+    try:
+        before = signal.signal(signal.SIGINT, signal.default_int_handler)
+    except ValueError:
+        # In another thread than the main one, where interrupts are not heard.
+        yield
+        return
+    try:
+        yield
+    finally:
+        signal.signal(signal.SIGINT, before)
+
+
+# ---- curves, printed ----
+
+
+def _number(x: float) -> float | None:
+    """JSON has no NaN: what is not known is null."""
+    return None if math.isnan(x) else x
+
+
+def _numbers(table: NumberTable) -> list[float | None]:
+    return list(map(_number, table.tolist()))
+
+
+def _curve_answer(curve: Curve) -> dict[str, Any]:
+    return {
+        "name": curve.name,
+        "finished": curve.finished,
+        "times": curve.times.tolist(),
+        "values": curve.values.tolist(),
+        "held": curve.held_at().tolist(),
+        "leaked": _numbers(curve.leaked),
+        "dropped": _numbers(curve.dropped),
+        "estimate": _numbers(curve.estimate),
+        "words": {word: x.tolist() for word, x in curve.words.items()},
+        "steps": {name: _numbers(x) for name, x in curve.steps._asdict().items()},
+        "settings": curve.settings,
+    }
+
+
+def _curve_lines(curve: Curve, all_: bool) -> Iterator[str]:
+    steps, products = len(curve.steps.time), int(curve.steps.products.sum())
+    yield (
+        f"{curve.name}: {counted(len(curve.times), 'time')}, {counted(steps, 'step')},"
+        f" {counted(products, 'product')} with the generator" + ("" if curve.finished else "; unfinished")
+    )
+    header = "time", "value", "words", *curve.words, "estimate"
+    columns = curve.times, curve.values, curve.held_at(), *curve.words.values(), curve.estimate
+    shown = list(zip(*(column.tolist() for column in columns)))
+    rows = [
+        (f"{time:g}", f"{value:.6f}", str(held), *(f"{x:.6f}" for x in followed), _shown_estimate(estimate))
+        for time, value, held, *followed, estimate in (shown if all_ else shown[:SHOWN])
+    ]
+    yield from aligned([header, *rows])
+    yield from more_lines(len(shown), all_)
+
+
+def _shown_estimate(x: float) -> str:
+    return "unknown" if math.isnan(x) else f"{x:.2g}"
+
+
+def _curve_rows(curves: Sequence[Curve]) -> Rows:
+    words = list(dict.fromkeys(word for curve in curves for word in curve.words))
+    yield "observable", "time", "value", "held", "leaked", "dropped", "estimate", *words
+    for curve in curves:
+        columns = curve.times, curve.values, curve.held_at(), curve.leaked, curve.dropped, curve.estimate
+        followed = [curve.words[word] for word in words]
+        for row in zip(*(column.tolist() for column in [*columns, *followed])):
+            yield curve.name, *map(repr, row)
+
+
+def _check_answer(each: Checked) -> dict[str, Any]:
+    return {
+        "name": each.curve.name,
+        "ok": each.ok,
+        "says": each.says,
+        "tolerance": each.tolerance,
+        "moved_by_step": each.moved_by_step.tolist(),
+        "moved_by_room": each.moved_by_room.tolist(),
+        "band": each.band.tolist(),
+        "exact": None if each.exact is None else each.exact.tolist(),
+        "curve": _curve_answer(each.curve),
+        "half_step": _curve_answer(each.half_step),
+        "double_room": _curve_answer(each.double_room),
+    }
+
+
+def _check_lines(each: Checked, all_: bool) -> Iterator[str]:
+    header = ["time", "value", "half the step", "twice the room"]
+    columns = [each.curve.times, each.curve.values, each.half_step.values, each.double_room.values]
+    if each.exact is not None:
+        header, columns = [*header, "exact"], [*columns, each.exact]
+    yield f"{each.curve.name}: {counted(len(each.curve.times), 'time')}"
+    shown = list(zip(*(column.tolist() for column in columns)))
+    rows = [(f"{time:g}", *(f"{x:.6f}" for x in numbers)) for time, *numbers in (shown if all_ else shown[:SHOWN])]
+    yield from aligned([header, *rows])
+    yield from more_lines(len(shown), all_)
+    yield each.says
