@@ -4,26 +4,34 @@
 import argparse
 import os
 from collections.abc import Iterator, Mapping, Sequence
-from typing import Any
+from typing import Any, TypeVar
 
 from . import pictures, results
-from ._curves import Result, curve_of, is_checked
-from ._given import counted
+from ._curves import Result
 from .errors import InputError
+
+_SomeResult = TypeVar("_SomeResult", bound=Result)
 
 
 def add_options(made: argparse.ArgumentParser) -> None:
-    """The options that name files. Each may be given several times."""
+    """The options that name files to write. Each may be given several times."""
     made.add_argument(
-        "--plot", action="append", default=[], metavar="FILE", help="draw the curves in one figure: .png, .svg or .pdf"
+        "--plot", action="append", default=[], metavar="PICTURE", help="draw the curves in one figure: .png, .svg or .pdf"
     )
     made.add_argument(
-        "--out", action="append", default=[], metavar="FILE", help="write the results: .h5 with everything, .csv as a table"
+        "--out", action="append", default=[], metavar="RESULT", help="write the curves: .h5 with everything, .csv as a table"
+    )
+
+
+def add_beside(made: argparse.ArgumentParser) -> None:
+    """The option that names results to draw beside those that are computed."""
+    made.add_argument(
+        "--beside", action="append", default=[], metavar="RESULT", help="draw what was stored in an .h5 file beside them"
     )
 
 
 def look_ahead(options: argparse.Namespace) -> None:
-    """Refuses, before anything is computed, what could not be written after it."""
+    """Refuses, before anything is computed, what could not be read or written after it."""
     for path in options.plot:
         pictures.ending(path)
         pictures.load()
@@ -34,14 +42,45 @@ def look_ahead(options: argparse.Namespace) -> None:
         folder = os.path.dirname(os.path.realpath(path))
         if not os.path.isdir(folder):
             raise InputError(f"there is no folder {folder}", where=path)
+    if _beside(options) and not options.plot:
+        raise InputError("--beside draws beside the curves: say where with --plot")
+    for path in once(_beside(options)):
+        results.load(path)
+
+
+def once(paths: Sequence[str]) -> Sequence[str]:
+    """The paths, each of which is to come once."""
+    twice = next((path for path in paths if paths.count(path) > 1), None)
+    if twice is not None:
+        raise InputError("this file is named twice", where=twice)
+    return paths
 
 
 def write(options: argparse.Namespace, named: Mapping[str, Result]) -> None:
-    """Writes all that was asked for."""
+    """Writes all that was asked for. What was computed is stored, and what was stored before is drawn beside it."""
     for path in options.out:
         results.save(path, named)
-    for path in options.plot:
-        pictures.plot(named, path)
+    if options.plot:
+        drawn = _with_stored(options, named)
+        for path in options.plot:
+            pictures.plot(drawn, path)
+
+
+def _with_stored(options: argparse.Namespace, named: Mapping[str, Result]) -> Mapping[str, Result]:
+    if not _beside(options):
+        return named
+    # Each name is made anew: that of a file in front of it tells its curves from the stored ones.
+    now = [(_label(options.files), named)]
+    return labelled([*now, *((path, results.load_named(path)) for path in options.beside)])
+
+
+def _label(files: Sequence[str]) -> str:
+    return files[0] if len(files) == 1 else "now"
+
+
+def _beside(options: argparse.Namespace) -> Sequence[str]:
+    found: Sequence[str] = getattr(options, "beside", [])
+    return found
 
 
 def lines(options: argparse.Namespace) -> Iterator[str]:
@@ -58,7 +97,7 @@ def answer(options: argparse.Namespace) -> dict[str, Any]:
     return {name: paths for name, paths in named.items() if paths}
 
 
-def labelled(files: Sequence[tuple[str, Mapping[str, Result]]]) -> dict[str, Result]:
+def labelled(files: Sequence[tuple[str, Mapping[str, _SomeResult]]]) -> dict[str, _SomeResult]:
     """The results of several files under names that tell them apart: of one file as they are, of several with the
     file's name, which is enough where each has one."""
     if len(files) == 1:
@@ -66,28 +105,9 @@ def labelled(files: Sequence[tuple[str, Mapping[str, Result]]]) -> dict[str, Res
     paths = [path for path, _ in files]
     short = [os.path.splitext(os.path.basename(path))[0] for path in paths]
     names = short if len({*short}) == len(short) else paths
-    one = all(len(found) == 1 for _, found in files)
+    one = all(len(found) <= 1 for _, found in files)
     return {
         (name if one else f"{name}: {label}"): result
         for name, (_, found) in zip(names, files)
         for label, result in found.items()
     }
-
-
-def stored(options: argparse.Namespace) -> dict[str, Result]:
-    """The results of the files that are named."""
-    twice = next((path for path in options.files if options.files.count(path) > 1), None)
-    if twice is not None:
-        raise InputError("this file is named twice", where=twice)
-    return labelled([(path, results.load_named(path)) for path in options.files])
-
-
-def about(named: Mapping[str, Result]) -> Iterator[str]:
-    """A line or two for each result."""
-    for label, result in named.items():
-        curve = curve_of(result)
-        early = "" if curve.finished else ", stopped early"
-        last = f": {float(curve.values[-1])!r} at the time {float(curve.times[-1])!r}" if len(curve.times) else ""
-        yield f"{label}: expectation of {curve.name} at {counted(len(curve.times), 'time')}{early}{last}"
-        if is_checked(result):
-            yield f"  check: {result.says}"

@@ -21,6 +21,9 @@ SHOWN = 40
 Rows = Iterable[Iterable[object]]
 Answers = tuple[Callable[[], dict[str, Any]], Callable[[], Iterable[str]], Callable[[], Rows]]
 
+# How a command is made: its name, what it does, a line about it, and more about it.
+Make = Callable[[str, Callable[[argparse.Namespace], Answers], str, str], argparse.ArgumentParser]
+
 
 def loaded(options: argparse.Namespace) -> modelfile.ModelFile:
     """What the file holds. A warning goes to standard error, and is kept for the answer to programs."""

@@ -8,8 +8,9 @@ from typing import TYPE_CHECKING
 
 import numpy as np
 
+from ._pictured import Pictured
 from ._sealed import Sealed
-from ._showing import Shown, Table
+from ._showing import Table
 from ._types import NumberTable
 from .basis import Basis
 from .curve import Curve
@@ -24,7 +25,7 @@ if TYPE_CHECKING:
 _EXACT = 4096
 
 
-class Checked(Shown, Sealed):
+class Checked(Pictured, Sealed):
     """A curve beside those of two other runs.
 
     curve           the one that was asked for

@@ -10,9 +10,10 @@ import math
 import signal
 import sys
 from collections.abc import Callable, Iterator, Sequence
+from functools import partial
 from typing import Any, NoReturn
 
-from . import _given, demo, modelfile, runcommand
+from . import _given, demo, modelfile, plotcommand, runcommand
 from ._files import write_whole
 from ._given import counted
 from ._printing import (
@@ -49,7 +50,7 @@ How noise moves an observable of a quantum device: the adjoint Lindblad generato
   pebblelinen generator chain.toml --matrix-market chain.mtx
   pebblelinen degree chain.toml --dt 0.1
   pebblelinen evolve chain.toml --dt 0.1      the coefficients after one time step
-""" + runcommand.ABOUT + """
+""" + runcommand.ABOUT + "\n" + plotcommand.ABOUT + """
 
 Every command has its own --help. A qubit is a site of the device, a position is a place in the basis; both
 are counted from 0, and no line says one for the other."""
@@ -127,7 +128,9 @@ def _parser() -> argparse.ArgumentParser:
             formatter_class=argparse.RawDescriptionHelpFormatter,
         )
         made.set_defaults(run=run)
-        if file:
+        if name in ("run", "check"):
+            made.add_argument("files", nargs="+", metavar="FILE", help="a model file, in TOML; several go into one figure")
+        elif file:
             made.add_argument("file", metavar="FILE", help="a model file, in TOML")
         form = made.add_mutually_exclusive_group()
         form.add_argument("--json", action="store_true", help="answer as JSON, numbers in full")
@@ -208,6 +211,7 @@ def _parser() -> argparse.ArgumentParser:
     _add_step(made)
     made.add_argument("--save", metavar="OUT", help="write a model file with the evolved basis to OUT")
     runcommand.add(command)
+    plotcommand.add(partial(command, file=False))
     return parser
 
 

@@ -8,8 +8,9 @@ import numpy as np
 from numpy.typing import NDArray
 
 from . import _given
+from ._pictured import Pictured
 from ._sealed import Sealed
-from ._showing import Shown, Table
+from ._showing import Table
 from ._types import NumberTable
 from .basis import Basis
 
@@ -42,7 +43,7 @@ class Steps(NamedTuple):
     dropped_root: NumberTable
 
 
-class Curve(Shown, Sealed):
+class Curve(Pictured, Sealed):
     """An observable along a run.
 
     name       the observable's name

@@ -188,7 +188,8 @@ def _draw_curves(
     limits = _limits(pairs)
     for (name, result), style in zip(pairs, styles):
         curve = curve_of(result)
-        if np.isfinite(curve.estimate).any():
+        # One that is nowhere known, or 0 everywhere, shows nothing.
+        if (curve.estimate > 0).any():
             thin = {"linestyle": (0, (1, 1.5)), "linewidth": 0.9}
             for sign, side in (-1, "below"), (1, "above"):
                 bound = curve.values + sign * curve.estimate
@@ -280,6 +281,7 @@ def _draw_lost(
         axes.set_yticks([])
         said = "what leaked is not known, and nothing was dropped" if unknown else "nothing was lost"
         axes.text(0.5, 0.5, said, transform=axes.transAxes, ha="center", va="center", color=_GREY)
+        return
     not_known = f", not known in {unknown} of {total} steps" if unknown else ""
     handles = [
         matplotlib.lines.Line2D([], [], color=common, linewidth=1.4),

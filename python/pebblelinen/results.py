@@ -170,7 +170,7 @@ def _put_curve(h5py: Any, group: Any, curve: Curve) -> None:
     _put(basis, "words", curve.basis.words, _LANES)
     _put(basis, "coefficients", curve.basis.coefficients, _NUMBER)
     settings = group.create_group("settings")
-    for key, value in curve.settings.items():
+    for key, value in sorted(curve.settings.items()):
         _put_setting(h5py, settings, key, value)
 
 

@@ -6,20 +6,21 @@ import math
 import os
 import signal
 import sys
-from collections.abc import Callable, Iterator, Sequence
+from collections.abc import Iterator, Mapping, Sequence
 from contextlib import contextmanager
 from pathlib import Path
-from typing import Any
+from typing import Any, NamedTuple
 
-from . import modelfile
+from . import _output, modelfile
 from ._given import counted
-from ._printing import SHOWN, Answers, Rows, aligned, loaded, loaded_with_basis, more_lines
+from ._printing import SHOWN, Answers, Make, Rows, aligned, loaded, loaded_with_basis, more_lines
 from ._progress import working
 from ._types import NumberTable
 from .basis import Basis
 from .check import Checked
 from .curve import Curve
 from .errors import InputError, Refusal
+from .run import Run, settings_of
 
 # Exit statuses of their own: a curve that does not hold, and a run that was interrupted.
 NOT_HELD = 3
@@ -28,13 +29,11 @@ INTERRUPTED = 130
 ABOUT = """\
   pebblelinen step chain.toml --dt 0.05 --max-basis 1000    one step of a run: words enter, are evolved and dropped
   pebblelinen run chain.toml                  the curve of an observable up to given times
+  pebblelinen run chain.toml retuned.toml --plot both.png --out both.h5
   pebblelinen check chain.toml                whether the time step or the room made that curve up"""
 
-# How a command is made: its name, what it does, a line about it, and more about it.
-_Make = Callable[[str, Callable[[argparse.Namespace], Answers], str, str], argparse.ArgumentParser]
 
-
-def add(command: _Make) -> None:
+def add(command: Make) -> None:
     """Adds the commands to the parser."""
     made = command(
         "step",
@@ -58,7 +57,8 @@ def add(command: _Make) -> None:
         "Follows the file's observables, or its basis where it has none, from the time 0 to each of the times, and\n"
         "gives the expectation in the product state, the words held, and an estimate of a bound on what the run lost:\n"
         "what leaked out of the basis, and what was dropped. The file says times, limits and thresholds in [run];\n"
-        "options go before it. An interrupt gives the curve so far, and ends with 130.",
+        "options go before it. Several files go into one figure, and beside them what was stored before. An interrupt\n"
+        "gives the curve so far, and ends with 130.",
     )
     _add_settings(made)
     made.add_argument("--no-losses", action="store_true", help="do not ask what leaks, which takes time")
@@ -96,19 +96,8 @@ def _add_settings(made: argparse.ArgumentParser) -> None:
     made.add_argument("--state", metavar="S", help="the product state: 0 1 + - +i -i, or a letter for each qubit")
     made.add_argument("--words", nargs="+", metavar="WORD", help="words whose coefficients are followed")
     made.add_argument("--observable", action="append", metavar="NAME", help="one of the file's, not all; may be repeated")
-
-
-# ---- what is done with the results: files and pictures of them are made here ----
-
-
-def _done_with_run(options: argparse.Namespace, curves: Sequence[Curve]) -> list[str]:
-    """What else is done with the curves of a run. Lines that say so."""
-    return []
-
-
-def _done_with_check(options: argparse.Namespace, checks: Sequence[Checked]) -> list[str]:
-    """What else is done with the curves of a check. Lines that say so."""
-    return []
+    _output.add_options(made)
+    _output.add_beside(made)
 
 
 # ---- one step ----
@@ -173,73 +162,129 @@ def _step(options: argparse.Namespace) -> Answers:
 # ---- runs ----
 
 
+class _Asked(NamedTuple):
+    """What a file and the options ask for: observables by name, and the settings of their runs."""
+
+    path: str
+    file: modelfile.ModelFile
+    chosen: dict[str | None, Basis]
+    settings: dict[str, Any]
+
+
 def _run(options: argparse.Namespace) -> Answers:
-    file, chosen, settings = _asked(options)
-    if options.no_losses:
-        settings["losses"] = False
-    curves: list[Curve] = []
-    with _interrupts(), _from_the_file(options.file):
-        for name, basis in chosen.items():
-            checkpoint = _checkpoint(options.checkpoint, name, len(chosen))
-            curves.append(file.model.run(basis, name=name, checkpoint=checkpoint, **settings))
-            if not curves[-1].finished:
+    asked = _all_asked(options)
+    if options.checkpoint is not None and len(asked) > 1:
+        raise InputError("a checkpoint is that of one model file: run each by itself")
+    curves: dict[str, list[Curve]] = {each.path: [] for each in asked}
+    with _interrupts():
+        for each, name, basis in _runs(asked):
+            checkpoint = _checkpoint(options.checkpoint, name, len(each.chosen))
+            with _from_the_file(each.path):
+                curve = each.file.model.run(basis, name=name, checkpoint=checkpoint, **each.settings)
+            curves[each.path].append(curve)
+            if not curve.finished:
                 options.status = INTERRUPTED
                 print("pebblelinen: interrupted: this is the curve so far", file=sys.stderr)
                 break
-    further = _done_with_run(options, curves)
+    named = _output.labelled([(path, {curve.name: curve for curve in found}) for path, found in curves.items()])
+    _output.write(options, named)
 
     def answer() -> dict[str, Any]:
-        return {"qubits": file.model.n, "curves": list(map(_curve_answer, curves))}
+        found = [_named(each, options, curves=list(map(_curve_answer, curves[each.path]))) for each in asked]
+        return {**(found[0] if len(found) == 1 else {"files": found}), **_output.answer(options)}
 
     def lines() -> Iterator[str]:
-        yield str(file.model)
-        for curve in curves:
-            yield ""
-            yield from _curve_lines(curve, options.all)
-        yield from further
+        for each in asked:
+            yield from _head(each, options)
+            for curve in curves[each.path]:
+                yield ""
+                yield from _curve_lines(curve, options.all)
+        yield from _output.lines(options)
 
     def rows() -> Rows:
-        yield from _curve_rows(curves)
+        yield from _curve_rows(named)
 
     return answer, lines, rows
 
 
 def _check(options: argparse.Namespace) -> Answers:
-    file, chosen, settings = _asked(options)
-    tolerance = file.run.get("tolerance", 1e-3) if options.tolerance is None else options.tolerance
-    with _interrupts(), _from_the_file(options.file):
+    asked = _all_asked(options)
+    checks: dict[str, list[Checked]] = {each.path: [] for each in asked}
+    with _interrupts():
         try:
-            checks = [
-                file.model.check(basis, name=name, tolerance=tolerance, **settings) for name, basis in chosen.items()
-            ]
+            for each, name, basis in _runs(asked):
+                wanted = each.file.run.get("tolerance", 1e-3) if options.tolerance is None else options.tolerance
+                with _from_the_file(each.path):
+                    one = each.file.model.check(basis, name=name, tolerance=wanted, **each.settings)
+                checks[each.path].append(one)
         except KeyboardInterrupt:
             raise InputError("interrupted: there is no answer yet") from None
-    further = _done_with_check(options, checks)
-    if not all(each.ok for each in checks):
+    named = _output.labelled([(path, {one.curve.name: one for one in found}) for path, found in checks.items()])
+    _output.write(options, named)
+    if not all(one.ok for one in named.values()):
         options.status = NOT_HELD
 
     def answer() -> dict[str, Any]:
-        return {"qubits": file.model.n, "ok": all(each.ok for each in checks), "checks": list(map(_check_answer, checks))}
+        found = []
+        for each in asked:
+            ok = all(one.ok for one in checks[each.path])
+            found.append(_named(each, options, ok=ok, checks=list(map(_check_answer, checks[each.path]))))
+        several = {"ok": all(one.ok for one in named.values()), "files": found}
+        return {**(found[0] if len(found) == 1 else several), **_output.answer(options)}
 
     def lines() -> Iterator[str]:
-        yield str(file.model)
-        for each in checks:
-            yield ""
-            yield from _check_lines(each, options.all)
-        yield from further
+        for each in asked:
+            yield from _head(each, options)
+            for one in checks[each.path]:
+                yield ""
+                yield from _check_lines(one, options.all)
+        yield from _output.lines(options)
 
     def rows() -> Rows:
         yield "observable", "time", "value", "moved_by_step", "moved_by_room", "exact", "ok"
-        for each in checks:
-            exact = [""] * len(each.curve.times) if each.exact is None else map(repr, each.exact.tolist())
-            columns = each.curve.times, each.curve.values, each.moved_by_step, each.moved_by_room
+        for label, one in named.items():
+            exact = [""] * len(one.curve.times) if one.exact is None else map(repr, one.exact.tolist())
+            columns = one.curve.times, one.curve.values, one.moved_by_step, one.moved_by_room
             for *numbers, x in zip(*(column.tolist() for column in columns), exact):
-                yield each.curve.name, *map(repr, numbers), x, each.ok
+                yield label, *map(repr, numbers), x, one.ok
 
     return answer, lines, rows
 
 
-def _asked(options: argparse.Namespace) -> tuple[modelfile.ModelFile, dict[str | None, Basis], dict[str, Any]]:
+def _named(each: _Asked, options: argparse.Namespace, **found: Any) -> dict[str, Any]:
+    """An answer for programs. Of several files each says its name."""
+    name = {"file": each.path} if len(options.files) > 1 else {}
+    return {**name, "qubits": each.file.model.n, **found}
+
+
+def _head(each: _Asked, options: argparse.Namespace) -> Iterator[str]:
+    """What stands above the curves of a file. Of several files each says its name."""
+    if len(options.files) > 1:
+        if each.path != options.files[0]:
+            yield ""
+        yield f"{each.path}:"
+    yield str(each.file.model)
+
+
+def _all_asked(options: argparse.Namespace) -> list[_Asked]:
+    """What every file asks for. It is tested before anything is computed."""
+    _output.look_ahead(options)
+    asked = []
+    for path in _output.once(options.files):
+        options.file = path
+        asked.append(_asked(options))
+    for each, name, basis in _runs(asked):
+        with _from_the_file(each.path):
+            Run(each.file.model, basis, settings_of(each.file.model.n, name=name, **each.settings))
+    return asked
+
+
+def _runs(asked: Sequence[_Asked]) -> Iterator[tuple[_Asked, str | None, Basis]]:
+    """Each observable of each file."""
+    return ((each, name, basis) for each in asked for name, basis in each.chosen.items())
+
+
+def _asked(options: argparse.Namespace) -> _Asked:
     """The file, the observables that were chosen, and the settings: options before the file's."""
     file = loaded(options)
     chosen = file.followed()
@@ -262,7 +307,9 @@ def _asked(options: argparse.Namespace) -> tuple[modelfile.ModelFile, dict[str |
         if key not in settings:
             option = f"--{key.replace('_', '-')}"
             raise InputError(f"{key} is missing: give the file [run] with {key}, or {option}", where=options.file)
-    return file, chosen, settings
+    if getattr(options, "no_losses", False):
+        settings["losses"] = False
+    return _Asked(options.file, file, chosen, settings)
 
 
 def _checkpoint(path: str | None, name: str | None, count: int) -> str | None:
@@ -348,14 +395,14 @@ def _shown_estimate(x: float) -> str:
     return "unknown" if math.isnan(x) else f"{x:.2g}"
 
 
-def _curve_rows(curves: Sequence[Curve]) -> Rows:
-    words = list(dict.fromkeys(word for curve in curves for word in curve.words))
+def _curve_rows(named: Mapping[str, Curve]) -> Rows:
+    words = list(dict.fromkeys(word for curve in named.values() for word in curve.words))
     yield "observable", "time", "value", "held", "leaked", "dropped", "estimate", *words
-    for curve in curves:
+    for label, curve in named.items():
         columns = curve.times, curve.values, curve.held_at(), curve.leaked, curve.dropped, curve.estimate
-        followed = [curve.words[word] for word in words]
-        for row in zip(*(column.tolist() for column in [*columns, *followed])):
-            yield curve.name, *map(repr, row)
+        for i, row in enumerate(zip(*(column.tolist() for column in columns))):
+            followed = [repr(float(curve.words[word][i])) if word in curve.words else "" for word in words]
+            yield label, *map(repr, row), *followed
 
 
 def _check_answer(each: Checked) -> dict[str, Any]:
