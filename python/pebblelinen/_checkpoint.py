@@ -6,6 +6,7 @@ import json
 import os
 import zipfile
 from collections.abc import Mapping
+from pathlib import Path
 from typing import Any
 
 import numpy as np
@@ -30,15 +31,18 @@ def write(path: str | os.PathLike[str], settings: Mapping[str, Any], arrays: Map
 def read(path: str | os.PathLike[str]) -> tuple[dict[str, Any], dict[str, NDArray[Any]]]:
     """Settings and arrays of a checkpoint."""
     name = os.fspath(path)
+    if os.path.exists(name) and not os.path.isfile(name):
+        raise InputError("this is no file, and no checkpoint of a run", where=name)
     try:
-        with np.load(name, allow_pickle=False) as file:
+        # From memory: of a damaged file numpy would leave its own open.
+        with np.load(io.BytesIO(Path(name).read_bytes()), allow_pickle=False) as file:
             arrays = {key: file[key] for key in file.files}
         if not _NEEDED <= {*arrays} or str(arrays["form"]) != _FORM:
             raise InputError("this is no checkpoint of a run", where=name)
         return json.loads(str(arrays["settings"])), arrays
     except OSError as error:
         raise InputError(error.strerror or str(error), where=name) from None
-    except (ValueError, TypeError, AttributeError, KeyError, EOFError, zipfile.BadZipFile) as error:
-        if isinstance(error, InputError):
-            raise
-        raise InputError(f"this is no checkpoint of a run: {error}", where=name) from None
+    except InputError:
+        raise
+    except (AttributeError, EOFError, KeyError, TypeError, ValueError, zipfile.BadZipFile):
+        raise InputError("this is no checkpoint of a run", where=name) from None
