@@ -14,20 +14,18 @@ _SomeResult = TypeVar("_SomeResult", bound=Result)
 
 
 def add_options(made: argparse.ArgumentParser) -> None:
-    """The options that name files to write. Each may be given several times."""
-    made.add_argument(
-        "--plot", action="append", default=[], metavar="PICTURE", help="draw the curves in one figure: .png, .svg or .pdf"
-    )
-    made.add_argument(
-        "--out", action="append", default=[], metavar="RESULT", help="write the curves: .h5 with everything, .csv as a table"
-    )
+    """The options that name files to write."""
+    _add(made, "--plot", "PICTURE", "draw the curves in one figure: .png, .svg or .pdf; may be repeated")
+    _add(made, "--out", "RESULT", "write the curves: .h5 with everything, .csv as a table; may be repeated")
 
 
 def add_beside(made: argparse.ArgumentParser) -> None:
     """The option that names results to draw beside those that are computed."""
-    made.add_argument(
-        "--beside", action="append", default=[], metavar="RESULT", help="draw what was stored in an .h5 file beside them"
-    )
+    _add(made, "--beside", "RESULT", "draw what is stored in an .h5 file beside them; may be repeated")
+
+
+def _add(made: argparse.ArgumentParser, option: str, kind: str, about: str) -> None:
+    made.add_argument(option, action="append", default=[], metavar=kind, help=about)
 
 
 def look_ahead(options: argparse.Namespace) -> None:

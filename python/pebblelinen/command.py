@@ -7,13 +7,14 @@ whose curve does not hold, 130 a run that was interrupted."""
 import argparse
 import csv
 import math
+import os
 import signal
 import sys
 from collections.abc import Callable, Iterator, Sequence
 from functools import partial
 from typing import Any, NoReturn
 
-from . import _given, demo, modelfile, plotcommand, runcommand
+from . import _given, _output, demo, modelfile, plotcommand, runcommand
 from ._files import write_whole
 from ._given import counted
 from ._printing import (
@@ -34,6 +35,7 @@ from ._printing import (
 from ._progress import working
 from ._version import __version__
 from .basis import Basis
+from .check import Checked
 from .errors import InputError, PebblelinenError, Refusal
 from .model import Degree
 from .terms import Terms
@@ -129,7 +131,8 @@ def _parser() -> argparse.ArgumentParser:
         )
         made.set_defaults(run=run)
         if name in ("run", "check"):
-            made.add_argument("files", nargs="+", metavar="FILE", help="a model file, in TOML; several go into one figure")
+            about_files = "a model file, in TOML; several go into one figure"
+            made.add_argument("files", nargs="+", metavar="FILE", help=about_files)
         elif file:
             made.add_argument("file", metavar="FILE", help="a model file, in TOML")
         form = made.add_mutually_exclusive_group()
@@ -146,13 +149,16 @@ def _parser() -> argparse.ArgumentParser:
         "Shows what the library does on a chain of 256 qubits with couplings, fields, decay and\n"
         "dephasing: the action on an observable; rounds in which the words that leak out of a basis are\n"
         "admitted to it and its coefficients are evolved by a time step; at the end the norm and degree of\n"
-        "the generator.",
+        "the generator. With --plot or --out it goes on to a curve, the expectation of the observable where one\n"
+        "qubit starts in 1, and to what `check` says of it.",
         file=False,
     )
     made.add_argument("--rounds", type=int, default=6, metavar="R", help="rounds (default 6)")
     made.add_argument("--limit", type=int, default=4096, metavar="N", help="most words (default 4096)")
     made.add_argument("--dt", type=float, default=0.05, metavar="T", help="time step (default 0.05)")
     made.add_argument("--model", action="store_true", help="print the device as a model file instead")
+    made.add_argument("--save", metavar="OUT", help="write it to the file OUT, where none stands there")
+    _output.add_options(made)
 
     made = command(
         "action",
@@ -445,8 +451,11 @@ def _demo(options: argparse.Namespace) -> Answers:
             raise InputError("--model prints a model file: there is no table of it for --csv")
         return lambda: {"model": demo.as_file()}, lambda: [demo.as_file().rstrip("\n")], list
     count = _given.whole(options.rounds, "--rounds")
+    _output.look_ahead(options)
     with working("building the model"):
         model = demo.chain()
+    if options.save is not None and not os.path.exists(options.save):
+        write_whole(options.save, demo.as_file().encode())
     basis = Basis(model.n, {demo.OBSERVABLE: 1.0})
 
     def rounds() -> Iterator[demo.Round]:
@@ -459,6 +468,11 @@ def _demo(options: argparse.Namespace) -> Answers:
     def degree() -> Degree:
         return model.degree(basis, dt=options.dt)
 
+    def decay() -> Checked:
+        checked = demo.decay(model)
+        _output.write(options, {checked.curve.name: checked})
+        return checked
+
     def answer() -> dict[str, Any]:
         action = terms_answer(model.action(demo.OBSERVABLE))
         done = [
@@ -470,6 +484,8 @@ def _demo(options: argparse.Namespace) -> Answers:
             "action": action,
             "rounds": done,
             **_degree_answer(degree()),
+            **({"decay": runcommand.check_answer(decay())} if options.plot or options.out else {}),
+            **_output.answer(options),
         }
 
     def lines() -> Iterator[str]:
@@ -496,6 +512,9 @@ def _demo(options: argparse.Namespace) -> Answers:
         yield f"words at {touching} of {len(basis)} positions have a letter on qubit {demo.SITE}"
         yield ""
         yield from _degree_lines(len(basis), options.dt, degree())
+        if options.plot or options.out:
+            yield ""
+            yield from _decay_lines(options, decay)
 
     def rows() -> Rows:
         yield demo.Round._fields
@@ -503,3 +522,19 @@ def _demo(options: argparse.Namespace) -> Answers:
             yield map(repr, each)
 
     return answer, lines, rows
+
+
+def _decay_lines(options: argparse.Namespace, decay: Callable[[], Checked]) -> Iterator[str]:
+    """The curve of the demonstration, for people: not at all of its times."""
+    yield f"the expectation of {demo.OBSERVABLE} where qubit {demo.SITE} starts in 1, with {demo.ROOM} words:"
+    checked = decay()
+    columns = checked.curve.times, checked.curve.values, checked.half_step.values, checked.double_room.values
+    rows = [(f"{time:g}", *(f"{x:.6f}" for x in row)) for time, *row in zip(*(each[::4].tolist() for each in columns))]
+    yield from aligned([("time", "value", "half the step", "twice the room"), *rows])
+    yield checked.says
+    yield from _output.lines(options)
+    if options.save is not None and options.out:
+        program = "./pebblelinen" if os.path.exists("pebblelinen") else "pebblelinen"
+        yield ""
+        yield f"The device is in {options.save}. Change a rate there, and see both curves in one figure:"
+        yield f"  {program} run {options.save} --beside {options.out[0]} --plot both.png"

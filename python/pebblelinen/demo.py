@@ -1,18 +1,43 @@
 # SPDX-FileCopyrightText: 2026 The PPVM Authors
 # SPDX-License-Identifier: Apache-2.0
-"""A device to look at: a chain of qubits with couplings, fields, decay and dephasing, and a basis that
-grows around one observable."""
+"""A device to look at: a chain of qubits with couplings, fields, decay and dephasing, a basis that grows around one
+observable, and the curve of that observable where one qubit starts in 1."""
 import time
 from collections.abc import Iterator
 from typing import NamedTuple
 
 from . import modelfile
 from .basis import Basis
+from .check import Checked
 from .model import Model
 
 QUBITS = 256
 SITE = 128
 OBSERVABLE = f"Z{SITE}"
+
+# Of the curve: up to which time, at how many times, how many words, and by how much it may move.
+LAST_TIME = 0.5
+TIMES = 20
+ROOM = 2000
+TOLERANCE = 0.01
+
+_ABOUT = f"""\
+# SPDX-FileCopyrightText: 2026 The PPVM Authors
+# SPDX-License-Identifier: Apache-2.0
+#
+# A chain of {QUBITS} qubits with couplings, fields, decay and dephasing.
+"""
+
+_RUN = f"""
+[state]                     # qubit {SITE} starts in 1
+all = "0"
+{SITE} = "1"
+
+[run]
+times = {{ to = {LAST_TIME}, count = {TIMES} }}
+max_basis = {ROOM}
+tolerance = {TOLERANCE}
+"""
 
 
 def items(n: int = QUBITS) -> tuple[dict[str, float], list[tuple[float, str | dict[str, complex]]]]:
@@ -37,9 +62,19 @@ def chain(n: int = QUBITS) -> Model:
 
 
 def as_file() -> str:
-    """The chain as a model file."""
-    about = f"# A chain of {QUBITS} qubits with couplings, fields, decay and dephasing.\n"
-    return about + modelfile.text_of(chain(), Basis(QUBITS, {OBSERVABLE: 1.0}))
+    """The chain as a model file, with what the curve is to be."""
+    return _ABOUT + modelfile.text_of(chain(), Basis(QUBITS, {OBSERVABLE: 1.0})) + _RUN
+
+
+def decay(model: Model) -> Checked:
+    """The curve of the file, and whether it holds: `check` of the file gives the same."""
+    return model.check(
+        Basis(QUBITS, {OBSERVABLE: 1.0}),
+        state={SITE: "1"},
+        times={"to": LAST_TIME, "count": TIMES},
+        max_basis=ROOM,
+        tolerance=TOLERANCE,
+    )
 
 
 class Round(NamedTuple):

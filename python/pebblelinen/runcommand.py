@@ -228,7 +228,7 @@ def _check(options: argparse.Namespace) -> Answers:
         found = []
         for each in asked:
             ok = all(one.ok for one in checks[each.path])
-            found.append(_named(each, options, ok=ok, checks=list(map(_check_answer, checks[each.path]))))
+            found.append(_named(each, options, ok=ok, checks=list(map(check_answer, checks[each.path]))))
         several = {"ok": all(one.ok for one in named.values()), "files": found}
         return {**(found[0] if len(found) == 1 else several), **_output.answer(options)}
 
@@ -405,7 +405,8 @@ def _curve_rows(named: Mapping[str, Curve]) -> Rows:
             yield label, *map(repr, row), *followed
 
 
-def _check_answer(each: Checked) -> dict[str, Any]:
+def check_answer(each: Checked) -> dict[str, Any]:
+    """A check for programs."""
     return {
         "name": each.curve.name,
         "ok": each.ok,
