@@ -247,10 +247,12 @@ def _span(tables: Iterable[NumberTable]) -> tuple[float, float]:
 
 
 def _draw_held(matplotlib: Any, axes: Any, pairs: list[tuple[str, Result]], styles: list[dict[str, Any]]) -> None:
+    most = 1
     for (name, result), style in zip(pairs, styles):
         steps = curve_of(result).steps
         axes.plot(steps.time, steps.held, label=name, linewidth=1.4, **style)
-    axes.set_ylim(bottom=0)
+        most = max(most, *steps.held.tolist())
+    axes.set_ylim(0, 1.12 * most)
     axes.yaxis.set_major_locator(matplotlib.ticker.MaxNLocator(nbins=4, integer=True))
     axes.yaxis.set_major_formatter(matplotlib.ticker.StrMethodFormatter("{x:,.0f}"))
     axes.set_ylabel("words held")
