@@ -1,13 +1,9 @@
 # SPDX-FileCopyrightText: 2026 The PPVM Authors
 # SPDX-License-Identifier: Apache-2.0
 """The predictor-corrector step: bit for bit against the definition written plainly (stepping.py), its refusals in their
-order, what it promises, and through the command."""
-import csv
-import io
-import json
+order, and what it promises."""
 import random
 import unittest
-from pathlib import Path
 from unittest import mock
 
 import numpy as np
@@ -15,9 +11,8 @@ import numpy as np
 import any_k
 import dense
 import stepping
-import test_command
 import test_refusals
-from pebblelinen import Basis, InputError, Model, Position, Refusal, Stepped, load, step
+from pebblelinen import Basis, InputError, Model, Position, Refusal, Stepped, step
 
 NAN, INF = float("nan"), float("inf")
 TURN = Model(1, {"Z": 1.0})
