@@ -277,8 +277,11 @@ class Refusals(test_refusals.Case):
             self.assertIsNone(step._first_again(lanes))
             lanes[second] = lanes[first]
             self.assertEqual(step._first_again(lanes), second)
+        # The letters on all qubits have sums of their own.
+        letters = Basis(256, [(f"{a}{q}", 0.0) for q in range(256) for a in "XYZ"]).words
+        self.assertEqual(len({*step._sums(letters).tolist()}), 768)
         # Two words whose sums are equal are looked at.
-        with mock.patch.object(step, "_FACTORS", np.zeros(8, np.uint64)):
+        with mock.patch.object(step, "_FACTORS", np.zeros(16, np.uint64)):
             self.assertIsNone(step._first_again(lanes[:2] if second > 1 else lanes[2:4]))
             self.assertEqual(step._first_again(lanes), second)
 
