@@ -5,6 +5,7 @@
 Each step is the predictor-corrector step of `model.step`. Everything that a run is given is tested before anything is
 computed. A run knows what it has done after each step, so that an interrupt keeps it, and a checkpoint goes on from
 it, bit for bit."""
+import functools
 import math
 import os
 import time
@@ -238,6 +239,10 @@ class Run:
 
     def plain(self) -> dict[str, Any]:
         """All that the run goes by, as plain values: numbers, texts and lists."""
+        return dict(self._plain)
+
+    @functools.cached_property
+    def _plain(self) -> dict[str, Any]:
         settings, rules = self.settings, self.settings.rules
         protected = [made(lanes, self.model.n) for lanes in rules.protected.reshape(-1, WORD_LANES).tolist()]
         of_run: dict[str, Any] = {
@@ -342,21 +347,21 @@ def _coefficient(basis: Basis, word: Word) -> float:
     return float(basis.coefficients[places[0]]) if len(places) else 0.0
 
 
-def _norms(values: NumberTable) -> tuple[float, float]:
-    """The sum of magnitudes, and the root of the sum of squares: each is rounded once or nearly so, and the same on
-    every machine."""
-    magnitudes = abs(values).tolist()
-    return math.fsum(magnitudes), math.hypot(*magnitudes)
+def _norms(values: NumberTable, less: NumberTable = np.zeros(0)) -> tuple[float, float]:
+    """The sum of magnitudes, and the root of the sum of squares, of some numbers less others that are among them. Sums
+    are rounded once: what is in both cancels exactly, and the answer is the same on every machine."""
+    largest = float(abs(values).max(initial=0.0))
+    if largest == 0:
+        return 0.0, 0.0
+    # In parts of the largest no square is too large or too small.
+    parts = np.concatenate((abs(values), -abs(less))) / largest
+    sum_, squares = math.fsum(parts.tolist()), math.fsum((parts * abs(parts)).tolist())
+    return largest * sum_, largest * math.sqrt(squares)
 
 
 def _dropped(before: NumberTable, after: NumberTable) -> tuple[float, float]:
     """The two norms of the coefficients that are not there any more. Those that stay are as they were."""
-    if len(before) == len(after):
-        return 0.0, 0.0
-    magnitudes, places = np.unique(abs(np.concatenate((before, after))), return_inverse=True)
-    left = np.bincount(places[: len(before)], minlength=len(magnitudes))
-    left -= np.bincount(places[len(before) :], minlength=len(magnitudes))
-    return _norms(np.repeat(magnitudes, left))
+    return (0.0, 0.0) if len(before) == len(after) else _norms(before, after)
 
 
 def begun(

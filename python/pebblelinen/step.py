@@ -4,12 +4,13 @@
 
 The library has the parts, each proved, and no call for the whole yet. So the order of the parts stands here, and the
 tests hold it to a program written from the definition. All parts work on a copy: the basis given never changes."""
+import random
 from typing import TYPE_CHECKING, Any, NamedTuple
 
 import numpy as np
 
 from . import _given, _library
-from ._lanes import LANES, WORD_LANES, split
+from ._lanes import WORD_LANES, split
 from ._types import LaneTable
 from .basis import AnyWords, Basis, refusal
 from .words import MAX_WORDS, table
@@ -119,14 +120,20 @@ def _outside(words: LaneTable, n: int) -> Any:
     return np.flatnonzero((words & ~register).any(axis=1))
 
 
-# Factors of lanes in a sum that tells words apart: odd, and with no pattern of bits in common.
-_FACTORS = np.array([(0x9E3779B97F4A7C15 * (2 * i + 1)) & (1 << 64) - 1 for i in range(1, 2 * LANES + 1)], np.uint64)
+# Factors of the halves of lanes in a sum that tells words apart.
+_FACTORS = np.array([random.Random(1 + half).getrandbits(64) | 1 for half in range(2 * WORD_LANES)], np.uint64)
+
+
+def _sums(words: LaneTable) -> LaneTable:
+    """A number for each word: equal words have equal ones, and others hardly ever do."""
+    halves = np.ascontiguousarray(words).view(np.uint32).astype(np.uint64)
+    sums: LaneTable = (halves * _FACTORS).sum(axis=1)
+    return sums
 
 
 def _first_again(words: LaneTable) -> int | None:
     """The first position whose word stood at a lower one."""
-    # Equal words have equal sums; sums of other words hardly ever are, and cost a look at the words.
-    if len(np.unique((words * _FACTORS).sum(axis=1))) == len(words):
+    if len(np.unique(_sums(words))) == len(words):
         return None
     first = np.unique(words, axis=0, return_index=True)[1]
     again = np.ones(len(words), bool)

@@ -6,7 +6,6 @@ import contextlib
 import io
 import json
 import math
-import os
 import random
 import tempfile
 import unittest
@@ -19,7 +18,7 @@ import scipy.sparse.linalg
 
 import dense
 import test_state
-from pebblelinen import Basis, Curve, InputError, Model, Refusal, Run, Steps, _progress, noise, plan, resume, run
+from pebblelinen import Basis, Curve, InputError, Model, Refusal, Run, _progress, noise, plan, resume, run
 from pebblelinen.resuming import run_of
 
 NAN, INF = float("nan"), float("inf")

@@ -1,13 +1,9 @@
 # SPDX-FileCopyrightText: 2026 The PPVM Authors
 # SPDX-License-Identifier: Apache-2.0
 """The predictor-corrector step: bit for bit against the definition written plainly (stepping.py), its refusals in their
-order, what it promises, and through the command."""
-import csv
-import io
-import json
+order, and what it promises."""
 import random
 import unittest
-from pathlib import Path
 from unittest import mock
 
 import numpy as np
@@ -15,9 +11,8 @@ import numpy as np
 import any_k
 import dense
 import stepping
-import test_command
 import test_refusals
-from pebblelinen import Basis, InputError, Model, Position, Refusal, Stepped, load, step
+from pebblelinen import Basis, InputError, Model, Position, Refusal, Stepped, step
 
 NAN, INF = float("nan"), float("inf")
 TURN = Model(1, {"Z": 1.0})
@@ -282,8 +277,11 @@ class Refusals(test_refusals.Case):
             self.assertIsNone(step._first_again(lanes))
             lanes[second] = lanes[first]
             self.assertEqual(step._first_again(lanes), second)
+        # The letters on all qubits have sums of their own.
+        letters = Basis(256, [(f"{a}{q}", 0.0) for q in range(256) for a in "XYZ"]).words
+        self.assertEqual(len({*step._sums(letters).tolist()}), 768)
         # Two words whose sums are equal are looked at.
-        with mock.patch.object(step, "_FACTORS", np.zeros(8, np.uint64)):
+        with mock.patch.object(step, "_FACTORS", np.zeros(16, np.uint64)):
             self.assertIsNone(step._first_again(lanes[:2] if second > 1 else lanes[2:4]))
             self.assertEqual(step._first_again(lanes), second)
 
