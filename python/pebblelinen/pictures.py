@@ -154,7 +154,7 @@ def _draw(matplotlib: Any, figure: Any, pairs: list[tuple[str, Result]]) -> None
         axes.set_axisbelow(True)
     figure.align_ylabels(panels)
     if len(pairs) == 1 and is_checked(pairs[0][1]):
-        figure.suptitle(textwrap.fill(pairs[0][1].says, 105), fontsize="small", x=0.01, horizontalalignment="left")
+        figure.suptitle(textwrap.fill(pairs[0][1].says, 115), fontsize="small", x=0.01, horizontalalignment="left")
 
 
 def _style(place: int) -> dict[str, Any]:
