@@ -529,7 +529,7 @@ def _decay_lines(options: argparse.Namespace, decay: Callable[[], Checked]) -> I
     yield f"the expectation of {demo.OBSERVABLE} where qubit {demo.SITE} starts in 1, with {demo.ROOM} words:"
     checked = decay()
     columns = checked.curve.times, checked.curve.values, checked.half_step.values, checked.double_room.values
-    rows = [(f"{time:g}", *(f"{x:.6f}" for x in row)) for time, *row in zip(*(each[::4].tolist() for each in columns))]
+    rows = [(f"{time:g}", *(f"{x:.6f}" for x in row)) for time, *row in zip(*(each[::5].tolist() for each in columns))]
     yield from aligned([("time", "value", "half the step", "twice the room"), *rows])
     yield checked.says
     yield from _output.lines(options)

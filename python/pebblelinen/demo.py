@@ -15,11 +15,13 @@ QUBITS = 256
 SITE = 128
 OBSERVABLE = f"Z{SITE}"
 
-# Of the curve: up to which time, at how many times, how many words, and by how much it may move.
-LAST_TIME = 0.5
-TIMES = 20
+# Of the curve: up to which time, at how many times, how many words, also until the end of a step, where better ones find
+# room, and by how much it may move.
+LAST_TIME = 1.0
+TIMES = 25
 ROOM = 2000
-TOLERANCE = 0.01
+ROOM_WITHIN = 4000
+TOLERANCE = 0.02
 
 _ABOUT = f"""\
 # SPDX-FileCopyrightText: 2026 The PPVM Authors
@@ -36,6 +38,7 @@ all = "0"
 [run]
 times = {{ to = {LAST_TIME}, count = {TIMES} }}
 max_basis = {ROOM}
+admit_basis = {ROOM_WITHIN}
 tolerance = {TOLERANCE}
 """
 
@@ -73,6 +76,7 @@ def decay(model: Model) -> Checked:
         state={SITE: "1"},
         times={"to": LAST_TIME, "count": TIMES},
         max_basis=ROOM,
+        admit_basis=ROOM_WITHIN,
         tolerance=TOLERANCE,
     )
 

@@ -228,7 +228,7 @@ class Demonstration(Case):
         self.addCleanup(os.chdir, "/")
         files = "--save", "chain.toml", "--out", "decay.h5", "--plot", "decay.png"
         out = self.answered("demo", "--rounds", "1", *files)
-        self.assertIn("yes: the curve of Z128 holds within 0.01: ", out)
+        self.assertIn("yes: the curve of Z128 holds within 0.02: ", out)
         self.assertIn("pebblelinen run chain.toml --beside decay.h5 --plot both.png", out)
         self.assertTrue(Path("decay.png").read_bytes().startswith(b"\x89PNG"))
         (checked,) = results.load("decay.h5")
@@ -238,7 +238,8 @@ class Demonstration(Case):
         file = load("chain.toml")
         self.assertEqual(file.model, demo.chain())
         self.assertEqual(modelfile.loads(demo.as_file(), "demo").run, file.run)
-        rerun = file.model.run(file.basis, state=file.state, times=file.run["times"], max_basis=file.run["max_basis"])
+        how = {key: x for key, x in file.run.items() if key != "tolerance"}
+        rerun = file.model.run(file.basis, state=file.state, **how)
         self.assertEqual(rerun.values.tobytes(), checked.curve.values.tobytes())
         # A file that stands there is the user's.
         Path("chain.toml").write_text("mine")
