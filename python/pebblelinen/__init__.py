@@ -10,7 +10,7 @@ proved to give it; this package carries numbers in and out.
     model = Model(2, {"X0 X1": 1.0}, [(0.1, {"X0": 0.5, "Y0": 0.5j})])
     print(model.action("Z0"))
 """
-from . import noise
+from . import noise, pictures, results
 from ._version import __version__
 from .basis import Basis, Entry
 from .check import Checked
@@ -60,7 +60,9 @@ __all__ = [
     "__version__",
     "load",
     "noise",
+    "pictures",
     "product",
+    "results",
     "resume",
     "row",
     "save",

@@ -4,6 +4,7 @@
 import csv
 import io
 import os
+import subprocess
 import sys
 import unittest
 from pathlib import Path
@@ -12,6 +13,7 @@ from unittest import mock
 import numpy as np
 from scipy.integrate import solve_ivp
 
+import pebblelinen
 from pebblelinen import Basis, Model, demo, load, modelfile, noise, pictures, results
 from test_command import Case
 
@@ -155,6 +157,12 @@ class Commands(Case):
                 self.assertEqual(status, 2)
                 self.assertIn(said, error)
         self.assertEqual(self.files(), before)
+
+    def test_nothing_is_imported_before_it_is_asked_for(self):
+        look = "import sys, pebblelinen.command\nprint(*{'matplotlib', 'h5py', 'xarray', 'tqdm'}.intersection(sys.modules))"
+        place = {**os.environ, "PYTHONPATH": str(Path(pebblelinen.__file__).resolve().parent.parent)}
+        ran = subprocess.run([sys.executable, "-W", "error", "-c", look], env=place, capture_output=True, text=True)
+        self.assertEqual((ran.stdout, ran.stderr), ("\n", ""))
 
     def test_without_the_packages(self):
         hidden = dict.fromkeys(["matplotlib", "matplotlib.figure", "h5py", "xarray", "tqdm"])
