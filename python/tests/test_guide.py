@@ -70,7 +70,7 @@ class Guide(Case):
                 with self.subTest(title):
                     self.run_section(blocks)
                     done += 1
-        self.assertEqual(done, 5)
+        self.assertEqual(done, 6)
 
 
 if __name__ == "__main__":
