@@ -86,7 +86,7 @@ class Guide(Case):
                 with self.subTest(title):
                     self.run_section(blocks)
                     done += 1
-        self.assertEqual(done, 6)
+        self.assertEqual(done, 7)
 
 
 if __name__ == "__main__":
