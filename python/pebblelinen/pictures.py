@@ -35,6 +35,7 @@ ENDINGS = "png", "svg", "pdf"
 # print in grey. Their numbers share no factor, so that 30 curves have a pair each.
 _COLOURS = "#0072B2", "#D55E00", "#009E73", "#CC79A7", "#000000"
 _STYLES = "-", "--", "-.", ":", (0, (8, 2)), (0, (4, 1, 1, 1, 1, 1))
+_MARKS = "x", "+", "^", "v", "s", "D"
 _GREY = "#555555"
 
 # Names are shown as they are, dollars and underlines too; letters in an SVG stay letters; and the same curves
@@ -251,7 +252,7 @@ def _draw_held(matplotlib: Any, axes: Any, pairs: list[tuple[str, Result]], styl
     for (name, result), style in zip(pairs, styles):
         steps = curve_of(result).steps
         axes.plot(steps.time, steps.held, label=name, linewidth=1.4, **style)
-        most = max(most, *steps.held.tolist())
+        most = max([most, *steps.held.tolist()])
     axes.set_ylim(0, 1.12 * most)
     axes.yaxis.set_major_locator(matplotlib.ticker.MaxNLocator(nbins=4, integer=True))
     axes.yaxis.set_major_formatter(matplotlib.ticker.StrMethodFormatter("{x:,.0f}"))
@@ -262,11 +263,11 @@ def _draw_lost(
     matplotlib: Any, axes: Any, pairs: list[tuple[str, Result]], styles: list[dict[str, Any]], common: Any
 ) -> None:
     unknown = total = 0
-    for (name, result), style in zip(pairs, styles):
+    for i, ((name, result), style) in enumerate(zip(pairs, styles)):
         steps = curve_of(result).steps
         leaked = leaked_in_steps(curve_of(result))
         axes.plot(steps.time, _positive(leaked), label=f"{name}: leaked", linewidth=1.4, **style)
-        marks = {"linestyle": "", "marker": "x", "markersize": 4}
+        marks = {"linestyle": "", "marker": _MARKS[i % len(_MARKS)], "markersize": 4, "markerfacecolor": "none"}
         axes.plot(steps.time, _positive(steps.dropped_sum), color=style["color"], label=f"{name}: dropped", **marks)
         unknown += int(np.isnan(leaked).sum())
         total += len(leaked)
@@ -289,7 +290,7 @@ def _draw_lost(
         matplotlib.lines.Line2D([], [], color=common, linewidth=1.4),
         matplotlib.lines.Line2D([], [], color=common, linestyle="", marker="x", markersize=4),
     ]
-    labels = [f"leaked: rate times step{not_known}", "dropped by prune and cap"]
+    labels = [f"leaked: rate times step{not_known}", f"dropped by prune and cap{' (marks)' * (len(pairs) > 1)}"]
     axes.legend(handles, labels, ncol=2, **_ABOVE)
 
 

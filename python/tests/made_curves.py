@@ -62,8 +62,8 @@ def checked(name="Z1", rate=0.1, *, exact=True, ok=True, **more):
     by_step, by_room = 0.01 * main.times, 0.003 * main.times**2
     return Checked(
         curve=main,
-        half_step=curve(name, rate, unknown=10, values=main.values + by_step),
-        double_room=curve(name, rate, unknown=0),
+        half_step=curve(name, rate, unknown=10, values=main.values + by_step, words=main.words),
+        double_room=curve(name, rate, unknown=0, words=main.words),
         moved_by_step=by_step,
         moved_by_room=by_room,
         exact=main.values + by_step / 3 if exact else None,

