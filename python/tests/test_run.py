@@ -286,6 +286,35 @@ class ByHand(unittest.TestCase):
         self.assertTrue(known.any() and not known.all())
         np.testing.assert_array_equal(curve.steps.leak_sum_after[known], asked.steps.leak_sum_after[known])
 
+    def test_all_that_leaks_counts(self):
+        """Below what is admitted, and onto protected words that are not in the basis, which leakage leaves out."""
+        model = Model(2, {"Z0": 0.5, "Z1": 2.0**-42})
+        for asked, before in [
+            ({"protected": ["Y0 X1", "X0 Y1"]}, [1.0, 2.0**-41]),
+            ({"tau_add": 10.0}, [1.0, 2.0**-41]),
+            ({}, [2.0**-41]),
+        ]:
+            steps = model.run(Basis(2, {"X0 X1": 1.0}), times=[1e-3], max_basis=16, **asked).steps
+            self.assertEqual(steps.leak_sum_before[0], sum(before), asked)
+            self.assertEqual(steps.leak_root_before[0], math.hypot(*before), asked)
+
+    def test_products(self):
+        """Of every evolution, those of further admissions too."""
+        made = []
+        kept = Model.evolve
+
+        def evolve(model, *arguments, **named):
+            evolved = kept(model, *arguments, **named)
+            made.append(evolved.products)
+            return evolved
+
+        for admissions in 1, 3:
+            made.clear()
+            with mock.patch.object(Model, "evolve", evolve):
+                curve = CHAIN.run(Z2, times=[0.2], dt=0.1, max_basis=4096, admissions=admissions)
+            self.assertEqual(curve.steps.products.sum(), sum(made))
+            self.assertEqual(len(made), 2 * (admissions + 1))
+
     def test_admissions(self):
         """One more brings words in that are one move further away, and costs products."""
         held = [CHAIN.run(Z2, times=[0.01], max_basis=4096, admissions=k).steps for k in (1, 2, 3, 4)]
@@ -335,6 +364,8 @@ class Plans(unittest.TestCase):
             ([1.0], 7.0, [1.0]),
             ([0.1, 0.2, 0.30000000000000004, 0.4], 0.1, [0.1] * 4),
             ([0.3], 0.1, [0.1] * 3),
+            # 0.18 + (0.91 - 0.18) is not 0.91.
+            ([0.18, 0.91], None, [0.18, 0.73]),
         ]:
             found = plan.planned(times, dt)
             np.testing.assert_allclose(found.lengths, lengths, rtol=1e-12)
@@ -477,6 +508,21 @@ class Stopped(unittest.TestCase):
             self.assertTrue(same(resume(self.path), self.whole))
         # One evolution in a step that brings no further words, two in others.
         self.assertGreater(after, 5)
+
+    def test_interrupted_while_looking(self):
+        """A step counts when its values are noted."""
+        kept, calls = run.ProductState.expectation, []
+
+        def expectation(state, *arguments):
+            calls.append(1)
+            if len(calls) == 2:
+                raise KeyboardInterrupt
+            return kept(state, *arguments)
+
+        with mock.patch.object(run.ProductState, "expectation", expectation):
+            curve = CHAIN.run(Z2, **ASKED, checkpoint=self.path)
+        self.assertEqual((len(curve.steps.time), curve.values.tolist()), (1, self.whole.values[:1].tolist()))
+        self.assertTrue(same(resume(self.path), self.whole))
 
     def test_step_by_step(self):
         """Each step in a run of its own."""
