@@ -3,12 +3,19 @@
 """What the commands that have curves do with them besides printing: pictures and result files."""
 import argparse
 import os
-from collections.abc import Iterator, Mapping, Sequence
-from typing import Any, TypeVar
+import sys
+from collections.abc import Callable, Iterator, Mapping, Sequence
+from typing import TypeVar
 
 from . import pictures, results
 from ._curves import Result
-from .errors import InputError
+from .errors import InputError, PebblelinenError
+
+# What a file gave: its path, and results by their names.
+Found = tuple[str, Mapping[str, Result]]
+
+# The exit status where a file was not written: that of bad usage.
+NOT_WRITTEN = 2
 
 _SomeResult = TypeVar("_SomeResult", bound=Result)
 
@@ -54,26 +61,28 @@ def once(paths: Sequence[str]) -> Sequence[str]:
     return paths
 
 
-def write(options: argparse.Namespace, named: Mapping[str, Result]) -> None:
-    """Writes all that was asked for. What was computed is stored, and what was stored before is drawn beside it."""
+def write(options: argparse.Namespace, found: Sequence[Found]) -> None:
+    """Writes all that was asked for: what was computed is stored, and what was stored before is drawn beside it. A file
+    that cannot be written is told, and is no reason to lose what was computed."""
+    stored = [(path, results.load_named(path)) for path in _beside(options)]
     for path in options.out:
-        results.save(path, named)
-    if options.plot:
-        drawn = _with_stored(options, named)
-        for path in options.plot:
-            pictures.plot(drawn, path)
+        _try(options, path, lambda: results.save(path, labelled(found)))
+    for path in options.plot:
+        _try(options, path, lambda: pictures.plot(labelled([*found, *stored]), path))
 
 
-def _with_stored(options: argparse.Namespace, named: Mapping[str, Result]) -> Mapping[str, Result]:
-    if not _beside(options):
-        return named
-    # Each name is made anew: that of a file in front of it tells its curves from the stored ones.
-    now = [(_label(options.files), named)]
-    return labelled([*now, *((path, results.load_named(path)) for path in options.beside)])
+def _try(options: argparse.Namespace, path: str, make: Callable[[], object]) -> None:
+    try:
+        make()
+    except PebblelinenError as error:
+        print(f"pebblelinen: {error}", file=sys.stderr)
+        options.failed = [*_failed(options), path]
+        options.status = NOT_WRITTEN
 
 
-def _label(files: Sequence[str]) -> str:
-    return files[0] if len(files) == 1 else "now"
+def _failed(options: argparse.Namespace) -> list[str]:
+    failed: list[str] = getattr(options, "failed", [])
+    return failed
 
 
 def _beside(options: argparse.Namespace) -> Sequence[str]:
@@ -83,16 +92,16 @@ def _beside(options: argparse.Namespace) -> Sequence[str]:
 
 def lines(options: argparse.Namespace) -> Iterator[str]:
     """What was written, for people."""
-    for path in options.out:
-        yield f"written to {path}"
-    for path in options.plot:
-        yield f"drawn in {path}"
+    for name, paths in answer(options).items():
+        for path in paths:
+            yield f"written to {path}" if name == "out" else f"drawn in {path}"
 
 
-def answer(options: argparse.Namespace) -> dict[str, Any]:
+def answer(options: argparse.Namespace) -> dict[str, list[str]]:
     """What was written, for programs."""
     named = {"out": options.out, "plot": options.plot}
-    return {name: paths for name, paths in named.items() if paths}
+    written = {name: [path for path in paths if path not in _failed(options)] for name, paths in named.items()}
+    return {name: paths for name, paths in written.items() if paths}
 
 
 def labelled(files: Sequence[tuple[str, Mapping[str, _SomeResult]]]) -> dict[str, _SomeResult]:

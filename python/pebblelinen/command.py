@@ -470,7 +470,7 @@ def _demo(options: argparse.Namespace) -> Answers:
 
     def decay() -> Checked:
         checked = demo.decay(model)
-        _output.write(options, {checked.curve.name: checked})
+        _output.write(options, [("demo", {checked.curve.name: checked})])
         return checked
 
     def answer() -> dict[str, Any]:

@@ -34,8 +34,9 @@ def _plot(options: argparse.Namespace) -> Answers:
     if not options.plot and not options.out:
         raise InputError("say where to draw: --plot FILE, with .png, .svg or .pdf at its end")
     _output.look_ahead(options)
-    named = _output.labelled([(path, results.load_named(path)) for path in _output.once(options.files)])
-    _output.write(options, named)
+    found = [(path, results.load_named(path)) for path in _output.once(options.files)]
+    named = _output.labelled(found)
+    _output.write(options, found)
 
     def answer() -> dict[str, Any]:
         found = [

@@ -186,12 +186,12 @@ def _run(options: argparse.Namespace) -> Answers:
                 options.status = INTERRUPTED
                 print("pebblelinen: interrupted: this is the curve so far", file=sys.stderr)
                 break
-    named = _output.labelled([(path, {curve.name: curve for curve in found}) for path, found in curves.items()])
-    _output.write(options, named)
+    found = [(path, {curve.name: curve for curve in each}) for path, each in curves.items()]
+    _output.write(options, found)
 
     def answer() -> dict[str, Any]:
-        found = [_named(each, options, curves=list(map(_curve_answer, curves[each.path]))) for each in asked]
-        return {**(found[0] if len(found) == 1 else {"files": found}), **_output.answer(options)}
+        told = [_named(each, options, curves=list(map(_curve_answer, curves[each.path]))) for each in asked]
+        return {**(told[0] if len(told) == 1 else {"files": told}), **_output.answer(options)}
 
     def lines() -> Iterator[str]:
         for each in asked:
@@ -202,7 +202,7 @@ def _run(options: argparse.Namespace) -> Answers:
         yield from _output.lines(options)
 
     def rows() -> Rows:
-        yield from _curve_rows(named)
+        yield from _curve_rows(_output.labelled(found))
 
     return answer, lines, rows
 
@@ -219,18 +219,18 @@ def _check(options: argparse.Namespace) -> Answers:
                 checks[each.path].append(one)
         except KeyboardInterrupt:
             raise InputError("interrupted: there is no answer yet") from None
-    named = _output.labelled([(path, {one.curve.name: one for one in found}) for path, found in checks.items()])
-    _output.write(options, named)
-    if not all(one.ok for one in named.values()):
+    found = [(path, {one.curve.name: one for one in each}) for path, each in checks.items()]
+    all_hold = all(one.ok for each in checks.values() for one in each)
+    if not all_hold:
         options.status = NOT_HELD
+    _output.write(options, found)
 
     def answer() -> dict[str, Any]:
-        found = []
+        told = []
         for each in asked:
             ok = all(one.ok for one in checks[each.path])
-            found.append(_named(each, options, ok=ok, checks=list(map(check_answer, checks[each.path]))))
-        several = {"ok": all(one.ok for one in named.values()), "files": found}
-        return {**(found[0] if len(found) == 1 else several), **_output.answer(options)}
+            told.append(_named(each, options, ok=ok, checks=list(map(check_answer, checks[each.path]))))
+        return {**(told[0] if len(told) == 1 else {"ok": all_hold, "files": told}), **_output.answer(options)}
 
     def lines() -> Iterator[str]:
         for each in asked:
@@ -242,7 +242,7 @@ def _check(options: argparse.Namespace) -> Answers:
 
     def rows() -> Rows:
         yield "observable", "time", "value", "moved_by_step", "moved_by_room", "exact", "ok"
-        for label, one in named.items():
+        for label, one in _output.labelled(found).items():
             exact = [""] * len(one.curve.times) if one.exact is None else map(repr, one.exact.tolist())
             columns = one.curve.times, one.curve.values, one.moved_by_step, one.moved_by_room
             for *numbers, x in zip(*(column.tolist() for column in columns), exact):

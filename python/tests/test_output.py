@@ -116,6 +116,21 @@ class Commands(Case):
             self.assertEqual((name, stored), (("after", "new") if name == "after" else ("old", "old")))
             np.testing.assert_array_equal(now, then)
 
+        _, (figure,) = self.drawn("run", "after.toml", "before.toml", *ONE, "--beside", "old.h5", "--plot", "three.png")
+        self.assertEqual(list(self.lines(figure)), ["after", "before", "old"])
+        # Names that would be the same are those of the files.
+        Path("old.h5").rename("after.h5")
+        _, (figure,) = self.drawn("run", "after.toml", *ONE, "--beside", "after.h5", "--plot", "both.png")
+        self.assertEqual(list(self.lines(figure)), ["after.toml", "after.h5"])
+
+    def test_a_file_that_cannot_be_written_in_the_end(self):
+        Path("folder.h5").mkdir()
+        status, out, error = self.run_command("run", "before.toml", "--out", "folder.h5", "--out", "one.csv")
+        self.assertEqual((status, error), (2, "pebblelinen: folder.h5: this is no file, and cannot be written as one\n"))
+        self.assertIn("site: 5 times", out)
+        self.assertTrue(out.endswith("written to one.csv\n"))
+        self.assertNotIn("folder", out)
+
     def test_plot(self):
         self.answered("check", "before.toml", "--out", "old.h5")
         out, (figure,) = self.drawn("plot", "old.h5", "--plot", "old.png", "--out", "old.csv")

@@ -134,6 +134,10 @@ class Drawn(unittest.TestCase):
 
     def test_one_time_and_a_flat_curve(self):
         self.assertTrue(pictures.picture_bytes(made_curves.curve(count=1, unknown=0)))
+        # A run that was stopped before its first time has none.
+        none = np.zeros(0)
+        stopped = made_curves.curve(times=none, values=none, words={"Z1": none}, finished=False)
+        self.assertTrue(pictures.picture_bytes(stopped))
         for value in 0.0, -2.0:
             curve = made_curves.curve(values=np.full(11, value))
             least, most = pictures.plot(curve).axes[0].get_ylim()

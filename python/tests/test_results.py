@@ -85,9 +85,13 @@ class Hdf5(Case):
         self.assertEqual((self.folder / "again.h5").read_bytes(), self.path.read_bytes())
 
     def test_a_curve_without_words_or_steps(self):
-        curve = made_curves.curve(count=1, unknown=0, words={})
-        results.save(self.path, curve)
-        self.same_curve(results.load(self.path)[0], curve)
+        none = np.zeros(0)
+        for curve in (
+            made_curves.curve(count=1, unknown=0, words={}),
+            made_curves.curve(times=none, values=none, words={"Z1": none}, finished=False),
+        ):
+            results.save(self.path, curve)
+            self.same_curve(results.load(self.path)[0], curve)
 
     def test_every_array_has_units(self):
         results.save(self.path, made_curves.checked())
