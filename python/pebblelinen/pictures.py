@@ -10,13 +10,12 @@ where there are any and one curve is drawn, the words held, and what was lost.
 
 They are drawn by matplotlib, which is imported only where a picture is asked for; pyplot and its figures are left
 alone."""
-import base64
-import html
 import io
 import math
 import os
 import textwrap
 from collections.abc import Iterable
+from functools import partial
 from typing import Any
 
 import numpy as np
@@ -78,7 +77,7 @@ def plot(results: Results, path: str | os.PathLike[str] | None = None, *, figure
         drawn = _new(matplotlib, _followed(pairs)) if figure is None else figure
         _draw(matplotlib, drawn, pairs)
     if path is not None and form is not None:
-        write_whole(path, _rendered(matplotlib, drawn, form))
+        write_whole(path, _rendered(drawn, form))
     return drawn
 
 
@@ -86,23 +85,15 @@ def picture_bytes(results: Results, form: str = "png") -> bytes:
     """The picture as the bytes of a file: png, svg or pdf."""
     if form not in ENDINGS:
         raise InputError(f"{form!r} is no kind of picture: {', '.join(ENDINGS[:-1])} or {ENDINGS[-1]} is needed")
-    return _rendered(load(), plot(results), form)
+    return _rendered(plot(results), form)
 
 
-def shown_png(result: Result) -> bytes | None:
-    """The picture that a result shows in IPython, and nothing where there is no matplotlib."""
+def shown_png(result: Any) -> bytes | None:
+    """The picture that a result shows in Jupyter, and nothing where there is no matplotlib."""
     try:
         return picture_bytes(result)
     except LibraryMissing:
         return None
-
-
-def shown_html(result: Result) -> str:
-    """The same as HTML, which Jupyter takes before a picture."""
-    png = shown_png(result)
-    if png is None:
-        return ""
-    return f'<img alt="{html.escape(repr(result))}" src="data:image/png;base64,{base64.b64encode(png).decode()}"/>'
 
 
 def ending(path: str | os.PathLike[str]) -> str:
@@ -123,13 +114,13 @@ def load() -> Any:
 def _new(matplotlib: Any, followed: bool) -> Any:
     figure = matplotlib.figure.Figure(figsize=(7.0, 8.4 if followed else 6.4), layout="constrained")
     # IPython shows figures of pyplot only, but for this.
-    figure._repr_png_ = lambda: _rendered(matplotlib, figure, "png")
+    figure._repr_png_ = partial(_rendered, figure, "png")
     return figure
 
 
-def _rendered(matplotlib: Any, figure: Any, form: str) -> bytes:
+def _rendered(figure: Any, form: str) -> bytes:
     made = io.BytesIO()
-    with matplotlib.rc_context(_WRITTEN):
+    with load().rc_context(_WRITTEN):
         figure.savefig(made, format=form, dpi=100, metadata=_ABOUT[form])
     return made.getvalue()
 

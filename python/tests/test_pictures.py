@@ -215,9 +215,12 @@ class Files(unittest.TestCase):
     def test_in_jupyter(self):
         self.assertTrue(pictures.plot(made_curves.curve(words={}))._repr_png_().startswith(b"\x89PNG"))
         for result in made_curves.curve(words={}), made_curves.checked(words={}):
-            png = result._repr_png_()
+            bundle = result._repr_mimebundle_()
+            self.assertEqual(set(bundle), {"image/png", "text/html"})
+            png = base64.b64decode(bundle["image/png"])
+            self.assertEqual(png, result._repr_png_())
             # Of HTML and a picture, Jupyter shows the first: it has both, and a table.
-            root = xml.etree.ElementTree.fromstring(f"<div>{result._repr_html_()}</div>")
+            root = xml.etree.ElementTree.fromstring(f"<div>{bundle['text/html']}</div>")
             kind, _, data = root.find("img").get("src").partition(",")
             self.assertEqual((kind, base64.b64decode(data)), ("data:image/png;base64", png))
             self.assertEqual(root.find("img").get("alt"), repr(result))
@@ -234,6 +237,7 @@ class WithoutMatplotlib(unittest.TestCase):
             with self.assertRaisesRegex(LibraryMissing, said):
                 pictures.plot(made_curves.curve(), "never.png")
             self.assertIsNone(made_curves.curve()._repr_png_())
+            self.assertEqual(made_curves.curve()._repr_mimebundle_(), {})
             self.assertTrue(made_curves.curve()._repr_html_().startswith("<p>"))
 
 
