@@ -4,11 +4,12 @@
 grows around one observable."""
 import time
 from collections.abc import Iterator
-from typing import NamedTuple
+from typing import Any, NamedTuple
 
 from . import modelfile
 from .basis import Basis
 from .model import Model
+from .state import AnyState
 
 QUBITS = 256
 SITE = 128
@@ -36,10 +37,21 @@ def chain(n: int = QUBITS) -> Model:
     return Model(n, *items(n))
 
 
+# A run of the chain whose curve holds: the qubit in the middle starts in 0, and all others fully mixed.
+STATE: AnyState = {"all": [0.0, 0.0, 0.0], SITE: "0"}
+RUN: dict[str, Any] = {
+    "times": [i / 10 for i in range(11)],
+    "dt": 0.05,
+    "max_basis": 2000,
+    "drop_tol": 1e-5,
+    "admissions": 2,
+}
+
+
 def as_file() -> str:
-    """The chain as a model file."""
+    """The chain as a model file, with a run."""
     about = f"# A chain of {QUBITS} qubits with couplings, fields, decay and dephasing.\n"
-    return about + modelfile.text_of(chain(), Basis(QUBITS, {OBSERVABLE: 1.0}))
+    return about + modelfile.text_of(chain(), Basis(QUBITS, {OBSERVABLE: 1.0}), run=RUN, state=STATE)
 
 
 class Round(NamedTuple):
