@@ -29,8 +29,6 @@ def text_of(
     fixed = [_word_text(words.Word(word, n=n)) for word in protected]
     if fixed:
         lines.append(f"protected = [{', '.join(fixed)}]")
-    if state is not None:
-        lines.append(f"state = {_plain(ProductState(n, state).plain())}")
     named = {"hamiltonian": list(model.hamiltonian), "basis": _entries(basis, n)}
     # Lists stand before all tables.
     lines += [f"{name} = {_pairs_text(items)}" for name, items in named.items() if _twice(items)]
@@ -44,6 +42,9 @@ def text_of(
     if observables:
         lines += ["", "[observables]"]
         lines += [f"{_text(name)} = {_operator_text(_entries(each, n))}" for name, each in observables.items()]
+    if state is not None:
+        each = ProductState(n, state).exceptions()
+        lines += ["", "[state]", *(f"{key} = {_plain(x)}" for key, x in each.items())]
     if run:
         lines += ["", "[run]", *(f"{key} = {_plain(x)}" for key, x in run.items())]
     return "\n".join([*lines, ""])

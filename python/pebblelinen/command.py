@@ -149,8 +149,8 @@ def _parser() -> argparse.ArgumentParser:
         "Shows what the library does on a chain of 256 qubits with couplings, fields, decay and\n"
         "dephasing: the action on an observable; rounds in which the words that leak out of a basis are\n"
         "admitted to it and its coefficients are evolved by a time step; at the end the norm and degree of\n"
-        "the generator. With --plot or --out it goes on to a curve, the expectation of the observable where one\n"
-        "qubit starts in 1, and to what `check` says of it.",
+        "the generator. With --plot or --out it goes on to a curve, the expectation of the observable, and to what\n"
+        "`check` says of it.",
         file=False,
     )
     made.add_argument("--rounds", type=int, default=6, metavar="R", help="rounds (default 6)")
@@ -526,10 +526,10 @@ def _demo(options: argparse.Namespace) -> Answers:
 
 def _decay_lines(options: argparse.Namespace, decay: Callable[[], Checked]) -> Iterator[str]:
     """The curve of the demonstration, for people: not at all of its times."""
-    yield f"the expectation of {demo.OBSERVABLE} where qubit {demo.SITE} starts in 1, with {demo.ROOM} words:"
+    yield f"the expectation of {demo.OBSERVABLE}, where qubit {demo.SITE} starts in 0 and all others fully mixed:"
     checked = decay()
     columns = checked.curve.times, checked.curve.values, checked.half_step.values, checked.double_room.values
-    rows = [(f"{time:g}", *(f"{x:.6f}" for x in row)) for time, *row in zip(*(each[::5].tolist() for each in columns))]
+    rows = [(f"{time:g}", *(f"{x:.6f}" for x in row)) for time, *row in zip(*(each[::4].tolist() for each in columns))]
     yield from aligned([("time", "value", "half the step", "twice the room"), *rows])
     yield checked.says
     yield from _output.lines(options)

@@ -1,45 +1,26 @@
 # SPDX-FileCopyrightText: 2026 The PPVM Authors
 # SPDX-License-Identifier: Apache-2.0
 """A device to look at: a chain of qubits with couplings, fields, decay and dephasing, a basis that grows around one
-observable, and the curve of that observable where one qubit starts in 1."""
+observable, and the curve of that observable."""
 import time
 from collections.abc import Iterator
-from typing import NamedTuple
+from typing import Any, NamedTuple
 
 from . import modelfile
 from .basis import Basis
 from .check import Checked
 from .model import Model
+from .state import AnyState
 
 QUBITS = 256
 SITE = 128
 OBSERVABLE = f"Z{SITE}"
-
-# Of the curve: up to which time, at how many times, how many words, also until the end of a step, where better ones find
-# room, and by how much it may move.
-LAST_TIME = 1.0
-TIMES = 25
-ROOM = 2000
-ROOM_WITHIN = 4000
-TOLERANCE = 0.02
 
 _ABOUT = f"""\
 # SPDX-FileCopyrightText: 2026 The PPVM Authors
 # SPDX-License-Identifier: Apache-2.0
 #
 # A chain of {QUBITS} qubits with couplings, fields, decay and dephasing.
-"""
-
-_RUN = f"""
-[state]                     # qubit {SITE} starts in 1
-all = "0"
-{SITE} = "1"
-
-[run]
-times = {{ to = {LAST_TIME}, count = {TIMES} }}
-max_basis = {ROOM}
-admit_basis = {ROOM_WITHIN}
-tolerance = {TOLERANCE}
 """
 
 
@@ -64,21 +45,25 @@ def chain(n: int = QUBITS) -> Model:
     return Model(n, *items(n))
 
 
+# A run of the chain whose curve holds: the qubit in the middle starts in 0, and all others fully mixed.
+STATE: AnyState = {"all": [0.0, 0.0, 0.0], SITE: "0"}
+RUN: dict[str, Any] = {
+    "times": [i / 20 for i in range(21)],
+    "dt": 0.05,
+    "max_basis": 2000,
+    "drop_tol": 1e-5,
+    "admissions": 2,
+}
+
+
 def as_file() -> str:
-    """The chain as a model file, with what the curve is to be."""
-    return _ABOUT + modelfile.text_of(chain(), Basis(QUBITS, {OBSERVABLE: 1.0})) + _RUN
+    """The chain as a model file, with a run."""
+    return _ABOUT + modelfile.text_of(chain(), Basis(QUBITS, {OBSERVABLE: 1.0}), run=RUN, state=STATE)
 
 
 def decay(model: Model) -> Checked:
-    """The curve of the file, and whether it holds: `check` of the file gives the same."""
-    return model.check(
-        Basis(QUBITS, {OBSERVABLE: 1.0}),
-        state={SITE: "1"},
-        times={"to": LAST_TIME, "count": TIMES},
-        max_basis=ROOM,
-        admit_basis=ROOM_WITHIN,
-        tolerance=TOLERANCE,
-    )
+    """The curve of that run, and whether it holds: `check` of the file gives the same."""
+    return model.check(Basis(QUBITS, {OBSERVABLE: 1.0}), state=STATE, **RUN)
 
 
 class Round(NamedTuple):

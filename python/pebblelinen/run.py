@@ -206,7 +206,8 @@ class Run:
 
     def _leak(self, basis: Basis) -> tuple[float, float]:
         """The two norms of all that leaks out of a basis, protected or not, where they can be known."""
-        if not self.settings.losses:
+        # A basis without room for any word more is not asked: its list would be empty, and known not to be whole.
+        if not self.settings.losses or len(basis) >= MAX_WORDS:
             return math.nan, math.nan
         try:
             leaked = self.model.leakage(basis, max_basis=MAX_WORDS, tau_add=0.0)

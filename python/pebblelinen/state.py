@@ -13,6 +13,7 @@ for each qubit; or a mapping with exceptions by qubit: {"all": "0", 3: "+", 5: [
 out if it is "0".
 """
 import math
+from collections import Counter
 from collections.abc import Mapping, Sequence
 from typing import Any, Union
 
@@ -60,11 +61,20 @@ class ProductState(Sealed):
     def plain(self) -> str | list[list[float]]:
         """The state as plain values, in which it can be given: a letter for each qubit, or where that cannot be, a Bloch
         vector for each."""
-        letters = {vector: label for label, vector in _named().items()}
+        letters = {vector: label for label, vector in _named(*_AXES).items()}
         found = [letters.get(tuple(vector)) for vector in self.vectors.tolist()]
         if all(found) and found:
             return "".join(letter or "" for letter in found)
         return self.vectors.tolist() if found else "0"
+
+    def exceptions(self) -> dict[str, str | list[float]]:
+        """The state as what most qubits have, under "all", and what the others have, by their numbers."""
+        labels = {vector: label for label, vector in _named("0", "1", "+", "-", "+i", "-i").items()}
+        each = [labels.get(tuple(vector), vector) for vector in self.vectors.tolist()]
+        vectors = list(map(tuple, self.vectors.tolist()))
+        most = vectors.index(Counter(vectors).most_common(1)[0][0]) if vectors else 0
+        others = {str(q): x for q, x in enumerate(each) if x != each[most]}
+        return {"all": each[most] if each else "0", **others}
 
     def expectation(self, words: LaneTable, values: NumberTable) -> float:
         """The expectation of words with their values: the sum of each value times the components of the word's letters.
@@ -107,9 +117,9 @@ def _mask(chosen: NDArray[np.bool_]) -> LaneTable:
     return np.array(split(sum(1 << qubit for qubit in np.flatnonzero(chosen).tolist())), np.uint64)
 
 
-def _named() -> dict[str, tuple[float, ...]]:
-    """The vectors of the letters."""
-    return {label: tuple(sign * (axis == place) + 0.0 for place in range(3)) for label, (axis, sign) in _AXES.items()}
+def _named(*labels: str) -> dict[str, tuple[float, ...]]:
+    """The vectors of some labels."""
+    return {label: tuple(_vector(label, "", ())) for label in labels}
 
 
 def _vectors(n: int, given: Any, path: ItemPath) -> NumberTable:

@@ -115,6 +115,14 @@ class Run(Case):
         self.assertEqual(curve["name"], "X0")
         self.assertAlmostEqual(curve["values"][0], np.cos(1.0), delta=1e-14)
 
+    def test_the_demonstration(self):
+        """Its model file says a run, as the command's help has it."""
+        self.write(self.answered("demo", "--model"))
+        (curve,) = self.json("run", self.path, "--times", "0", "0.1")["curves"]
+        self.assertEqual((curve["name"], curve["values"][0]), ("Z128", 1.0))
+        self.assertEqual(load(self.path).run, demo.RUN)
+        self.assertEqual(load(self.path).state, ProductState(256, demo.STATE))
+
     def test_checkpoints(self):
         place = Path(self.path).with_name("run.npz")
         whole = self.answered("run", self.path, "--observable", "site", "--json")

@@ -97,9 +97,11 @@ class Ways(unittest.TestCase):
             self.assertEqual(found, -1 if "-" in letter else 1)
 
     def test_plain_values_give_it_back(self):
-        for n, given in [(3, "0"), (2, "+l"), (2, {0: [0.1, 0.2, 0.3]}), (0, "0"), (1, "-i")]:
+        for n, given in [(3, "0"), (2, "+l"), (2, {0: [0.1, 0.2, 0.3]}), (0, "0"), (1, "-i"), (3, {1: [-0.0, 0, 1]})]:
             state = ProductState(n, given)
             self.assertEqual(ProductState(n, state.plain()), state)
+            self.assertEqual(ProductState(n, state.exceptions()), state)
+        self.assertEqual(ProductState(4, {"all": [0, 0, 0.5], 2: "+i"}).exceptions(), {"all": [0, 0, 0.5], "2": "+i"})
         self.assertEqual(ProductState(3, {1: "+i"}).plain(), "0r0")
 
     def test_what_is_no_state(self):
