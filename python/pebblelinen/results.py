@@ -17,7 +17,7 @@ import csv
 import io
 import json
 import os
-from collections.abc import Mapping, Sequence
+from collections.abc import Mapping
 from typing import Any
 
 import numpy as np
@@ -181,21 +181,25 @@ def _put(group: Any, name: str, array: NDArray[Any], unit: str) -> None:
 
 
 def _put_setting(h5py: Any, group: Any, name: str, value: Any) -> None:
-    """A plain value, as others can read it: a number, a text, a list of numbers; nothing; or else as JSON."""
-    value = value.tolist() if isinstance(value, (np.ndarray, np.generic)) else value
+    """A plain value, as others can read it. What there is not is empty."""
     if value is None:
         made = group.create_dataset(name, data=h5py.Empty(np.float64))
-    elif isinstance(value, str):
-        made = group.create_dataset(name, data=value, dtype=h5py.string_dtype())
-    elif isinstance(value, (bool, int, float)):
-        made = group.create_dataset(name, data=value)
-    elif isinstance(value, Sequence) and value and all(type(x) is float for x in value):
-        made = group.create_dataset(name, data=np.array(value))
     else:
-        made = group.create_dataset(name, data=json.dumps(value), dtype=h5py.string_dtype())
-        made.attrs["json"] = True
+        stored = _storable(value)
+        made = group.create_dataset(name, data=stored, dtype=h5py.string_dtype() if isinstance(stored, str) else None)
+        if type(stored) is not type(value):
+            made.attrs["json"] = True
     if name in _SETTING_UNITS:
         made.attrs["units"] = _SETTING_UNITS[name]
+
+
+def _storable(value: Any) -> str | bool | int | float | list[float]:
+    """A value that is none of these as a text, in JSON."""
+    if isinstance(value, (str, bool, int, float)):
+        return value
+    if isinstance(value, list) and value and all(type(x) is float for x in value):
+        return value
+    return json.dumps(value)
 
 
 # ---- reading HDF5 ----
@@ -239,13 +243,14 @@ class _Opened:
 
     def __exit__(self, kind: object, error: object, _: object) -> None:
         self.file.close()
-        if isinstance(error, (KeyError, OSError, RuntimeError, TypeError, AttributeError)):
+        if isinstance(error, (KeyError, OSError, RuntimeError, TypeError, AttributeError, ValueError)):
             raise InputError(f"something is missing or damaged in this file: {error}", where=self.name) from None
 
 
 def _read(path: str | os.PathLike[str]) -> list[tuple[str, Result]]:
     with _Opened(path) as file:
-        groups = [file[str(place)] for place in range(len(file))]
+        # What others may have put beside the results is theirs.
+        groups = [file[place] for place in sorted(filter(str.isdecimal, file), key=int)]
         return [(group.attrs["label"], _result(group)) for group in groups]
 
 
@@ -269,7 +274,7 @@ def _checked(group: Any) -> Checked:
 
 def _curve(group: Any) -> Curve:
     basis = group["basis"]
-    return Curve(
+    curve = Curve(
         name=group.attrs["name"],
         finished=bool(group.attrs["finished"]),
         times=group["times"][()],
@@ -279,6 +284,10 @@ def _curve(group: Any) -> Curve:
         basis=Basis.from_arrays(int(basis.attrs["n"]), basis["words"][()], basis["coefficients"][()]),
         settings={key: _setting(made) for key, made in group["settings"].items()},
     )
+    by_time = {curve.times.shape, curve.values.shape, *(table.shape for table in curve.words.values())}
+    if len(by_time) > 1 or len({table.shape for table in curve.steps}) > 1:
+        raise InputError("arrays that belong together have other lengths")
+    return curve
 
 
 def _setting(made: Any) -> Any:
@@ -344,15 +353,17 @@ def as_dataset(result: Result) -> Any:
         "basis_words": (("position", "lane"), curve.basis.words, {"units": "bits"}),
         "basis_coefficients": ("position", curve.basis.coefficients, {"units": _NUMBER}),
     }
-    attributes = {"name": curve.name, "finished": curve.finished, **_flat(curve.settings)}
+    attributes = {"name": curve.name, "finished": int(curve.finished), **_attributes(curve.settings)}
     if is_checked(result):
         variables |= {key: ("time", getattr(result, key), {"units": _NUMBER}) for key in _CHECK_UNITS}
         if result.exact is not None:
             variables["exact"] = "time", result.exact, {"units": _NUMBER}
-        attributes |= {"tolerance": result.tolerance, "says": result.says, "ok": result.ok}
+        attributes |= {"tolerance": result.tolerance, "says": result.says, "ok": int(result.ok)}
     coordinates = {"time": ("time", curve.times, {"units": _TIME}), "word": ("word", np.array(list(curve.words), str))}
     return xarray.Dataset(variables, coordinates, attributes)
 
 
-def _flat(settings: Mapping[str, Any]) -> dict[str, Any]:
-    return {f"setting_{key}": value for key, value in settings.items()}
+def _attributes(settings: Mapping[str, Any]) -> dict[str, Any]:
+    """What a netCDF file can hold too: there is no truth value in it, and nothing for what there is not."""
+    stored = {f"setting_{key}": _storable(x) for key, x in settings.items() if x is not None}
+    return {key: int(x) if isinstance(x, bool) else x for key, x in stored.items()}

@@ -157,10 +157,24 @@ class Hdf5(Case):
                 del file[gone]
             with self.assertRaisesRegex(InputError, "missing or damaged"):
                 results.load(self.path)
+        for changed, value in ("0/values", [1.0]), ("0/steps/held", [1]), ("0/basis/words", [[1, 2]]), ("0/times", "a"):
+            results.save(self.path, made_curves.curve())
+            with h5py.File(self.path, "r+") as file:
+                del file[changed]
+                file[changed] = value
+            with self.assertRaisesRegex(InputError, "decay.h5: something is missing or damaged"):
+                results.load(self.path)
         results.save(self.path, made_curves.curve())
         self.path.write_bytes(self.path.read_bytes()[:-5000])
         with self.assertRaises(InputError):
             results.load(self.path)
+
+    def test_what_others_put_beside_it(self):
+        results.save(self.path, made_curves.curve())
+        with h5py.File(self.path, "r+") as file:
+            file["notes"] = "measured on Tuesday"
+            file["0/mine"] = [1, 2]
+        self.assertEqual(len(results.load(self.path)), 1)
 
     def test_nothing_is_written_on_an_error(self):
         self.path.write_bytes(b"before")
@@ -233,6 +247,11 @@ class Dataset(Case):
         self.assertEqual(dataset.time.units, "model unit of time")
         self.assertEqual(dataset.attrs["setting_model"], curve.settings["model"])
         self.assertEqual(dataset.attrs["says"], checked.says)
+        # A netCDF file could hold these.
+        for name, value in dataset.attrs.items():
+            self.assertIn(type(value), (str, int, float, list), name)
+        self.assertEqual((dataset.attrs["setting_observable"], dataset.attrs["ok"]), ('[["Z1", 1.0]]', 1))
+        self.assertNotIn("setting_admit_basis", dataset.attrs)
 
     def test_a_curve_as_it_was_computed(self):
         dataset = results.as_dataset(made_curves.curve(words={}))
