@@ -207,19 +207,21 @@ def _run(options: argparse.Namespace) -> Answers:
 def _check(options: argparse.Namespace) -> Answers:
     file, chosen, settings = _asked(options)
     tolerance = file.run.get("tolerance", 1e-3) if options.tolerance is None else options.tolerance
+    checks: list[Checked] = []
     with _interrupts(), _from_the_file(options.file):
         try:
-            checks = [
-                file.model.check(basis, name=name, tolerance=tolerance, **settings) for name, basis in chosen.items()
-            ]
+            for name, basis in chosen.items():
+                checks.append(file.model.check(basis, name=name, tolerance=tolerance, **settings))
         except KeyboardInterrupt:
-            raise InputError("interrupted: there is no answer yet") from None
+            options.status = INTERRUPTED
+            print("pebblelinen: interrupted: these are the checks so far", file=sys.stderr)
     further = _done_with_check(options, checks)
-    if not all(each.ok for each in checks):
-        options.status = NOT_HELD
+    ok = len(checks) == len(chosen) and all(each.ok for each in checks)
+    if not ok:
+        options.status = options.status or NOT_HELD
 
     def answer() -> dict[str, Any]:
-        return {"qubits": file.model.n, "ok": all(each.ok for each in checks), "checks": list(map(_check_answer, checks))}
+        return {"qubits": file.model.n, "ok": ok, "checks": list(map(_check_answer, checks))}
 
     def lines() -> Iterator[str]:
         yield str(file.model)

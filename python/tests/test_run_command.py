@@ -19,7 +19,7 @@ import numpy as np
 import pebblelinen
 import test_command
 import test_modelfile
-from pebblelinen import Basis, ProductState, demo, load, modelfile, save
+from pebblelinen import Basis, Model, ProductState, demo, load, modelfile, save
 
 FILE = """
 qubits = 3
@@ -234,10 +234,19 @@ class Check(Case):
         self.assertEqual(rows[2][:2] + rows[2][5:], ["site", "0.4", repr(answer["exact"][2]), "True"])
 
     def test_an_interrupt(self):
-        with mock.patch.object(pebblelinen.run.Run, "advance", side_effect=KeyboardInterrupt):
-            status, out, error = self.run_command("check", self.path)
-        self.assertEqual((status, out), (2, ""))
-        self.assertIn("interrupted: there is no answer yet", error)
+        kept, calls = Model.check, []
+
+        def check(model, *arguments, **named):
+            calls.append(1)
+            if len(calls) == 2:
+                raise KeyboardInterrupt
+            return kept(model, *arguments, **named)
+
+        with mock.patch.object(Model, "check", check):
+            status, out, error = self.run_command("check", self.path, "--json")
+        self.assertEqual((status, error), (130, "pebblelinen: interrupted: these are the checks so far\n"))
+        answer = json.loads(out)
+        self.assertEqual((answer["ok"], [each["name"] for each in answer["checks"]]), (False, ["site"]))
 
     def test_help(self):
         _, out, _ = self.run_command("--help")
