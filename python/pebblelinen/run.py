@@ -145,6 +145,11 @@ class Run:
         return self.done == self.steps
 
     @property
+    def observable(self) -> Basis:
+        """A copy of the basis that the run began with."""
+        return self._observable.copy()
+
+    @property
     def basis(self) -> Basis:
         """A copy of the basis after the steps that are done."""
         return self._now[1].copy()

@@ -17,9 +17,10 @@ from ._printing import SHOWN, Answers, Rows, aligned, loaded, loaded_with_basis,
 from ._progress import working
 from ._types import NumberTable
 from .basis import Basis
-from .check import Checked
+from .check import Checked, compared, prepared
 from .curve import Curve
 from .errors import InputError, Refusal
+from .run import Run, begun, settings_of, tolerance_of
 
 # Exit statuses of their own: a curve that does not hold, and a run that was interrupted.
 NOT_HELD = 3
@@ -178,10 +179,11 @@ def _run(options: argparse.Namespace) -> Answers:
     if options.no_losses:
         settings["losses"] = False
     curves: list[Curve] = []
-    with _interrupts(), _from_the_file(options.file):
-        for name, basis in chosen.items():
-            checkpoint = _checkpoint(options.checkpoint, name, len(chosen))
-            curves.append(file.model.run(basis, name=name, checkpoint=checkpoint, **settings))
+    with _interrupts():
+        with _from_the_file(options, file):
+            runs = [_begun(options, file, name, basis, settings, len(chosen)) for name, basis in chosen.items()]
+        for run, checkpoint in runs:
+            curves.append(run.go(checkpoint=checkpoint))
             if not curves[-1].finished:
                 options.status = INTERRUPTED
                 print("pebblelinen: interrupted: this is the curve so far", file=sys.stderr)
@@ -208,10 +210,15 @@ def _check(options: argparse.Namespace) -> Answers:
     file, chosen, settings = _asked(options)
     tolerance = file.run.get("tolerance", 1e-3) if options.tolerance is None else options.tolerance
     checks: list[Checked] = []
-    with _interrupts(), _from_the_file(options.file):
+    with _interrupts():
+        with _from_the_file(options, file):
+            tolerance, n = tolerance_of(tolerance), file.model.n
+            runs = [
+                prepared(file.model, basis, settings_of(n, name=name, **settings)) for name, basis in chosen.items()
+            ]
         try:
-            for name, basis in chosen.items():
-                checks.append(file.model.check(basis, name=name, tolerance=tolerance, **settings))
+            for each in runs:
+                checks.append(compared(each, tolerance=tolerance))
         except KeyboardInterrupt:
             options.status = INTERRUPTED
             print("pebblelinen: interrupted: these are the checks so far", file=sys.stderr)
@@ -277,13 +284,34 @@ def _checkpoint(path: str | None, name: str | None, count: int) -> str | None:
     return os.fspath(place.with_name(f"{place.stem}.{plain}{place.suffix}"))
 
 
+def _begun(
+    options: argparse.Namespace,
+    file: modelfile.ModelFile,
+    name: str | None,
+    basis: Basis,
+    settings: dict[str, Any],
+    count: int,
+) -> tuple[Run, str | None]:
+    """The run of one of so many observables, tested and with what its checkpoint has done, and that checkpoint. All of them
+    are made before any goes: what is wrong with the last is told before the first is computed."""
+    checkpoint = _checkpoint(options.checkpoint, name, count)
+    run = begun(file.model, basis, settings_of(file.model.n, name=name, **settings), checkpoint)
+    if checkpoint is not None:
+        run.save(checkpoint)
+    return run, checkpoint
+
+
 @contextmanager
-def _from_the_file(name: str) -> Iterator[None]:
-    """Errors inside are about what a file says, and name it."""
+def _from_the_file(options: argparse.Namespace, file: modelfile.ModelFile) -> Iterator[None]:
+    """Errors inside are about what a file says, and name it, and its key, if no option went before it."""
     try:
         yield
     except (InputError, Refusal) as error:
-        raise error if error.where else error.at(name) from None
+        if error.where:
+            raise
+        key = str(error.path[0]) if error.path else ""
+        from_the_file = key in file.run and getattr(options, key, None) is None
+        raise error.at(f"{options.file}: run.{key}" if from_the_file else options.file) from None
 
 
 @contextmanager
