@@ -64,6 +64,10 @@ def once(paths: Sequence[str]) -> Sequence[str]:
 def write(options: argparse.Namespace, found: Sequence[Found]) -> None:
     """Writes all that was asked for: what was computed is stored, and what was stored before is drawn beside it. A file
     that cannot be written is told, and is no reason to lose what was computed."""
+    if not any(each for _, each in found):
+        # A check that was interrupted has nothing to write.
+        options.failed = [*options.out, *options.plot]
+        return
     stored = [(path, results.load_named(path)) for path in _beside(options)]
     for path in options.out:
         _try(options, path, lambda: results.save(path, labelled(found)))

@@ -80,8 +80,8 @@ class Checked(Pictured, Sealed):
         yield Table(names, rows, len(self.curve.times))
 
 
-def checked(model: "Model", basis: Basis, settings: Settings, *, tolerance: float, progress: bool = True) -> Checked:
-    """Runs and compares. An interrupt ends it without an answer."""
+def prepared(model: "Model", basis: Basis, settings: Settings) -> list[Run]:
+    """The run, the one with each step in two halves, and the one with twice the room, each tested and not begun."""
     rules = settings.rules
     wider = rules._replace(
         max_basis=min(2 * rules.max_basis, MAX_WORDS),
@@ -89,15 +89,19 @@ def checked(model: "Model", basis: Basis, settings: Settings, *, tolerance: floa
     )
     # What the two others lose is not asked for.
     others = replace(settings, losses=False)
-    runs = [
+    return [
         Run(model, basis, settings),
         Run(model, basis, replace(others, split=2 * settings.split)),
         Run(model, basis, replace(others, rules=wider)),
     ]
+
+
+def compared(runs: list[Run], *, tolerance: float, progress: bool = True) -> Checked:
+    """Lets the three runs go and compares their curves. An interrupt ends it without an answer."""
     curve, half_step, double_room = (_to_the_end(run, progress) for run in runs)
     moved = [_moved(curve, other) for other in (half_step, double_room)]
-    exact = exact_values(model, basis, settings)
-    full = runs[0].filled and wider.room == rules.room
+    exact = exact_values(runs[0].model, runs[0].observable, runs[0].settings)
+    full = runs[0].filled and runs[2].settings.rules.room == runs[0].settings.rules.room
     says, ok = _verdict(curve, moved, exact, tolerance, full)
     return Checked(
         curve=curve,

@@ -94,17 +94,20 @@ def main(arguments: Sequence[str] | None = None) -> int:
 
 
 def _joined(arguments: Sequence[str]) -> list[str]:
-    """The arguments, with --dt -1e-3 as --dt=-1e-3: argparse takes a number below 0 with an exponent for an
-    option."""
+    """The arguments, with --dt -1e-3 as --dt=-1e-3 and --state -i as --state=-i: argparse takes a number below 0 with an
+    exponent, and such a state, for an option."""
     joined: list[str] = []
     for argument in arguments:
-        if joined and joined[-1].startswith("--") and argument.startswith("-") and _is_number(argument):
+        if joined and joined[-1].startswith("--") and argument.startswith("-") and _is_value(joined[-1], argument):
             argument = f"{joined.pop()}={argument}"
         joined.append(argument)
     return joined
 
 
-def _is_number(text: str) -> bool:
+def _is_value(option: str, text: str) -> bool:
+    """Whether a text that begins with - is the value of an option, and not another."""
+    if option == "--state":
+        return not text.startswith("--")
     try:
         float(text)
     except ValueError:

@@ -23,8 +23,8 @@ class Steps(NamedTuple):
     held               words held after it
     products           with the generator, made in it
     leak_sum_before    the rate at which the model leaks out of the basis that was evolved, at the coefficients before
-                       the evolution: the sum of the magnitudes of what leaks; NaN where the losses were not asked for, or
-                       where basis and list do not fit into 65,536 words
+                       the evolution: the sum of the magnitudes of what leaks; NaN where the losses were not asked for,
+                       where basis and list do not fit into 65,536 words, or where the library refuses the list
     leak_root_before   the same, the root of the sum of squares
     leak_sum_after, leak_root_after    the same at the coefficients after the evolution
     dropped_sum        what prune and cap dropped: the sum of magnitudes

@@ -19,7 +19,7 @@ from ._showing import Shown, Table
 from ._tables import MOST_TOUCHED, work_tables
 from ._types import LaneTable, NumberTable
 from .basis import AnyWords, Basis, Entry, not_finite, refusal, too_short
-from .check import Checked, checked
+from .check import Checked, compared, prepared
 from .combining import summed
 from .curve import Curve
 from .errors import InputError, Refusal
@@ -715,7 +715,7 @@ class Model(Shown, Sealed):
         It says nothing of what tau_add and drop_tol cost, which all three runs have alike: the curve's `dropped` does."""
         tolerance = tolerance_of(tolerance)
         self._check(basis)
-        return checked(self, basis, settings_of(self.n, **settings), tolerance=tolerance, progress=progress)
+        return compared(prepared(self, basis, settings_of(self.n, **settings)), tolerance=tolerance, progress=progress)
 
     def _largest_column(self, basis: Basis) -> float:
         """The norm of the generator without a shift: magnitudes are added in their order, from 0."""

@@ -28,7 +28,7 @@ from .errors import InputError, PebblelinenError, Refusal
 from .leakage import TAU_ADD
 from .plan import AnyTimes
 from .state import AnyState, ProductState
-from .words import MAX_WORDS, AnyWord, Word, made, places_of
+from .words import MAX_WORDS, AnyWord, Word, lanes_of, made, places_of
 
 if TYPE_CHECKING:
     from .model import Model
@@ -78,7 +78,8 @@ def settings_of(
         drop_tol=drop_tol,
         protected=protected,
     )
-    followed = [Word(word, n=n) for word in _given.listed(words, "words", ("words",))]
+    listed = _given.listed(words, "words", ("words",))
+    followed = [made(lanes_of(word, n, ("words", i)), n) for i, word in enumerate(listed)]
     if len({*followed}) < len(followed):
         raise InputError("a word to follow comes twice", ("words",))
     if name is not None and not isinstance(name, str):
@@ -144,6 +145,11 @@ class Run:
         return self.done == self.steps
 
     @property
+    def observable(self) -> Basis:
+        """A copy of the basis that the run began with."""
+        return self._observable.copy()
+
+    @property
     def basis(self) -> Basis:
         """A copy of the basis after the steps that are done."""
         return self._now[1].copy()
@@ -176,8 +182,9 @@ class Run:
             raise InputError("this run is finished: there is no further step")
         done, basis = self._now
         dt, rules = float(self._plan.lengths[done]), self.settings.rules
+        # The tests of a step's input are passed: rules and observable were tested, and a step leaves words that are told
+        # apart and numbers that are finite.
         wider, products = self._widened(basis, dt)
-        step.test(wider, dt, rules)
         grown = step.grow(self.model, wider, dt, rules)
         self.filled = self.filled or len(grown.before) >= rules.room
         leaks = [*self._leak(grown.before), *self._leak(grown.evolved)]
@@ -317,6 +324,7 @@ class Run:
         if shapes != ((len(self._steps), done), self._values.shape, self._followed.shape) or done > self.steps:
             raise InputError("this checkpoint is damaged: its tables have other lengths", where=os.fspath(path))
         basis = Basis.from_arrays(self.model.n, arrays["basis_words"], arrays["basis_coefficients"]).copy()
+        step.test(basis, 0.0, self.settings.rules)
         self._steps[:, :done] = steps
         self._values[:], self._followed[:] = values, followed
         self._now = done, basis

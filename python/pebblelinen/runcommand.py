@@ -17,10 +17,10 @@ from ._printing import SHOWN, Answers, Make, Rows, aligned, loaded, loaded_with_
 from ._progress import working
 from ._types import NumberTable
 from .basis import Basis
-from .check import Checked
+from .check import Checked, compared, prepared
 from .curve import Curve
 from .errors import InputError, Refusal
-from .run import Run, settings_of
+from .run import Run, Settings, begun, settings_of, tolerance_of
 
 # Exit statuses of their own: a curve that does not hold, and a run that was interrupted.
 NOT_HELD = 3
@@ -177,12 +177,11 @@ def _run(options: argparse.Namespace) -> Answers:
         raise InputError("a checkpoint is that of one model file: run each by itself")
     curves: dict[str, list[Curve]] = {each.path: [] for each in asked}
     with _interrupts():
-        for each, name, basis in _runs(asked):
-            checkpoint = _checkpoint(options.checkpoint, name, len(each.chosen))
-            with _from_the_file(each.path):
-                curve = each.file.model.run(basis, name=name, checkpoint=checkpoint, **each.settings)
-            curves[each.path].append(curve)
-            if not curve.finished:
+        # What is wrong with the last is told before the first is computed.
+        runs = [(each.path, *_begun(options, each, name)) for each, name in _followed(asked)]
+        for path, run, checkpoint in runs:
+            curves[path].append(run.go(checkpoint=checkpoint))
+            if not curves[path][-1].finished:
                 options.status = INTERRUPTED
                 print("pebblelinen: interrupted: this is the curve so far", file=sys.stderr)
                 break
@@ -211,26 +210,27 @@ def _check(options: argparse.Namespace) -> Answers:
     asked = _all_asked(options)
     checks: dict[str, list[Checked]] = {each.path: [] for each in asked}
     with _interrupts():
+        runs = [(each.path, *_prepared(options, each, name)) for each, name in _followed(asked)]
         try:
-            for each, name, basis in _runs(asked):
-                wanted = each.file.run.get("tolerance", 1e-3) if options.tolerance is None else options.tolerance
-                with _from_the_file(each.path):
-                    one = each.file.model.check(basis, name=name, tolerance=wanted, **each.settings)
-                checks[each.path].append(one)
+            for path, three, tolerance in runs:
+                checks[path].append(compared(three, tolerance=tolerance))
         except KeyboardInterrupt:
-            raise InputError("interrupted: there is no answer yet") from None
+            options.status = INTERRUPTED
+            print("pebblelinen: interrupted: these are the checks so far", file=sys.stderr)
     found = [(path, {one.curve.name: one for one in each}) for path, each in checks.items()]
-    all_hold = all(one.ok for each in checks.values() for one in each)
-    if not all_hold:
-        options.status = NOT_HELD
+    ok = {
+        each.path: len(checks[each.path]) == len(each.chosen) and all(one.ok for one in checks[each.path])
+        for each in asked
+    }
+    if not all(ok.values()):
+        options.status = options.status or NOT_HELD
     _output.write(options, found)
 
     def answer() -> dict[str, Any]:
-        told = []
-        for each in asked:
-            ok = all(one.ok for one in checks[each.path])
-            told.append(_named(each, options, ok=ok, checks=list(map(check_answer, checks[each.path]))))
-        return {**(told[0] if len(told) == 1 else {"ok": all_hold, "files": told}), **_output.answer(options)}
+        told = [
+            _named(each, options, ok=ok[each.path], checks=list(map(check_answer, checks[each.path]))) for each in asked
+        ]
+        return {**(told[0] if len(told) == 1 else {"ok": all(ok.values()), "files": told}), **_output.answer(options)}
 
     def lines() -> Iterator[str]:
         for each in asked:
@@ -267,21 +267,18 @@ def _head(each: _Asked, options: argparse.Namespace) -> Iterator[str]:
 
 
 def _all_asked(options: argparse.Namespace) -> list[_Asked]:
-    """What every file asks for. It is tested before anything is computed."""
+    """What every file asks for."""
     _output.look_ahead(options)
     asked = []
     for path in _output.once(options.files):
         options.file = path
         asked.append(_asked(options))
-    for each, name, basis in _runs(asked):
-        with _from_the_file(each.path):
-            Run(each.file.model, basis, settings_of(each.file.model.n, name=name, **each.settings))
     return asked
 
 
-def _runs(asked: Sequence[_Asked]) -> Iterator[tuple[_Asked, str | None, Basis]]:
-    """Each observable of each file."""
-    return ((each, name, basis) for each in asked for name, basis in each.chosen.items())
+def _followed(asked: Sequence[_Asked]) -> Iterator[tuple[_Asked, str | None]]:
+    """Each observable of each file, by its name."""
+    return ((each, name) for each in asked for name in each.chosen)
 
 
 def _asked(options: argparse.Namespace) -> _Asked:
@@ -322,13 +319,38 @@ def _checkpoint(path: str | None, name: str | None, count: int) -> str | None:
     return os.fspath(place.with_name(f"{place.stem}.{plain}{place.suffix}"))
 
 
+def _begun(options: argparse.Namespace, each: _Asked, name: str | None) -> tuple[Run, str | None]:
+    """The run of an observable, tested and with what its checkpoint has done, and that checkpoint."""
+    checkpoint = _checkpoint(options.checkpoint, name, len(each.chosen))
+    with _from_the_file(options, each):
+        run = begun(each.file.model, each.chosen[name], _settings(each, name), checkpoint)
+        if checkpoint is not None:
+            run.save(checkpoint)
+    return run, checkpoint
+
+
+def _prepared(options: argparse.Namespace, each: _Asked, name: str | None) -> tuple[list[Run], float]:
+    """The three runs of a check, tested, and by how much the curve may move."""
+    wanted = each.file.run.get("tolerance", 1e-3) if options.tolerance is None else options.tolerance
+    with _from_the_file(options, each):
+        return prepared(each.file.model, each.chosen[name], _settings(each, name)), tolerance_of(wanted)
+
+
+def _settings(each: _Asked, name: str | None) -> Settings:
+    return settings_of(each.file.model.n, name=name, **each.settings)
+
+
 @contextmanager
-def _from_the_file(name: str) -> Iterator[None]:
-    """Errors inside are about what a file says, and name it."""
+def _from_the_file(options: argparse.Namespace, each: _Asked) -> Iterator[None]:
+    """Errors inside are about what a file says, and name it, and its key, if no option went before it."""
     try:
         yield
     except (InputError, Refusal) as error:
-        raise error if error.where else error.at(name) from None
+        if error.where:
+            raise
+        key = str(error.path[0]) if error.path else ""
+        from_the_file = key in each.file.run and getattr(options, key, None) is None
+        raise error.at(f"{each.path}: run.{key}" if from_the_file else each.path) from None
 
 
 @contextmanager

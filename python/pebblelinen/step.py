@@ -116,8 +116,10 @@ def test(basis: Basis, dt: float, rules: Rules) -> None:
 
 def _outside(words: LaneTable, n: int) -> Any:
     """The places of words with a bit at or above the register."""
-    register = np.array(2 * split((1 << n) - 1), np.uint64)
-    return np.flatnonzero((words & ~register).any(axis=1))
+    above = ~np.array(2 * split((1 << n) - 1), np.uint64)
+    if not (np.bitwise_or.reduce(words, axis=0) & above).any():
+        return np.zeros(0, np.intp)
+    return np.flatnonzero((words & above).any(axis=1))
 
 
 # Factors of the halves of lanes in a sum that tells words apart.

@@ -428,7 +428,7 @@ class Refusals(unittest.TestCase):
         self.wrong("no letter with its qubit", words=["Z2Z3"])
         self.wrong("refusal 2", words=["Z"])
         self.wrong("refusal 2", words=["Z6"])
-        self.wrong("refusal 3", words=["z2"])
+        self.wrong("refusal 3", words=["Z2", "z3"], path=("words", 1))
         self.wrong("comes twice", words=["Z2", "IIZIII"])
         self.wrong("a list is needed", words="Z2")
         self.wrong("refusal 2", protected=["Z2", "X7"])
@@ -566,6 +566,29 @@ class Stopped(unittest.TestCase):
         with mock.patch.object(run._library, "checksum", lambda: "0" * 64), self.assertRaisesRegex(InputError, "library"):
             resume(self.path)
         self.assertEqual(self.path.read_bytes(), kept)
+
+    def test_a_damaged_checkpoint(self):
+        with self.interrupted(3):
+            CHAIN.run(Z2, **ASKED, checkpoint=self.path)
+        with np.load(self.path) as file:
+            arrays = dict(file)
+        words, numbers = arrays["basis_words"], arrays["basis_coefficients"]
+        for name, damaged, said in [
+            ("done", np.array(4), "its tables have other lengths"),
+            ("done", np.array(-1), "its tables have other lengths"),
+            ("values", arrays["values"][1:], "its tables have other lengths"),
+            ("settings", np.array("{"), "this is no checkpoint of a run"),
+            ("settings", np.array("{}"), "another run|no settings of a run"),
+            ("basis_words", words[:-1], "coefficients beside"),
+            ("basis_words", np.concatenate((words[1:], words[1:2])), "refusal 12"),
+            ("basis_coefficients", np.full(len(numbers), NAN), "refusal 7"),
+        ]:
+            np.savez(self.path, **{**arrays, name: damaged})
+            kept = self.path.read_bytes()
+            for go in (lambda: resume(self.path)), lambda: CHAIN.run(Z2, **ASKED, checkpoint=self.path):
+                with self.subTest(name, said=said), self.assertRaisesRegex((InputError, Refusal), said):
+                    go()
+            self.assertEqual(self.path.read_bytes(), kept)
 
     def test_a_checkpoint_that_cannot_be_written(self):
         """At the start it is refused; later it is a warning, and the curve is there."""

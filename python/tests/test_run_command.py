@@ -19,7 +19,7 @@ import numpy as np
 import pebblelinen
 import test_command
 import test_modelfile
-from pebblelinen import Basis, ProductState, demo, load, modelfile, save
+from pebblelinen import Basis, Model, ProductState, demo, load, modelfile, runcommand, save
 
 FILE = """
 qubits = 3
@@ -139,6 +139,33 @@ class Run(Case):
         self.assertEqual(status, 2)
         self.assertIn("the checkpoint of another run: it differs in name, observable", error)
 
+    def test_states_that_look_like_options(self):
+        for state, expected in ("-i", "l"), ("-", "-"), ("-01", "-01"), ("+i", "r"):
+            (curve,) = self.json("run", self.path, "--observable", "site", "--state", state)["curves"]
+            self.assertEqual(curve["settings"]["state"], expected if len(expected) == 3 else 3 * expected)
+
+    def test_all_is_tested_before_anything_is_computed(self):
+        """The last observable, and its checkpoint, too."""
+        folder = Path(self.path).with_name("run.both.npz")
+        folder.mkdir()
+        with mock.patch.object(Model, "leakage", side_effect=AssertionError("asked")):
+            for text, arguments, said in [
+                (FILE, ["--max-basis", "1"], f"{self.path}: max_basis is 1, below the 2 words"),
+                (FILE.replace("= 30", "= 1"), [], f"{self.path}: run.max_basis: max_basis is 1, below the 2 words"),
+                (FILE.replace('both = { "Z0" = 0.5', 'both = { "Z0" = nan'), [], "refusal 7: the coefficient at position 0"),
+            ]:
+                self.write(text)
+                for command in "run", "check":
+                    status, out, error = self.run_command(command, self.path, *arguments)
+                    self.assertEqual((status, out), (1 if "refusal" in said else 2, ""))
+                    self.assertIn(said, error)
+            self.write(FILE)
+            status, out, error = self.run_command("run", self.path, "--checkpoint", str(folder.with_name("run.npz")))
+            self.assertEqual((status, out), (2, ""))
+            self.assertIn("run.both.npz: this is no file", error)
+            status, out, error = self.run_command("check", self.path, "--tolerance", "-1")
+            self.assertIn("the tolerance is -1.0", error)
+
     def test_bad_usage(self):
         for arguments, said in [
             (["--observable", "neither"], "there is no observable 'neither': known are site, both"),
@@ -234,10 +261,19 @@ class Check(Case):
         self.assertEqual(rows[2][:2] + rows[2][5:], ["site", "0.4", repr(answer["exact"][2]), "True"])
 
     def test_an_interrupt(self):
-        with mock.patch.object(pebblelinen.run.Run, "advance", side_effect=KeyboardInterrupt):
-            status, out, error = self.run_command("check", self.path)
-        self.assertEqual((status, out), (2, ""))
-        self.assertIn("interrupted: there is no answer yet", error)
+        kept, calls = runcommand.compared, []
+
+        def compared(*arguments, **named):
+            calls.append(1)
+            if len(calls) == 2:
+                raise KeyboardInterrupt
+            return kept(*arguments, **named)
+
+        with mock.patch.object(runcommand, "compared", compared):
+            status, out, error = self.run_command("check", self.path, "--json")
+        self.assertEqual((status, error), (130, "pebblelinen: interrupted: these are the checks so far\n"))
+        answer = json.loads(out)
+        self.assertEqual((answer["ok"], [each["name"] for each in answer["checks"]]), (False, ["site"]))
 
     def test_help(self):
         _, out, _ = self.run_command("--help")
