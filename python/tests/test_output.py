@@ -14,7 +14,7 @@ import numpy as np
 from scipy.integrate import solve_ivp
 
 import pebblelinen
-from pebblelinen import Basis, Model, demo, load, modelfile, noise, pictures, results
+from pebblelinen import Basis, Model, Run, demo, load, modelfile, noise, pictures, results
 from test_command import Case
 
 DEVICE = """
@@ -130,6 +130,28 @@ class Commands(Case):
         self.assertIn("site: 5 times", out)
         self.assertTrue(out.endswith("written to one.csv\n"))
         self.assertNotIn("folder", out)
+
+    def test_an_interrupt(self):
+        advance, left = Run.advance, [2]
+
+        def interrupted(run):
+            left[0] -= 1
+            if left[0] < 0:
+                raise KeyboardInterrupt
+            advance(run)
+
+        files = "--out", "one.h5", "--plot", "one.png"
+        with mock.patch("pebblelinen.run.Run.advance", interrupted):
+            status, out, _ = self.run_command("run", "before.toml", *ONE, *files)
+            self.assertEqual(status, 130)
+            self.assertTrue(out.endswith("written to one.h5\ndrawn in one.png\n"))
+            (curve,) = results.load("one.h5")
+            self.assertEqual((curve.finished, curve.times.tolist()), (False, [0.0, 0.25, 0.5]))
+            # A check has no answer then, and there is nothing to write.
+            status, out, _ = self.run_command("check", "before.toml", *ONE, "--out", "two.h5", "--plot", "two.png")
+        self.assertEqual(status, 130)
+        self.assertNotIn("two", out)
+        self.assertEqual(self.files(), {"one.h5", "one.png"})
 
     def test_plot(self):
         self.answered("check", "before.toml", "--out", "old.h5")
