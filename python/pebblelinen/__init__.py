@@ -10,9 +10,11 @@ proved to give it; this package carries numbers in and out.
     model = Model(2, {"X0 X1": 1.0}, [(0.1, {"X0": 0.5, "Y0": 0.5j})])
     print(model.action("Z0"))
 """
-from . import noise
+from . import noise, pictures, results
 from ._version import __version__
 from .basis import Basis, Entry
+from .check import Checked
+from .curve import Curve, Steps
 from .errors import CAUSES, InputError, LibraryMissing, NotPositive, PebblelinenError, Refusal
 from .items import Jump, Matrix
 from .kossakowski import split_matrix
@@ -20,13 +22,19 @@ from .leakage import Leakage
 from .matrix import Choice, product, row, select_ms
 from .model import Degree, Evolved, Model, Norm
 from .modelfile import ModelFile, load, save
+from .resuming import resume
+from .run import Run
+from .state import ProductState
+from .step import Stepped
 from .terms import Terms
 from .words import Position, Qubit, Word
 
 __all__ = [
     "Basis",
     "CAUSES",
+    "Checked",
     "Choice",
+    "Curve",
     "Degree",
     "Entry",
     "Evolved",
@@ -41,14 +49,21 @@ __all__ = [
     "NotPositive",
     "PebblelinenError",
     "Position",
+    "ProductState",
     "Qubit",
     "Refusal",
+    "Run",
+    "Stepped",
+    "Steps",
     "Terms",
     "Word",
     "__version__",
     "load",
     "noise",
+    "pictures",
     "product",
+    "results",
+    "resume",
     "row",
     "save",
     "select_ms",

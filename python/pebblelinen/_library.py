@@ -2,6 +2,8 @@
 # SPDX-License-Identifier: Apache-2.0
 """The shared object and its functions, as include/pebblelinen.h declares them."""
 import ctypes
+import functools
+import hashlib
 import os
 from collections.abc import Sequence
 from ctypes import Structure, c_bool, c_double, c_int32, c_size_t, c_uint32, c_uint64, c_void_p
@@ -390,3 +392,12 @@ def call(name: str, *arguments: Any) -> Any:
         else:
             passed.append(argument)
     return (_functions.get(name) or _function(name))(*passed)
+
+
+@functools.cache
+def checksum() -> str:
+    """The SHA-256 of the shared object in use."""
+    if _library is None:
+        _function("basis_sizes")
+    assert _library is not None
+    return hashlib.sha256(Path(_library._name).read_bytes()).hexdigest()

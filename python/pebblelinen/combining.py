@@ -53,7 +53,7 @@ def expectation(n: int, words: LaneTable, values: NumberTable, state: str) -> fl
     # A letter other than that whose eigenstate its qubit is in has the expectation 0.
     other = [letters[letter] & ~masks[letter] for letter in "XYZ"]
     known = ~(other[0] | other[1] | other[2]).any(axis=1)
-    signs = 1 - 2 * _odd((x | z)[known] & masks["-1"])
+    signs = 1 - 2 * odd((x | z)[known] & masks["-1"])
     return math.fsum((signs * values[known]).tolist())
 
 
@@ -74,7 +74,7 @@ def _masks(n: int, state: str) -> dict[str, LaneTable]:
     return {name: np.array(split(mask), np.uint64) for name, mask in masks.items()}
 
 
-def _odd(lanes: LaneTable) -> NDArray[np.int64]:
+def odd(lanes: LaneTable) -> NDArray[np.int64]:
     """1 where the lanes of a row together have an odd number of bits."""
     bits: LaneTable = np.bitwise_xor.reduce(lanes, axis=1)
     for half in 32, 16, 8, 4, 2, 1:

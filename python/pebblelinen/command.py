@@ -2,30 +2,44 @@
 # SPDX-License-Identifier: Apache-2.0
 """The command: a model file in, answers out, for people, as JSON or as CSV.
 
-Exit status: 0 answered, 1 refused by the library, 2 bad usage (options, file, words that cannot be read)."""
+Exit status: 0 answered, 1 refused by the library, 2 bad usage (options, file, words that cannot be read), 3 a check
+whose curve does not hold, 130 a run that was interrupted."""
 import argparse
 import csv
-import json
 import math
+import os
 import signal
 import sys
-import warnings
-from collections.abc import Callable, Iterable, Iterator, Sequence
+from collections.abc import Callable, Iterator, Sequence
+from functools import partial
 from typing import Any, NoReturn
 
-from . import _given, demo, modelfile
+from . import _given, _output, demo, modelfile, plotcommand, runcommand
 from ._files import write_whole
 from ._given import counted
+from ._printing import (
+    SHOWN,
+    Answers,
+    Rows,
+    aligned,
+    error_answer,
+    json_number,
+    largest_answer,
+    listed_lines,
+    loaded,
+    loaded_with_basis,
+    more_lines,
+    print_json,
+    terms_answer,
+)
 from ._progress import working
 from ._version import __version__
 from .basis import Basis
-from .errors import InputError, NotPositive, PebblelinenError, Refusal
+from .check import Checked
+from .errors import InputError, PebblelinenError, Refusal
 from .model import Degree
 from .terms import Terms
 from .words import Word, qubits
-
-# Lines of a list that are shown to people.
-_SHOWN = 40
 
 _ABOUT = """\
 How noise moves an observable of a quantum device: the adjoint Lindblad generator on Pauli words.
@@ -38,6 +52,7 @@ How noise moves an observable of a quantum device: the adjoint Lindblad generato
   pebblelinen generator chain.toml --matrix-market chain.mtx
   pebblelinen degree chain.toml --dt 0.1
   pebblelinen evolve chain.toml --dt 0.1      the coefficients after one time step
+""" + runcommand.ABOUT + "\n" + plotcommand.ABOUT + """
 
 Every command has its own --help. A qubit is a site of the device, a position is a place in the basis; both
 are counted from 0, and no line says one for the other."""
@@ -45,10 +60,6 @@ are counted from 0, and no line says one for the other."""
 _WORDS = """\
 A word is given by site, "X12 Z40" for X on qubit 12 and Z on qubit 40 (the identity is "I0"), or as a text
 with a letter for each qubit, qubit 0 first."""
-
-# What a command gives, when asked: an answer for programs, lines for people, and the rows of a table.
-_Rows = Iterable[Iterable[object]]
-_Answers = tuple[Callable[[], dict[str, Any]], Callable[[], Iterable[str]], Callable[[], _Rows]]
 
 _FILE = "A model file:\n" + modelfile.__doc__.split("\n", 1)[1]
 
@@ -64,11 +75,11 @@ def run() -> NoReturn:
 def main(arguments: Sequence[str] | None = None) -> int:
     """Runs the command with these arguments, or those of the process, and returns its exit status."""
     options = _parser().parse_args(_joined(sys.argv[1:] if arguments is None else arguments))
-    options.warnings = []
+    options.warnings, options.status = [], 0
     try:
         answer, lines, rows = options.run(options)
         if options.json:
-            _print_json({**answer(), "warnings": options.warnings} if options.warnings else answer())
+            print_json({**answer(), "warnings": options.warnings} if options.warnings else answer())
         elif options.csv:
             csv.writer(sys.stdout, lineterminator="\n").writerows(rows())
         else:
@@ -77,23 +88,26 @@ def main(arguments: Sequence[str] | None = None) -> int:
     except (PebblelinenError, MemoryError) as error:
         print(f"pebblelinen: {error}", file=sys.stderr)
         if options.json:
-            _print_json({"error": _error(error)})
+            print_json({"error": error_answer(error)})
         return 1 if isinstance(error, Refusal) else 2
-    return 0
+    return int(options.status)
 
 
 def _joined(arguments: Sequence[str]) -> list[str]:
-    """The arguments, with --dt -1e-3 as --dt=-1e-3: argparse takes a number below 0 with an exponent for an
-    option."""
+    """The arguments, with --dt -1e-3 as --dt=-1e-3 and --state -i as --state=-i: argparse takes a number below 0 with an
+    exponent, and such a state, for an option."""
     joined: list[str] = []
     for argument in arguments:
-        if joined and joined[-1].startswith("--") and argument.startswith("-") and _is_number(argument):
+        if joined and joined[-1].startswith("--") and argument.startswith("-") and _is_value(joined[-1], argument):
             argument = f"{joined.pop()}={argument}"
         joined.append(argument)
     return joined
 
 
-def _is_number(text: str) -> bool:
+def _is_value(option: str, text: str) -> bool:
+    """Whether a text that begins with - is the value of an option, and not another."""
+    if option == "--state":
+        return not text.startswith("--")
     try:
         float(text)
     except ValueError:
@@ -109,7 +123,7 @@ def _parser() -> argparse.ArgumentParser:
     commands = parser.add_subparsers(title="commands", metavar="COMMAND", required=True)
 
     def command(
-        name: str, run: Callable[[argparse.Namespace], _Answers], help_: str, about: str, file: bool = True
+        name: str, run: Callable[[argparse.Namespace], Answers], help_: str, about: str, file: bool = True
     ) -> argparse.ArgumentParser:
         made = commands.add_parser(
             name,
@@ -119,13 +133,16 @@ def _parser() -> argparse.ArgumentParser:
             formatter_class=argparse.RawDescriptionHelpFormatter,
         )
         made.set_defaults(run=run)
-        if file:
+        if name in ("run", "check"):
+            about_files = "a model file, in TOML; several go into one figure"
+            made.add_argument("files", nargs="+", metavar="FILE", help=about_files)
+        elif file:
             made.add_argument("file", metavar="FILE", help="a model file, in TOML")
         form = made.add_mutually_exclusive_group()
         form.add_argument("--json", action="store_true", help="answer as JSON, numbers in full")
         form.add_argument("--csv", action="store_true", help="answer as a table in CSV, numbers in full")
         if name not in ("degree", "demo"):
-            made.add_argument("--all", action="store_true", help=f"show more than {_SHOWN} lines")
+            made.add_argument("--all", action="store_true", help=f"show more than {SHOWN} lines")
         return made
 
     made = command(
@@ -135,13 +152,16 @@ def _parser() -> argparse.ArgumentParser:
         "Shows what the library does on a chain of 256 qubits with couplings, fields, decay and\n"
         "dephasing: the action on an observable; rounds in which the words that leak out of a basis are\n"
         "admitted to it and its coefficients are evolved by a time step; at the end the norm and degree of\n"
-        "the generator.",
+        "the generator. With --plot or --out it goes on to a curve, the expectation of the observable, and to what\n"
+        "`check` says of it.",
         file=False,
     )
     made.add_argument("--rounds", type=int, default=6, metavar="R", help="rounds (default 6)")
     made.add_argument("--limit", type=int, default=4096, metavar="N", help="most words (default 4096)")
     made.add_argument("--dt", type=float, default=0.05, metavar="T", help="time step (default 0.05)")
     made.add_argument("--model", action="store_true", help="print the device as a model file instead")
+    made.add_argument("--save", metavar="OUT", help="write it to the file OUT, where none stands there")
+    _output.add_options(made)
 
     made = command(
         "action",
@@ -199,6 +219,8 @@ def _parser() -> argparse.ArgumentParser:
     )
     _add_step(made)
     made.add_argument("--save", metavar="OUT", help="write a model file with the evolved basis to OUT")
+    runcommand.add(command)
+    plotcommand.add(partial(command, file=False))
     return parser
 
 
@@ -213,8 +235,8 @@ def _add_step(made: argparse.ArgumentParser) -> None:
 # ---- commands ----
 
 
-def _action(options: argparse.Namespace) -> _Answers:
-    file = _loaded(options)
+def _action(options: argparse.Namespace) -> Answers:
+    file = loaded(options)
     model = file.model
     words = [Word(word, n=model.n) for word in options.words] or [entry.word for entry in file.basis]
     if not words:
@@ -227,7 +249,7 @@ def _action(options: argparse.Namespace) -> _Answers:
             yield word, terms
 
     def answer() -> dict[str, Any]:
-        actions = [{"word": word.by_site, "terms": _terms(terms)} for word, terms in act()]
+        actions = [{"word": word.by_site, "terms": terms_answer(terms)} for word, terms in act()]
         return {"qubits": model.n, "actions": actions}
 
     def lines() -> Iterator[str]:
@@ -235,9 +257,9 @@ def _action(options: argparse.Namespace) -> _Answers:
         for word, terms in act():
             yield ""
             yield f"action on {word.by_site}: {counted(len(terms), 'word')}"
-            yield from _listed(terms, options.all)
+            yield from listed_lines(terms, options.all)
 
-    def rows() -> _Rows:
+    def rows() -> Rows:
         yield "observable", "word", "value"
         for word, terms in act():
             for listed, value in terms:
@@ -246,8 +268,8 @@ def _action(options: argparse.Namespace) -> _Answers:
     return answer, lines, rows
 
 
-def _leakage(options: argparse.Namespace) -> _Answers:
-    file = _loaded_with_basis(options)
+def _leakage(options: argparse.Namespace) -> Answers:
+    file = loaded_with_basis(options)
     with working(f"leakage out of {len(file.basis)} entries"):
         terms = file.model.leakage(
             file.basis,
@@ -268,8 +290,8 @@ def _leakage(options: argparse.Namespace) -> _Answers:
             "qubits": file.model.n,
             "room": terms.room,
             "full": terms.full,
-            "largest": _largest(terms.largest()),
-            "terms": _terms(terms),
+            "largest": largest_answer(terms.largest()),
+            "terms": terms_answer(terms),
         }
 
     def lines() -> Iterator[str]:
@@ -280,9 +302,9 @@ def _leakage(options: argparse.Namespace) -> _Answers:
         yield ""
         yield summary()
         if len(terms):
-            yield from _listed(terms, options.all)
+            yield from listed_lines(terms, options.all)
 
-    def rows() -> _Rows:
+    def rows() -> Rows:
         # A table has no place to say that it is not all.
         if terms.full or not len(terms):
             print(f"pebblelinen: {summary()}", file=sys.stderr)
@@ -293,8 +315,8 @@ def _leakage(options: argparse.Namespace) -> _Answers:
     return answer, lines, rows
 
 
-def _generator(options: argparse.Namespace) -> _Answers:
-    file = _loaded_with_basis(options)
+def _generator(options: argparse.Namespace) -> Answers:
+    file = loaded_with_basis(options)
     if options.matrix_market is not None:
         return _matrix_market(options, file)
     with working(f"generator over {len(file.basis)} entries"):
@@ -315,12 +337,12 @@ def _generator(options: argparse.Namespace) -> _Answers:
         )
         shown = [
             (f"position {row}: {words[row]}", f"position {column}: {words[column]}", repr(value))
-            for row, column, value in (entries if options.all else entries[:_SHOWN])
+            for row, column, value in (entries if options.all else entries[:SHOWN])
         ]
-        yield from _aligned([("row", "column", "value"), *shown])
-        yield from _more(len(entries), options.all)
+        yield from aligned([("row", "column", "value"), *shown])
+        yield from more_lines(len(entries), options.all)
 
-    def rows() -> _Rows:
+    def rows() -> Rows:
         yield "row", "column", "value", "row word", "column word"
         for row, column, value in entries:
             yield row, column, repr(value), words[row], words[column]
@@ -328,7 +350,7 @@ def _generator(options: argparse.Namespace) -> _Answers:
     return answer, lines, rows
 
 
-def _matrix_market(options: argparse.Namespace, file: modelfile.ModelFile) -> _Answers:
+def _matrix_market(options: argparse.Namespace, file: modelfile.ModelFile) -> Answers:
     out: str = options.matrix_market
     if options.csv:
         raise InputError("--matrix-market writes the entries to a file: there is no table of them for --csv")
@@ -354,8 +376,8 @@ def _matrix_market(options: argparse.Namespace, file: modelfile.ModelFile) -> _A
     return answer, lines, list
 
 
-def _degree(options: argparse.Namespace) -> _Answers:
-    file = _loaded_with_basis(options)
+def _degree(options: argparse.Namespace) -> Answers:
+    file = loaded_with_basis(options)
     with working(f"norm over {len(file.basis)} entries"):
         degree = file.model.degree(file.basis, dt=options.dt, drop_tol=options.drop_tol)
 
@@ -366,7 +388,7 @@ def _degree(options: argparse.Namespace) -> _Answers:
         yield str(file.model)
         yield from _degree_lines(len(file.basis), options.dt, degree)
 
-    def rows() -> _Rows:
+    def rows() -> Rows:
         yield "dt", *degree._fields
         yield map(repr, (options.dt, *degree))
 
@@ -374,12 +396,12 @@ def _degree(options: argparse.Namespace) -> _Answers:
 
 
 def _degree_answer(degree: Degree) -> dict[str, Any]:
-    return {name: _json_number(x) for name, x in degree._asdict().items()}
+    return {name: json_number(x) for name, x in degree._asdict().items()}
 
 
 def _degree_lines(positions: int, dt: float, degree: Degree) -> Iterator[str]:
     yield f"generator over {counted(positions, 'position')}:"
-    yield from _aligned(
+    yield from aligned(
         [
             ("norm", repr(degree.norm)),
             ("mu", f"{degree.mu!r} (mean of the diagonal)"),
@@ -388,8 +410,8 @@ def _degree_lines(positions: int, dt: float, degree: Degree) -> Iterator[str]:
     )
 
 
-def _evolve(options: argparse.Namespace) -> _Answers:
-    file = _loaded_with_basis(options)
+def _evolve(options: argparse.Namespace) -> Answers:
+    file = loaded_with_basis(options)
     with working(f"evolution of {len(file.basis)} entries"):
         basis, products = file.model.evolve(file.basis, dt=options.dt, drop_tol=options.drop_tol)
     if options.save is not None:
@@ -411,14 +433,14 @@ def _evolve(options: argparse.Namespace) -> _Answers:
         )
         shown = [
             (f"position {p}: {word}", repr(before), repr(after))
-            for p, word, before, after in (entries if options.all else entries[:_SHOWN])
+            for p, word, before, after in (entries if options.all else entries[:SHOWN])
         ]
-        yield from _aligned([("word", "before", "coefficient"), *shown])
-        yield from _more(len(entries), options.all)
+        yield from aligned([("word", "before", "coefficient"), *shown])
+        yield from more_lines(len(entries), options.all)
         if options.save is not None:
             yield f"written to {options.save} with the evolved basis"
 
-    def rows() -> _Rows:
+    def rows() -> Rows:
         yield "position", "word", "before", "coefficient"
         for p, word, before, after in entries:
             yield p, word, repr(before), repr(after)
@@ -426,14 +448,17 @@ def _evolve(options: argparse.Namespace) -> _Answers:
     return answer, lines, rows
 
 
-def _demo(options: argparse.Namespace) -> _Answers:
+def _demo(options: argparse.Namespace) -> Answers:
     if options.model:
         if options.csv:
             raise InputError("--model prints a model file: there is no table of it for --csv")
         return lambda: {"model": demo.as_file()}, lambda: [demo.as_file().rstrip("\n")], list
     count = _given.whole(options.rounds, "--rounds")
+    _output.look_ahead(options)
     with working("building the model"):
         model = demo.chain()
+    if options.save is not None and not os.path.exists(options.save):
+        write_whole(options.save, demo.as_file().encode())
     basis = Basis(model.n, {demo.OBSERVABLE: 1.0})
 
     def rounds() -> Iterator[demo.Round]:
@@ -446,10 +471,15 @@ def _demo(options: argparse.Namespace) -> _Answers:
     def degree() -> Degree:
         return model.degree(basis, dt=options.dt)
 
+    def decay() -> Checked:
+        checked = demo.decay(model)
+        _output.write(options, [("demo", {checked.curve.name: checked})])
+        return checked
+
     def answer() -> dict[str, Any]:
-        action = _terms(model.action(demo.OBSERVABLE))
+        action = terms_answer(model.action(demo.OBSERVABLE))
         done = [
-            {**each._asdict(), "largest_leakage": _largest(each.largest_leakage)} for each in rounds()
+            {**each._asdict(), "largest_leakage": largest_answer(each.largest_leakage)} for each in rounds()
         ]
         return {
             "qubits": model.n,
@@ -457,6 +487,8 @@ def _demo(options: argparse.Namespace) -> _Answers:
             "action": action,
             "rounds": done,
             **_degree_answer(degree()),
+            **({"decay": runcommand.check_answer(decay())} if options.plot or options.out else {}),
+            **_output.answer(options),
         }
 
     def lines() -> Iterator[str]:
@@ -464,7 +496,7 @@ def _demo(options: argparse.Namespace) -> _Answers:
         yield str(model)
         yield ""
         yield f"action on the observable, Z on qubit {demo.SITE}:"
-        yield from _listed(model.action(demo.OBSERVABLE), True)
+        yield from listed_lines(model.action(demo.OBSERVABLE), True)
         yield ""
         yield f"a basis grows around it: at most {options.limit} words, time step {options.dt!r}"
         yield "  round  leaked  largest leakage  words  products  seconds"
@@ -483,8 +515,11 @@ def _demo(options: argparse.Namespace) -> _Answers:
         yield f"words at {touching} of {len(basis)} positions have a letter on qubit {demo.SITE}"
         yield ""
         yield from _degree_lines(len(basis), options.dt, degree())
+        if options.plot or options.out:
+            yield ""
+            yield from _decay_lines(options, decay)
 
-    def rows() -> _Rows:
+    def rows() -> Rows:
         yield demo.Round._fields
         for each in rounds():
             yield map(repr, each)
@@ -492,72 +527,17 @@ def _demo(options: argparse.Namespace) -> _Answers:
     return answer, lines, rows
 
 
-def _loaded(options: argparse.Namespace) -> modelfile.ModelFile:
-    """What the file holds. A warning goes to standard error, and is kept for the answer to programs."""
-    with working(f"reading {options.file}"), warnings.catch_warnings(record=True) as caught:
-        warnings.simplefilter("always", NotPositive)
-        file = modelfile.load(options.file)
-    for warning in caught:
-        options.warnings.append(f"{options.file}: {warning.message}")
-        print(f"pebblelinen: warning: {options.warnings[-1]}", file=sys.stderr)
-    return file
-
-
-def _loaded_with_basis(options: argparse.Namespace) -> modelfile.ModelFile:
-    """What the file holds, where it has a basis to work on."""
-    file = _loaded(options)
-    if not len(file.basis):
-        raise InputError("this file has no basis to work on: give it a [basis] with words", where=options.file)
-    return file
-
-
-# ---- what is printed ----
-
-
-def _terms(terms: Terms) -> list[dict[str, Any]]:
-    return [{"word": word.by_site, "value": _json_number(value)} for word, value in terms]
-
-
-def _json_number(x: float) -> float | str:
-    """JSON has no infinity and no NaN: these are texts."""
-    return x if math.isfinite(x) else str(x)
-
-
-def _largest(x: float) -> float | str | None:
-    """The largest leakage, which is not known where there was no room to list any."""
-    return None if math.isnan(x) else _json_number(x)
-
-
-def _error(error: Exception) -> dict[str, Any]:
-    told: dict[str, Any] = {"said": str(error)}
-    if isinstance(error, Refusal):
-        values = {name: x if isinstance(x, (int, float, str)) else int(x) for name, x in error.values.items()}
-        told |= {"refusal": error.number, "cause": error.cause, "values": values}
-    where = getattr(error, "where", "")
-    if where:
-        told |= {"where": where}
-    return told
-
-
-def _print_json(answer: dict[str, Any]) -> None:
-    print(json.dumps(answer, allow_nan=False))
-
-
-def _listed(terms: Terms, all_: bool) -> Iterator[str]:
-    rows = [(word.by_site, repr(value)) for word, value in terms]
-    yield from _aligned(rows if all_ else rows[:_SHOWN])
-    yield from _more(len(rows), all_)
-
-
-def _more(count: int, all_: bool) -> Iterator[str]:
-    if count > _SHOWN and not all_:
-        yield f"  .. and {count - _SHOWN} more: --all shows them"
-
-
-def _aligned(rows: Sequence[Sequence[str]]) -> Iterator[str]:
-    """Columns of one width each, indented; what stands last has room for a sign."""
-    widths = [max(len(cell) for cell in column) for column in zip(*rows)]
-    for row in rows:
-        cells = [f"{cell:{width}}" for cell, width in zip(row[:-1], widths)]
-        signed = row[-1] if row[-1].startswith("-") else f" {row[-1]}"
-        yield "  " + "  ".join([*cells, signed])
+def _decay_lines(options: argparse.Namespace, decay: Callable[[], Checked]) -> Iterator[str]:
+    """The curve of the demonstration, for people: not at all of its times."""
+    yield f"the expectation of {demo.OBSERVABLE}, where qubit {demo.SITE} starts in 0 and all others fully mixed:"
+    checked = decay()
+    columns = checked.curve.times, checked.curve.values, checked.half_step.values, checked.double_room.values
+    rows = [(f"{time:g}", *(f"{x:.6f}" for x in row)) for time, *row in zip(*(each[::4].tolist() for each in columns))]
+    yield from aligned([("time", "value", "half the step", "twice the room"), *rows])
+    yield checked.says
+    yield from _output.lines(options)
+    if options.save is not None and options.out:
+        program = "./pebblelinen" if os.path.exists("pebblelinen") else "pebblelinen"
+        yield ""
+        yield f"The device is in {options.save}. Change a rate there, and see both curves in one figure:"
+        yield f"  {program} run {options.save} --beside {options.out[0]} --plot both.png"

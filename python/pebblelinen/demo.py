@@ -1,18 +1,27 @@
 # SPDX-FileCopyrightText: 2026 The PPVM Authors
 # SPDX-License-Identifier: Apache-2.0
-"""A device to look at: a chain of qubits with couplings, fields, decay and dephasing, and a basis that
-grows around one observable."""
+"""A device to look at: a chain of qubits with couplings, fields, decay and dephasing, a basis that grows around one
+observable, and the curve of that observable."""
 import time
 from collections.abc import Iterator
-from typing import NamedTuple
+from typing import Any, NamedTuple
 
 from . import modelfile
 from .basis import Basis
+from .check import Checked
 from .model import Model
+from .state import AnyState
 
 QUBITS = 256
 SITE = 128
 OBSERVABLE = f"Z{SITE}"
+
+_ABOUT = f"""\
+# SPDX-FileCopyrightText: 2026 The PPVM Authors
+# SPDX-License-Identifier: Apache-2.0
+#
+# A chain of {QUBITS} qubits with couplings, fields, decay and dephasing.
+"""
 
 
 def items(n: int = QUBITS) -> tuple[dict[str, float], list[tuple[float, str | dict[str, complex]]]]:
@@ -36,10 +45,25 @@ def chain(n: int = QUBITS) -> Model:
     return Model(n, *items(n))
 
 
+# A run of the chain whose curve holds: the qubit in the middle starts in 0, and all others fully mixed.
+STATE: AnyState = {"all": [0.0, 0.0, 0.0], SITE: "0"}
+RUN: dict[str, Any] = {
+    "times": [i / 20 for i in range(21)],
+    "dt": 0.05,
+    "max_basis": 2000,
+    "drop_tol": 1e-5,
+    "admissions": 2,
+}
+
+
 def as_file() -> str:
-    """The chain as a model file."""
-    about = f"# A chain of {QUBITS} qubits with couplings, fields, decay and dephasing.\n"
-    return about + modelfile.text_of(chain(), Basis(QUBITS, {OBSERVABLE: 1.0}))
+    """The chain as a model file, with a run."""
+    return _ABOUT + modelfile.text_of(chain(), Basis(QUBITS, {OBSERVABLE: 1.0}), run=RUN, state=STATE)
+
+
+def decay(model: Model) -> Checked:
+    """The curve of that run, and whether it holds: `check` of the file gives the same."""
+    return model.check(Basis(QUBITS, {OBSERVABLE: 1.0}), state=STATE, **RUN)
 
 
 class Round(NamedTuple):

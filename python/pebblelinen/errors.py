@@ -53,7 +53,8 @@ class InputError(PebblelinenError, ValueError):
 
 
 class LibraryMissing(PebblelinenError, OSError):
-    """The shared object, or scipy where a matrix is asked for, is not there or cannot be loaded."""
+    """The shared object, or a package that only some of the work needs (scipy for a matrix, matplotlib for a picture,
+    h5py for a result file, xarray for a data set), is not there or cannot be loaded."""
 
 
 class Refusal(PebblelinenError, ValueError):

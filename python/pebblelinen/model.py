@@ -19,10 +19,16 @@ from ._showing import Shown, Table
 from ._tables import MOST_TOUCHED, work_tables
 from ._types import LaneTable, NumberTable
 from .basis import AnyWords, Basis, Entry, not_finite, refusal, too_short
+from .check import Checked, compared, prepared
 from .combining import summed
+from .curve import Curve
 from .errors import InputError, Refusal
 from .items import operator_text, row_text
 from .leakage import TAU_ADD, Leakage
+from .plan import AnyTimes
+from .run import begun, settings_of, tolerance_of
+from .state import AnyState
+from .step import Stepped, rules_of, take_step
 from .terms import AnyTerms, Terms
 from .words import (
     MAX_WORDS,
@@ -611,6 +617,105 @@ class Model(Shown, Sealed):
             evolved = basis.copy()
         evolved.coefficients = out
         return Evolved(evolved, answer.products)
+
+    def step(
+        self,
+        basis: Basis,
+        *,
+        dt: float,
+        max_basis: int,
+        admit_basis: int | None = None,
+        tau_add: float | None = None,
+        drop_tol: float = 0.0,
+        protected: AnyWords = (),
+    ) -> Stepped:
+        """The basis after a predictor-corrector step: another basis, whose words may be others, and the number of products
+        with the generator that it took. The basis given stays as it is.
+
+        What leaks out of the basis is admitted with coefficient 0, as far as there is room below max_basis, or admit_basis
+        where that is larger, and above tau_add in magnitude (2^-40 where none is given). The predictor is evolved by dt. If
+        there is room left, what leaks at the predicted numbers is admitted too, and if that brought words, the corrector is
+        evolved from the numbers given. At the end entries below drop_tol are pruned and the largest max_basis kept;
+        protected words that are there stay. A drop_tol of at least 1e-4 asks evolutions for less accuracy."""
+        self._check(basis)
+        rules = rules_of(
+            self.n,
+            max_basis=max_basis,
+            admit_basis=admit_basis,
+            tau_add=tau_add,
+            drop_tol=drop_tol,
+            protected=protected,
+        )
+        with basis._lock:
+            return take_step(self, basis, _given.real(dt, "dt", ("dt",)), rules)
+
+    # ---- runs ----
+
+    def run(
+        self,
+        basis: Basis,
+        *,
+        times: AnyTimes,
+        max_basis: int,
+        dt: float | None = None,
+        admit_basis: int | None = None,
+        tau_add: float | None = None,
+        drop_tol: float = 0.0,
+        protected: AnyWords = (),
+        admissions: int = 1,
+        state: AnyState = "0",
+        words: Iterable[AnyWord] = (),
+        losses: bool = True,
+        split: int = 1,
+        name: str | None = None,
+        progress: bool = True,
+        checkpoint: str | os.PathLike[str] | None = None,
+    ) -> Curve:
+        """Follows an observable, the basis given, from the time 0 to each of the times by steps as `step` takes them, and
+        gives the curve of its expectation in a product state, with what was lost beside it. The basis given stays as it is.
+
+        times        rising, from 0 on; or {"to": t, "count": c}, which is 0 and the ends of c equal parts up to t
+        dt           the longest step: between two times there are as few equal steps as that allows; without it one
+        max_basis, admit_basis, tau_add, drop_tol, protected    as in `step`
+        admissions   how often words enter before a step's end: 1 is the step alone, each further one predicts the step
+                     and admits what leaks from the predicted numbers before it
+        state        the product state: see pebblelinen.state
+        words        words whose coefficients are followed
+        losses       whether to ask what leaks out of the basis at each step, which takes two more leakages
+        split        into how many parts each step is split
+        name         the observable's name
+        progress     whether to show on a terminal how far it is
+        checkpoint   a file that the run writes now and then; where it stands there already, the run goes on from it
+
+        All of it is tested before anything is computed. An interrupt gives the curve so far, which is not `finished`."""
+        settings = settings_of(
+            self.n,
+            times=times,
+            max_basis=max_basis,
+            dt=dt,
+            admit_basis=admit_basis,
+            tau_add=tau_add,
+            drop_tol=drop_tol,
+            protected=protected,
+            admissions=admissions,
+            state=state,
+            words=words,
+            losses=losses,
+            split=split,
+            name=name,
+        )
+        return begun(self, basis, settings, checkpoint).go(progress=progress, checkpoint=checkpoint)
+
+    def check(self, basis: Basis, *, tolerance: float = 1e-3, progress: bool = True, **settings: Any) -> Checked:
+        """The curve of `run`, which takes the same settings, and whether it is the device's or the run's: the same run with
+        each step in two halves and with the word limits doubled, and whether the expectation, or the coefficient of a
+        word that is followed, moves by more than the tolerance; and through which of the two, in plain words. Where at
+        most 4,096 words can be reached, the exact curve stands beside it.
+
+        It says nothing of what tau_add and drop_tol cost, which all three runs have alike: the curve's `dropped` does."""
+        tolerance = tolerance_of(tolerance)
+        self._check(basis)
+        return compared(prepared(self, basis, settings_of(self.n, **settings)), tolerance=tolerance, progress=progress)
 
     def _largest_column(self, basis: Basis) -> float:
         """The norm of the generator without a shift: magnitudes are added in their order, from 0."""

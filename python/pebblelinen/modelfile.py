@@ -24,40 +24,87 @@
     [basis]                             # words with their coefficients; positions count from 0
     "Z0" = 1.0
 
-Where an order or a word that comes twice matters, `hamiltonian`, `operator` and `basis` may be lists of
+    # For run and check, which follow the basis where there are no observables:
+
+    [observables]                       # each by its name: a word, or words with their numbers
+    site = "Z0"
+    both = { "Z0" = 0.5, "Z1" = 0.5 }
+
+    [state]                             # the product state of expectations: 0 1 + - +i -i or a Bloch vector,
+    all = "0"                           # for all qubits, with exceptions by qubit
+    1 = [0, 0.6, 0.8]
+
+    [run]
+    times = { to = 1.0, count = 10 }    # 0 and the ends of 10 equal parts; or a list: [0, 0.5, 1]
+    dt = 0.05                           # the longest step
+    max_basis = 1000                    # words held; also admit_basis, tau_add, drop_tol
+    admissions = 2                      # how often words enter before a step's end
+    words = ["X0 Y1"]                   # whose coefficients are followed
+    tolerance = 1e-3                    # by how much the curve may move in a check
+
+Where an order or a word that comes twice matters, `hamiltonian`, `operator`, `basis` and an observable may be lists of
 [word, number] instead. `save` writes a model as such a file.
 """
 import difflib
 import math
 import os
 import tomllib
-from collections.abc import Iterable, Mapping, Sequence
+from collections.abc import Callable, Iterable, Mapping, Sequence
 from typing import Any, NamedTuple
 
-from . import _given, words
+from . import _given, plan, words
 from ._files import write_whole
 from ._lanes import MAX_QUBITS
+from ._modeltext import text_of
 from ._types import ItemPath
-from .basis import Basis
+from .basis import Basis, not_finite
 from .errors import InputError, Refusal
 from .model import Model
-from .words import AnyWord
+from .run import tolerance_of
+from .state import AnyState, ProductState
+from .words import MAX_WORDS, AnyWord
 
-_KEYS = ["qubits", "protected", "hamiltonian", "jumps", "matrices", "basis"]
+__all__ = ["ModelFile", "load", "loads", "save", "text_of"]
+
+_KEYS = ["qubits", "protected", "hamiltonian", "jumps", "matrices", "basis", "observables", "state", "run"]
 
 
 class ModelFile(NamedTuple):
-    """What a file holds. Where it has no basis, that is empty."""
+    """What a file holds. Where it has no basis, that is empty.
+
+    observables   by their names
+    run           what the file says of a run, under the names that `model.run` takes, and the tolerance of a check
+    state         the product state, where the file has one
+    """
 
     model: Model
     basis: Basis
     protected: list[words.Word]
+    observables: dict[str, Basis] = {}
+    run: dict[str, Any] = {}
+    state: ProductState | None = None
+
+    def followed(self) -> dict[str | None, Basis]:
+        """What a run follows, by name: the observables, or where there are none, the basis, which has no name."""
+        return {name: basis for name, basis in self.observables.items()} or {None: self.basis}
 
 
 def load(path: str | os.PathLike[str]) -> ModelFile:
     """Reads a model file."""
     name = os.fspath(path)
-    data = _read(name)
+    return _found(_read(name), name)
+
+
+def loads(text: str, name: str) -> ModelFile:
+    """Reads the text of a model file, which errors call by this name."""
+    try:
+        data = tomllib.loads(text)
+    except (tomllib.TOMLDecodeError, RecursionError) as error:
+        raise InputError(f"this is no TOML: {error}", where=name) from None
+    return _found(data, name)
+
+
+def _found(data: dict[str, Any], name: str) -> ModelFile:
     try:
         return _made(data)
     except (InputError, Refusal) as error:
@@ -98,7 +145,75 @@ def _made(data: dict[str, Any]) -> ModelFile:
     with _under("protected"):
         protected = _given.listed(data.get("protected", []), "protected")
         lanes = [words.lanes_of(word, n, (i,)) for i, word in enumerate(protected)]
-    return ModelFile(model, basis, [words.made(each, n) for each in lanes])
+    state = ProductState(n, data["state"], ("state",)) if "state" in data else None
+    fixed = [words.made(each, n) for each in lanes]
+    return ModelFile(model, basis, fixed, _observables(data, n), _run(data, n), state)
+
+
+def _observables(data: dict[str, Any], n: int) -> dict[str, Basis]:
+    """Each a word, or words with their numbers."""
+    found = {}
+    for name, given in _table(data, "observables").items():
+        with _under("observables"), _under(name):
+            found[name] = Basis(n, {given: 1.0} if isinstance(given, str) else given)
+            if not len(found[name]):
+                raise InputError("this observable has no words")
+    return found
+
+
+def _run(data: dict[str, Any], n: int) -> dict[str, Any]:
+    """What the file says of a run."""
+    given = _table(data, "run")
+    readers: dict[str, Callable[[Any], Any]] = {
+        "times": lambda x: list(plan.times_of(x)),
+        "dt": plan.dt_of,
+        "max_basis": lambda x: _limit(x, "max_basis"),
+        "admit_basis": lambda x: _limit(x, "admit_basis"),
+        "tau_add": lambda x: _threshold(x, "tau_add"),
+        "drop_tol": lambda x: _threshold(x, "drop_tol"),
+        "admissions": lambda x: _given.whole(x, "admissions", ("admissions",), MAX_WORDS, 1),
+        "words": lambda x: _words(x, n),
+        "tolerance": tolerance_of,
+        "losses": _flag,
+        "split": lambda x: _given.whole(x, "split", ("split",), plan.MOST_STEPS, 1),
+    }
+    _keys(given, [*readers], [], ("run",))
+    with _under("run"):
+        return {key: readers[key](x) for key, x in given.items()}
+
+
+def _limit(given: Any, name: str) -> int:
+    limit = _given.whole(given, name, (name,), MAX_WORDS)
+    if limit > MAX_WORDS:
+        said = f"{name} is {limit}: at most {MAX_WORDS}"
+        raise Refusal(8, said, {"count": limit, "limit": MAX_WORDS}, (name,))
+    return limit
+
+
+def _threshold(given: Any, name: str) -> float:
+    x = _given.real(given, name, (name,))
+    if not math.isfinite(x):
+        refused = not_finite({name: x})
+        raise Refusal(7, refused.said, refused.values, (name,))
+    return x
+
+
+def _words(given: Any, n: int) -> list[words.Word]:
+    listed = _given.listed(given, "words", ("words",))
+    return [words.made(words.lanes_of(word, n, ("words", i)), n) for i, word in enumerate(listed)]
+
+
+def _flag(given: Any) -> bool:
+    if not isinstance(given, bool):
+        raise InputError(f"losses is {_given.shown(given)}: true or false is needed", ("losses",))
+    return given
+
+
+def _table(data: dict[str, Any], key: str) -> dict[str, Any]:
+    given = data.get(key, {})
+    if not isinstance(given, dict):
+        raise InputError(f"this is to be a table: [{key}]", (key,))
+    return given
 
 
 class _under:
@@ -171,76 +286,19 @@ def _number(given: Any, path: ItemPath) -> Any:
 
 
 def save(
-    path: str | os.PathLike[str], model: Model, basis: Basis | None = None, protected: Iterable[AnyWord] = ()
+    path: str | os.PathLike[str],
+    model: Model,
+    basis: Basis | None = None,
+    protected: Iterable[AnyWord] = (),
+    *,
+    observables: Mapping[str, Basis] = {},
+    run: Mapping[str, Any] = {},
+    state: AnyState | None = None,
 ) -> None:
-    """Writes a model file, with a basis and protected words where they are given, whole or not at all. Loading it
-    gives the same model, number for number."""
-    write_whole(path, text_of(model, basis, protected).encode())
-
-
-def text_of(model: Model, basis: Basis | None = None, protected: Iterable[AnyWord] = ()) -> str:
-    """The text of a model file."""
-    n = model.n
-    lines = [f"qubits = {n}"]
-    fixed = [_word_text(words.Word(word, n=n)) for word in protected]
-    if fixed:
-        lines.append(f"protected = [{', '.join(fixed)}]")
-    entries = [] if basis is None else list(words.same_register(basis, n, "basis").terms())
-    named = {"hamiltonian": list(model.hamiltonian), "basis": entries}
-    # Lists stand before all tables.
-    lines += [f"{name} = {_pairs_text(items)}" for name, items in named.items() if _twice(items)]
-    lines += _table_lines("hamiltonian", named["hamiltonian"])
-    for jump in model.jumps:
-        lines += ["", "[[jumps]]", f"rate = {jump.rate!r}", f"operator = {_operator_text(jump.operator)}"]
-    for matrix in model.matrices:
-        operators = ", ".join(map(_operator_text, matrix.operators))
-        lines += ["", "[[matrices]]", f"operators = [{operators}]", f"k = {_rows_text(matrix.k.tolist())}"]
-    lines += _table_lines("basis", named["basis"])
-    return "\n".join([*lines, ""])
-
-
-# Words with a number each.
-_Items = Sequence[tuple[words.Word, complex]]
-
-
-def _twice(items: _Items) -> bool:
-    """Whether a word comes twice: a table has each of its keys once."""
-    return len({word for word, _ in items}) < len(items)
-
-
-def _table_lines(name: str, items: _Items) -> list[str]:
-    if not items or _twice(items):
-        return []
-    return ["", f"[{name}]", *(f"{_word_text(word)} = {_number_text(x)}" for word, x in items)]
-
-
-def _pairs_text(items: _Items) -> str:
-    return f"[{', '.join(f'[{_word_text(word)}, {_number_text(x)}]' for word, x in items)}]"
-
-
-def _operator_text(operator: _Items) -> str:
-    if len(operator) == 1 and repr(operator[0][1]) == "(1+0j)":
-        return _word_text(operator[0][0])
-    if _twice(operator):
-        return _pairs_text(operator)
-    return f"{{ {', '.join(f'{_word_text(word)} = {_number_text(x)}' for word, x in operator)} }}"
-
-
-def _rows_text(rows: Iterable[Iterable[complex]]) -> str:
-    return f"[{', '.join(f'[{row}]' for row in (', '.join(map(_number_text, row)) for row in rows))}]"
-
-
-def _word_text(word: words.Word) -> str:
-    # The identity by site names qubit 0, which a register without qubits does not have.
-    return f'"{word.by_site if word.n else ""}"'
-
-
-def _number_text(x: complex) -> str:
-    """A number that is read as it was, signs of zeros too: a complex one is a text."""
-    if isinstance(x, complex):
-        real = x.imag == 0 and math.copysign(1, x.imag) > 0
-        return repr(x.real) if real else f'"{str(x).strip("()")}"'
-    return repr(x)
+    """Writes a model file, with a basis, protected words and what it says of runs where they are given, whole or not at
+    all. Loading it gives the same model, number for number."""
+    text = text_of(model, basis, protected, observables=observables, run=run, state=state)
+    write_whole(path, text.encode())
 
 
 # ---- where an error is ----

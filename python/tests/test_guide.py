@@ -11,17 +11,22 @@ import tempfile
 import unittest
 from pathlib import Path
 
+import numpy as np
+from PIL import Image
+
 from pebblelinen import command
 
 GUIDE = Path(__file__).resolve().parent.parent.parent / "docs" / "USING.md"
 BLOCK = re.compile(r"^```(\w+)\n(.*?)^```$", re.MULTILINE | re.DOTALL)
+PICTURE = re.compile(r"^!\[.+\]\((\S+)\)$", re.MULTILINE)
 
 
 def sections():
-    """The blocks of each section that has some: (language, text) one after another."""
+    """The blocks of each section that has some: (language, text) one after another; a picture that it shows is one."""
     parts = re.split(r"^## (.*)$", GUIDE.read_text(), flags=re.MULTILINE)
     found = {title: BLOCK.findall(text) for title, text in zip(parts[1::2], parts[2::2])}
-    return {title: blocks for title, blocks in found.items() if blocks}
+    shown = {title: [("picture", name) for name in PICTURE.findall(text)] for title, text in zip(parts[1::2], parts[2::2])}
+    return {title: blocks + shown[title] for title, blocks in found.items() if blocks}
 
 
 class Case(unittest.TestCase):
@@ -39,6 +44,8 @@ class Case(unittest.TestCase):
                 Path(name).write_text(text)
             elif language == "console":
                 self.run_commands(text)
+            elif language == "picture":
+                self.compare(text)
             else:
                 self.fail(f"a block of {language}")
         self.assertEqual(printed, "", "the guide does not say what was printed")
@@ -48,6 +55,15 @@ class Case(unittest.TestCase):
             program, *arguments = shlex.split(line)
             self.assertEqual(program, "./pebblelinen")
             self.assertEqual(self.printed(lambda: command.main(arguments)), expected)
+
+    def compare(self, name):
+        """The picture beside the guide is the one that was drawn, with fewer colours."""
+        kept = GUIDE.with_name(name)
+        self.assertLess(kept.stat().st_size, 40_000)
+        drawn, shown = (np.asarray(Image.open(path).convert("RGB"), float) for path in (name, kept))
+        self.assertEqual(drawn.shape, shown.shape)
+        said = f"docs/{name} is not what the guide draws: python/run pictures makes it anew"
+        self.assertLess(abs(drawn - shown).mean(), 1.0, said)
 
     def printed(self, call):
         out = io.StringIO()
@@ -70,7 +86,7 @@ class Guide(Case):
                 with self.subTest(title):
                     self.run_section(blocks)
                     done += 1
-        self.assertEqual(done, 5)
+        self.assertEqual(done, 7)
 
 
 if __name__ == "__main__":

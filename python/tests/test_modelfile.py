@@ -34,7 +34,7 @@ k = [[1, "0.5j", 0], ["-0.5j", 1, 0], [0, 0, "2"]]
 """
 
 
-class Files(unittest.TestCase):
+class Case(unittest.TestCase):
     def setUp(self):
         folder = tempfile.TemporaryDirectory()
         self.addCleanup(folder.cleanup)
@@ -58,6 +58,8 @@ class Files(unittest.TestCase):
         self.assertTrue(str(caught.exception).startswith(where), caught.exception)
         self.assertIn(said, str(caught.exception))
 
+
+class Files(Case):
     def test_what_a_file_holds(self):
         file = self.load(GOOD)
         model = Model(

@@ -65,7 +65,18 @@ class Installed(unittest.TestCase):
             modules = {name for name in held if name.endswith(".py")}
         self.assertEqual(modules, {file.name for file in Path(pebblelinen.__file__).parent.glob("*.py")})
         needed = re.findall("^Requires-Dist: (.*)$", about, re.MULTILINE)
-        self.assertEqual(needed, ["numpy", "scipy ; extra == 'scipy'"])
+        self.assertEqual([each for each in needed if ";" not in each], ["numpy"])
+        extras = {
+            "scipy": ["scipy"],
+            "plot": ["matplotlib (>=3.6)"],
+            "results": ["h5py", "xarray"],
+            "progress": ["tqdm"],
+            "all": ["scipy", "matplotlib (>=3.6)", "h5py", "xarray", "tqdm"],
+        }
+        self.assertEqual(
+            {name: {each.split(" ;")[0] for each in needed if each.endswith(f"extra == '{name}'")} for name in extras},
+            {name: set(packages) for name, packages in extras.items()},
+        )
 
     def test_installed_from_the_wheel(self):
         self.installed("from-wheel", self.wheel)
