@@ -10,7 +10,7 @@ use borrow.Author.Needs.{needs}
 use lib.ListN.{length, take, drop}
 use lib.Seq.{length-take-le, take-at}
 use Rattle.word.specs.Flat.{wordLanes}
-use Rattle.candidates.proofs.RowLaws.{first-entries, table-long}
+use Rattle.candidates.proofs.RowLaws.{first-entries}
 use Rattle.candidates.proofs.ordered.put_in_order.Statement.{statement}
 use Rattle.candidates.proofs.ordered.put_in_order.Tie as tie
 
