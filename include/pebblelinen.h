@@ -548,8 +548,6 @@ typedef struct {
     size_t nexts;
     size_t fixed_heads;
     size_t fixed_nexts;
-    size_t log_words;
-    size_t log_values;
     size_t cand_words;
     size_t cand_sums;
     size_t next_words;
@@ -562,8 +560,7 @@ typedef struct {
 /* Lengths that are enough for a register of so many qubits, a basis of so many entries, so many
  * protected words, actions that touch at most so many words (`touched` of
  * pebblelinen_count_action_terms over the basis), and so many candidates at a time. Longer tables will
- * do; more slots (heads, fixed_heads) or a longer log (log_words, log_values, place_order, place_work)
- * may be faster. */
+ * do; more slots (heads, fixed_heads, place_order) may be faster. */
 pebblelinen_leakage_lengths pebblelinen_leakage_sizes(
     size_t qubits, size_t entries, size_t protected_words, size_t touched, size_t candidates);
 
@@ -582,7 +579,7 @@ pebblelinen_leakage_lengths pebblelinen_leakage_sizes(
  *   fixed_nexts          a place for each protected word; fixed_heads: at least as many; none of either
  *                        for an empty basis
  *   table 1              words touched by one action: work_words (8 lanes a place), work_sums (2
- *                        numbers), log_words (8 lanes), log_values, place_order, place_work
+ *                        numbers)
  *   table 2              candidates held at a time, before the room rule: cand_words and next_words (8
  *                        lanes a place), cand_sums, next_sums, place_order, place_work, place_kept
  *   out_words            the listed words, 8 lanes each; out_values: their sums
@@ -619,8 +616,7 @@ pebblelinen_listed pebblelinen_leakage_with_prune(
     *mask, size_t mask_len, uint64_t *work_words, size_t work_words_len, double *work_sums, size_t
     work_sums_len, uint64_t *order, size_t order_len, uint64_t *heads, size_t heads_len, uint64_t
     *nexts, size_t nexts_len, uint64_t *fixed_heads, size_t fixed_heads_len, uint64_t *fixed_nexts,
-    size_t fixed_nexts_len, uint64_t *log_words, size_t log_words_len, double *log_values, size_t
-    log_values_len, uint64_t *cand_words, size_t cand_words_len, double *cand_sums, size_t
+    size_t fixed_nexts_len, uint64_t *cand_words, size_t cand_words_len, double *cand_sums, size_t
     cand_sums_len, uint64_t *next_words, size_t next_words_len, double *next_sums, size_t
     next_sums_len, uint64_t *place_order, size_t place_order_len, uint64_t *place_work, size_t
     place_work_len, uint64_t *place_kept, size_t place_kept_len, uint64_t *out_words, size_t

@@ -171,8 +171,6 @@ class LeakageLengths(Structure):
     nexts: Size
     fixed_heads: Size
     fixed_nexts: Size
-    log_words: Size
-    log_values: Size
     cand_words: Size
     cand_sums: Size
     next_words: Size
@@ -307,7 +305,7 @@ _FUNCTIONS: dict[str, tuple[Any, list[Any]]] = {
     "leakage_sizes": (LeakageLengths, [c_size_t] * 5),
     "leakage_with_prune": (
         Listed,
-        [*_LENT_MODEL, *slices(2), c_size_t, *slices(1), Limits, *slices(19), *slices(2)],
+        [*_LENT_MODEL, *slices(2), c_size_t, *slices(1), Limits, *slices(17), *slices(2)],
     ),
     "generator_sizes": (GeneratorLengths, [c_size_t] * 4),
     "generator": (Listed, [*_LENT_MODEL, *slices(1), c_size_t, *slices(10), *slices(3)]),

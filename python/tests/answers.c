@@ -236,8 +236,7 @@ static pebblelinen_status call_leakage(size_t words, const size_t *len) {
     pebblelinen_listed found = pebblelinen_leakage_with_prune(
         MODEL, X, WORD * words, ONE, words, words, ALL(PROTECTED), LIMITS, LANES(0), LANES(1), LANES(2), SUMS, LANES(3),
         LANES(4), LANES(5), LANES(6), LANES(7), lanes[11], room, numbers[1], room, lanes[12], room, numbers[2], room,
-        lanes[13], room, numbers[3], room, lanes[14], room, lanes[15], room, lanes[16], room, lanes[17], room,
-        (double *)lanes[18], room);
+        lanes[13], room, lanes[14], room, lanes[15], room, lanes[16], room, (double *)lanes[17], room);
     if (!words) holds("nothing leaks from no words", found.count == 0);
     return found.status;
 }
@@ -246,8 +245,8 @@ static pebblelinen_status leak_unprotected(size_t words, const size_t *len) {
     (void)len;
     return pebblelinen_leakage_with_prune(MODEL, X, WORD * words, ONE, words, words, NO_LANES, LIMITS, NO_LANES, NO_LANES,
                                           NO_LANES, NO_LANES, NO_NUMBERS, NO_LANES, NO_LANES, NO_LANES, NO_LANES,
-                                          NO_LANES, NO_LANES, NO_NUMBERS, NO_LANES, NO_NUMBERS, NO_LANES, NO_NUMBERS,
-                                          NO_LANES, NO_LANES, NO_LANES, NO_LANES, NO_NUMBERS)
+                                          NO_LANES, NO_LANES, NO_NUMBERS, NO_LANES, NO_NUMBERS, NO_LANES, NO_LANES,
+                                          NO_LANES, NO_LANES, NO_NUMBERS)
         .status;
 }
 

@@ -341,11 +341,9 @@ def leakage(case: Case, matrix: bool = False) -> None:
         *reals(2 * PLACES),
         *lanes(ENTRIES, 2 * ENTRIES, ENTRIES),  # order, heads, nexts
         *lanes(2 * PROTECTED, PROTECTED),  # fixed_heads, fixed_nexts
-        *lanes(WORD_LANES * PLACES),  # the log
-        *reals(PLACES),
         *lanes(WORD_LANES * PLACES),  # candidates
         *reals(held),
-        *lanes(WORD_LANES * PLACES),  # candidates of the next pass
+        *lanes(WORD_LANES * PLACES),  # candidates copied in word order
         *reals(PLACES),
         *lanes(PLACES, PLACES, PLACES),  # place_order, place_work, place_kept
     ]

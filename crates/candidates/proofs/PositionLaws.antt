@@ -10,7 +10,7 @@ use native.Mathlib.Numerals.{add-one}
 use native.Mathlib.Omega.{arith}
 use lib.Ieee.{Float, nan}
 use lib.ListN.{length, getD, set, take, length-map, List·getD-map}
-use lib.Seq.{take-suc, take-all, take-length}
+use lib.Seq.{take-suc, take-all}
 use Rattle.word.specs.Flat.{wordLanes, words}
 use Rattle.word.specs.Order.{before}
 use Rattle.word.specs.Word.{identity}
@@ -19,7 +19,7 @@ use Rattle.number.specs.Floats.{floats}
 use Rattle.order.specs.Merge.{positions}
 use Rattle.order.specs.Between.{All, wordBefore, byWord}
 use Rattle.order.proofs.OrderLaws.{Pairs, ordered-sorted}
-use Rattle.order.proofs.PlaceLaws.{word-order, by-word}
+use Rattle.order.proofs.PlaceLaws.{word-order}
 use Rattle.candidates.specs.Sums.{Row, row, putOver, putAll}
 use Rattle.candidates.specs.Tables.{Rows, rows, candidateRows, latest, inWordOrder}
 use Rattle.candidates.proofs.PutLaws.{strict, InOrder, all-append, law}

@@ -1,7 +1,7 @@
 -- SPDX-FileCopyrightText: 2026 The PPVM Authors
 -- SPDX-License-Identifier: Apache-2.0
 
--- Putting the entries of a log one by one is putting them in the stable order of their words: entries of different words
+-- Putting the entries of a list one by one is putting them in the stable order of their words: entries of different words
 -- go in either order, and those of one word keep theirs. Assumes nothing.
 use mathlib.Core.Path.{_≡_, refl, ap, sym, _∙_}
 use mathlib.Core.List.{List, [], _∷_, _++_}
@@ -202,6 +202,6 @@ module _ {W S : Type 0} (lt : W → W → Bool) (plus : S → S → S) (start : 
               ∙ sym (all-append key val (take (length l / 2) l) (drop (length l / 2) l) t)
               ∙ ap (λ (m : List ℕ). each m t) (take-append-drop (length l / 2) l)
 
-      -- the law: a log put in its own order, or in the stable order of its words, gives the same table, whatever the addition
+      -- the law: a list put in its own order, or in the stable order of its words, gives the same table, whatever the addition
       pub law : (l : List ℕ) (t : List (Row W S)) → putAll lt plus start key val l t ≡ putAll lt plus start key val (ordered (earlier lt key) l) t
       law l t = sym (sort-puts (length l) l t (omega arith))

@@ -2,9 +2,9 @@
 -- SPDX-License-Identifier: Apache-2.0
 
 -- One entry put to candidates that stand in lent tables in any order: added where its word stands, behind them all, or without a place. Assumes nothing.
-use mathlib.Core.Path.{_≡_, refl, ap, sym, _∙_}
+use mathlib.Core.Path.{_≡_, ap, sym, _∙_}
 use mathlib.Core.List.{List, [], _∷_, _++_}
-use Prim.Native.Nat.{ℕ, zero, suc, _+_, _-_, _*_, _≤_, _<_}
+use Prim.Native.Nat.{ℕ, suc, _+_, _-_, _*_, _≤_, _<_}
 use native.Mathlib.Numerals.{add-one}
 use native.Mathlib.Omega.{arith}
 use lib.Ieee.{Float, nan}
@@ -19,7 +19,6 @@ use Rattle.number.specs.Floats.{floats}
 use Rattle.slots.specs.Slots.{lastOf}
 use Rattle.slots.specs.Between.{Slotted}
 use Rattle.slots.proofs.PlaceLaws.{last-inside, last-word, last-after}
-use Rattle.sums.specs.declared.sums.Added.{Added}
 use Rattle.sums.specs.declared.sums.Added.the-variants.{Full, Held}
 use Rattle.candidates.specs.Sums.{Row, row}
 use Rattle.candidates.specs.Tables.{Rows, rows, candidateRows, putRow, inWordOrder}

@@ -50,8 +50,6 @@ fn leak(
     let mut nexts = [0u64; 2];
     let mut fixed_heads = [0u64; 2];
     let mut fixed_nexts = [0u64; 1];
-    let mut log_words = [0u64; WORD_LANES * 4];
-    let mut log_values = [0f64; 4];
     let mut cand_words = [0u64; WORD_LANES * 4];
     let mut cand_sums = [0f64; 4];
     let mut next_words = [0u64; WORD_LANES * 4];
@@ -82,8 +80,6 @@ fn leak(
         &mut nexts,
         &mut fixed_heads,
         &mut fixed_nexts,
-        &mut log_words,
-        &mut log_values,
         &mut cand_words,
         &mut cand_sums,
         &mut next_words,

@@ -18,11 +18,11 @@ use Rattle.model.specs.Stored.{ModelTables}
 use Rattle.lent.specs.Read.{Read, got, refused, onward}
 use Rattle.model.specs.declared.stored.Model.{Model}
 use Rattle.passes.specs.Leaks.{takenBy, largest, ended, passSize, passCount, passes, touchedAt, candidatesOf}
-use Rattle.passes.proofs.RoomLaws.{largest-count}
+use Rattle.passes.proofs.RoomLaws.{largest-count, largest-rising}
 use Rattle.leakage.specs.Leakages.{Basis}
 use Rattle.limits.specs.declared.Limits.{Limits}
 use Rattle.leakage_laws.specs.Calls.{basisWords, basisCoeffs, leaksOf, roomOf, passOf, stayAfter, heldIn, LargestStay}
-use Rattle.leakage_laws.proofs.KeepLaws.{roomFlags, flags-each, largest-flagged, largest-first, largest-fits, largest-rising, SumsFit, gathered-fits, gathered-rising, taken-same, no-rows, ended-finite, ended-compared}
+use Rattle.leakage_laws.proofs.KeepLaws.{roomFlags, flags-each, largest-flagged, largest-first, largest-fits, SumsFit, gathered-fits, gathered-rising, taken-same, no-rows, ended-finite, ended-compared}
 
 module _ (m : Model) (t : ModelTables) (b : Basis) (l : Limits) where
   abbrev room : ℕ

@@ -27,7 +27,7 @@ use Rattle.keep.specs.Chosen.{flagOf, chosen}
 use Rattle.keep.proofs.FlagLaws.{Kept}
 use Rattle.keep.proofs.ChosenLaws.{walked-length, chosen-more}
 use Rattle.keep.proofs.PruneLaws.{Number}
-use Rattle.candidates.specs.Sums.{Row, row, putOver, putAll, AllAfter, Rising}
+use Rattle.candidates.specs.Sums.{Row, row, putOver, putAll, Rising}
 use Rattle.candidates.specs.Tables.{Rows, putRow, putRows}
 use Rattle.candidates.proofs.RisingLaws.{rising-rows}
 use Rattle.lent.specs.Read.{got, refused, refuseIf}

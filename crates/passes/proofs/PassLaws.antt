@@ -19,7 +19,7 @@ use Rattle.sums.specs.declared.sums.Added.the-variants as Put
 use Rattle.candidates.specs.Tables.{Rows, candidateRows, putRows, inWordOrder}
 use Rattle.candidates.specs.Between.{Standing, Puts}
 use Rattle.model.specs.Terms.{Term}
-use Rattle.lent.specs.Read.{Read, got, refused}
+use Rattle.lent.specs.Read.{Read, refused}
 use Rattle.model.specs.Stored.{ModelTables}
 use Rattle.model.specs.declared.stored.Model.{Model}
 use Rattle.action.specs.Acts.{actionOf}

@@ -24,7 +24,7 @@ use Rattle.passes.specs.declared.taken.Taken.{Taken}
 use Rattle.passes.specs.declared.taken.Taken.the-variants.{Held, Refused}
 use Rattle.passes.proofs.TookLaws.{took-held, took-refused, stood-held, stood-refused}
 use Rattle.passes.proofs.RoomLaws.{stand-orderable}
-use Rattle.passes.specs.Between.{ModelReady, ActionRoom, Holding, Stood, Took}
+use Rattle.passes.specs.Between.{ModelReady, ActionRoom, Stood, Took}
 
 -- ---- tables that a pass has written keep their lengths, and so what is asked of them
 pub ready-still : (m : Model) (t : ModelTables) (hIndex jIndex mask mask′ : List ℕ) → ModelReady m t hIndex jIndex mask → length mask′ ≡ length mask → ModelReady m t hIndex jIndex mask′
@@ -32,9 +32,6 @@ ready-still m t hIndex jIndex mask mask′ r e = record { tested = r .tested; in
 
 pub action-room-still : (room : ℕ) (workWords workWords′ : List ℕ) (workSums workSums′ : List Float) → ActionRoom room workWords workSums → length workWords′ ≡ length workWords → length workSums′ ≡ length workSums → ActionRoom room workWords′ workSums′
 action-room-still room workWords workWords′ workSums workSums′ r e1 e2 = record { work-words = omega (arith, r .work-words, e1); work-sums = omega (arith, r .work-sums, e2) }
-
-pub holding-still : (room n n′ : ℕ) (lanes lanes′ : List ℕ) (sums sums′ : List Float) → Holding room n lanes sums → length lanes′ ≡ length lanes → length sums′ ≡ length sums → n′ ≤ room → Holding room n′ lanes′ sums′
-holding-still room n n′ lanes lanes′ sums sums′ h el es l = record { lanes-long = omega (arith, h .lanes-long, el); sums-long = omega (arith, h .sums-long, es); inside = l }
 
 -- ---- the positions of a pass
 module _ (ps : List ℕ) (from to : ℕ) (is : to ≡ min (from + passSize) (length ps)) where

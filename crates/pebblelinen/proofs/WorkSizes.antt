@@ -4,11 +4,11 @@
 -- In work tables of the lengths that `leakageSizes`, `generatorSizes` and `evolutionSizes` name, no work table decides what leakage, the
 -- generator, the matrix by rows, the norm and the evolution test: of any two such lendings the tests end alike. And there is room for the words touched, the
 -- candidates and the entries that the lengths were named for. Assumes nothing.
-use Prim.Native.Nat.{ℕ, suc, _+_, _*_, _/_, _≤_, min, max}
+use Prim.Native.Nat.{ℕ, suc, _+_, _*_, _/_, _≤_, min}
 use mathlib.Core.Path.{_≡_, refl}
 use mathlib.Core.Bool.{Bool, true, false, cond}
 use mathlib.Core.List.{List}
-use native.Mathlib.Nat.{le-trans, le-min, le-max-left, le-max-right}
+use native.Mathlib.Nat.{le-trans, le-min}
 use native.Mathlib.Numerals.{add-one}
 use native.Mathlib.Omega.{arith}
 use borrow.Author.Tests.{le-ltb, ltb-false}
@@ -78,8 +78,6 @@ pub record LeakageLent (s : LeakageSizes) (w : Leak.Work) : Type 0 where
   pub nexts : s .nexts ≤ length (w .nexts)
   pub fixed-heads : s .«fixed_heads» ≤ length (w .fixedHeads)
   pub fixed-nexts : s .«fixed_nexts» ≤ length (w .fixedNexts)
-  pub log-words : s .«log_words» ≤ length (w .logWords)
-  pub log-values : s .«log_values» ≤ length (w .logValues)
   pub cand-words : s .«cand_words» ≤ length (w .candWords)
   pub cand-sums : s .«cand_sums» ≤ length (w .candSums)
   pub next-words : s .«next_words» ≤ length (w .nextWords)
@@ -114,15 +112,14 @@ module _ (qubits entries protected touched candidates : ℕ) (w : Leak.Work) (a 
   unfolding leakageSizes Leak.actionPlaces
   touched-room h =
       let e : touched ≤ t = omega arith in
-      let l : touched ≤ max t c = le-trans e (le-max-left t c) in
-      le-min (le-min (quarter touched t e (a .work-words)) (half touched t e (a .work-sums))) (le-min (le-min (quarter touched (max t c) l (a .log-words)) (le-trans l (a .log-values))) (le-min (le-trans l (a .place-order)) (le-trans l (a .place-work))))
+      le-min (quarter touched t e (a .work-words)) (half touched t e (a .work-sums))
 
   pub candidates-room : candidates ≤ maxPlaces → candidates ≤ Leak.candidatePlaces w
   unfolding leakageSizes Leak.rowPlaces
   candidates-room h =
       let e : candidates ≤ c = omega arith in
-      let l : candidates ≤ max t c = le-trans e (le-max-right t c) in
-      le-min (le-min (le-min (quarter candidates c e (a .cand-words)) (le-trans e (a .cand-sums))) (le-min (quarter candidates c e (a .next-words)) (le-trans e (a .next-sums)))) (le-min (le-min (le-trans l (a .place-order)) (le-trans l (a .place-work))) (le-trans e (a .place-kept)))
+      let l : candidates ≤ 2 * c = omega arith in
+      le-min (le-min (le-min (quarter candidates c e (a .cand-words)) (le-trans e (a .cand-sums))) (le-min (quarter candidates c e (a .next-words)) (le-trans e (a .next-sums)))) (le-min (le-min (le-trans l (a .place-order)) (le-trans e (a .place-work))) (le-trans e (a .place-kept)))
 
 pub leakage-enough : (m : Model) (t : ModelTables) (b : Leak.Basis) (l : Limits) (touched candidates : ℕ) (w w′ : Leak.Work)
     → LeakageLent (leakageSizes (m .qubits) (b .len) (length (b .protected) / wordLanes) touched candidates) w

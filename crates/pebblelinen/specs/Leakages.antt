@@ -2,7 +2,7 @@
 -- SPDX-License-Identifier: Apache-2.0
 
 -- What leakage answers in plain numbers, and the lengths of its work tables.
-use Prim.Native.Nat.{ℕ, _*_, min, max}
+use Prim.Native.Nat.{ℕ, _*_, min}
 use mathlib.Core.Path.{_≡_}
 use mathlib.Core.List.{List}
 use lib.Ieee.{Float}
@@ -28,8 +28,8 @@ abbrev pub maxPlaces : ℕ
 maxPlaces = 4294967295
 
 -- the lengths for a register, a basis of so many entries, so many protected words, actions that touch so many words, and so many
--- candidates at a time: twice as many slots as words, and a log of as many entries as the candidates or the words of one action; for no
--- entries neither rows nor slots
+-- candidates at a time: twice as many slots as words, of the basis, of the protected words and of the candidates; for no entries neither
+-- rows nor slots of these two
 unfoldable pub leakageSizes : ℕ → ℕ → ℕ → ℕ → ℕ → LeakageSizes
 leakageSizes qubits entries protected touched candidates =
     let rows : ℕ = whereAny entries (rowLanes * min qubits maxQubits) in
@@ -37,7 +37,6 @@ leakageSizes qubits entries protected touched candidates =
     let p : ℕ = min (whereAny entries protected) maxWords in
     let t : ℕ = min touched maxPlaces in
     let c : ℕ = min candidates maxPlaces in
-    let l : ℕ = max t c in
     record {
       «h_index» = rows;
       «j_index» = rows;
@@ -49,13 +48,11 @@ leakageSizes qubits entries protected touched candidates =
       nexts = e;
       «fixed_heads» = 2 * p;
       «fixed_nexts» = p;
-      «log_words» = wordLanes * l;
-      «log_values» = l;
       «cand_words» = wordLanes * c;
       «cand_sums» = c;
       «next_words» = wordLanes * c;
       «next_sums» = c;
-      «place_order» = l;
-      «place_work» = l;
+      «place_order» = 2 * c;
+      «place_work» = c;
       «place_kept» = c;
     }

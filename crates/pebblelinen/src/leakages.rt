@@ -8,7 +8,6 @@ ghost use Rattle.pebblelinen.specs.Leakages.{LeavesLeakage, leakageSizes
 use crate::actions::ListedWords;
 use crate::actions::listed_of;
 use action::words::ROW_LANES;
-use lent::sizes::larger;
 use lent::sizes::smaller;
 use lent::tests::where_any;
 use lent::words::MAX_WORDS;
@@ -44,8 +43,6 @@ pub extern "C" fn pebblelinen_leakage_with_prune(
     nexts: &mut [u64],
     fixed_heads: &mut [u64],
     fixed_nexts: &mut [u64],
-    log_words: &mut [u64],
-    log_values: &mut [f64],
     cand_words: &mut [u64],
     cand_sums: &mut [f64],
     next_words: &mut [u64],
@@ -56,7 +53,7 @@ pub extern "C" fn pebblelinen_leakage_with_prune(
     out_words: &mut [u64],
     out_values: &mut [f64],
 ) -> ListedWords
-    ensures { λ r. ⌜ LeavesLeakage (leak (now («out_words» .entry)) (now («out_values» .entry)) (workOf (now («h_index» .entry)) (now («j_index» .entry)) (now (mask .entry)) (now («work_words» .entry)) (now («work_sums» .entry)) (now (order .entry)) (now (heads .entry)) (now (nexts .entry)) (now («fixed_heads» .entry)) (now («fixed_nexts» .entry)) (now («log_words» .entry)) (now («log_values» .entry)) (now («cand_words» .entry)) (now («cand_sums» .entry)) (now («next_words» .entry)) (now («next_sums» .entry)) (now («place_order» .entry)) (now («place_work» .entry)) (now («place_kept» .entry))) model (record { hWords = now («h_words» .entry); hCoeffs = now («h_coeffs» .entry); jumps = now (jumps .entry); rates = now (rates .entry); tWords = now («t_words» .entry); tNumbers = now («t_numbers» .entry) }) (basisOf (now (words .entry)) (now (coeffs .entry)) len (now (protected .entry))) limits) r (now («out_words» .exit)) (now («out_values» .exit)) (workOf (now («h_index» .exit)) (now («j_index» .exit)) (now (mask .exit)) (now («work_words» .exit)) (now («work_sums» .exit)) (now (order .exit)) (now (heads .exit)) (now (nexts .exit)) (now («fixed_heads» .exit)) (now («fixed_nexts» .exit)) (now («log_words» .exit)) (now («log_values» .exit)) (now («cand_words» .exit)) (now («cand_sums» .exit)) (now («next_words» .exit)) (now («next_sums» .exit)) (now («place_order» .exit)) (now («place_work» .exit)) (now («place_kept» .exit))) ⌝ }
+    ensures { λ r. ⌜ LeavesLeakage (leak (now («out_words» .entry)) (now («out_values» .entry)) (workOf (now («h_index» .entry)) (now («j_index» .entry)) (now (mask .entry)) (now («work_words» .entry)) (now («work_sums» .entry)) (now (order .entry)) (now (heads .entry)) (now (nexts .entry)) (now («fixed_heads» .entry)) (now («fixed_nexts» .entry)) (now («cand_words» .entry)) (now («cand_sums» .entry)) (now («next_words» .entry)) (now («next_sums» .entry)) (now («place_order» .entry)) (now («place_work» .entry)) (now («place_kept» .entry))) model (record { hWords = now («h_words» .entry); hCoeffs = now («h_coeffs» .entry); jumps = now (jumps .entry); rates = now (rates .entry); tWords = now («t_words» .entry); tNumbers = now («t_numbers» .entry) }) (basisOf (now (words .entry)) (now (coeffs .entry)) len (now (protected .entry))) limits) r (now («out_words» .exit)) (now («out_values» .exit)) (workOf (now («h_index» .exit)) (now («j_index» .exit)) (now (mask .exit)) (now («work_words» .exit)) (now («work_sums» .exit)) (now (order .exit)) (now (heads .exit)) (now (nexts .exit)) (now («fixed_heads» .exit)) (now («fixed_nexts» .exit)) (now («cand_words» .exit)) (now («cand_sums» .exit)) (now («next_words» .exit)) (now («next_sums» .exit)) (now («place_order» .exit)) (now («place_work» .exit)) (now («place_kept» .exit))) ⌝ }
 {
     listed_of(leakage::leak::leakage_with_prune(
         model,
@@ -81,8 +78,6 @@ pub extern "C" fn pebblelinen_leakage_with_prune(
         nexts,
         fixed_heads,
         fixed_nexts,
-        log_words,
-        log_values,
         cand_words,
         cand_sums,
         next_words,
@@ -108,8 +103,6 @@ pub struct LeakageSizes {
     pub nexts: usize,
     pub fixed_heads: usize,
     pub fixed_nexts: usize,
-    pub log_words: usize,
-    pub log_values: usize,
     pub cand_words: usize,
     pub cand_sums: usize,
     pub next_words: usize,
@@ -135,7 +128,6 @@ pub extern "C" fn pebblelinen_leakage_sizes(
     let p = smaller(where_any(entries, protected), MAX_WORDS);
     let t = smaller(touched, MAX_PLACES);
     let c = smaller(candidates, MAX_PLACES);
-    let l = larger(t, c);
     LeakageSizes {
         h_index: rows,
         j_index: rows,
@@ -147,14 +139,12 @@ pub extern "C" fn pebblelinen_leakage_sizes(
         nexts: e,
         fixed_heads: 2 * p,
         fixed_nexts: p,
-        log_words: WORD_LANES * l,
-        log_values: l,
         cand_words: WORD_LANES * c,
         cand_sums: c,
         next_words: WORD_LANES * c,
         next_sums: c,
-        place_order: l,
-        place_work: l,
+        place_order: 2 * c,
+        place_work: c,
         place_kept: c,
     }
 }

@@ -163,7 +163,6 @@ pub fn room(rng: &mut Rng, n_qubits: usize, given: &Given, places: Places) -> Le
     let protected = given.protected.len() / WORD_LANES;
     let needed = leakage_sizes(n_qubits, given.len, protected, touched, held);
     let mut more = |least: usize| least + rng.pick(&[0, 0, 0, 1, 3, 100]);
-    let (log, order) = (more(touched), more(touched.max(held)));
     let lengths = LeakageSizes {
         h_index: more(needed.h_index),
         mask: more(needed.mask),
@@ -171,12 +170,10 @@ pub fn room(rng: &mut Rng, n_qubits: usize, given: &Given, places: Places) -> Le
         order: more(needed.order),
         heads: more(given.len),
         fixed_heads: more(protected),
-        log_words: more(WORD_LANES * log),
-        log_values: more(log),
         cand_sums: more(needed.cand_sums),
         next_words: more(needed.next_words),
-        place_order: order,
-        place_work: more(order),
+        place_order: more(held),
+        place_work: more(held),
         place_kept: more(needed.place_kept),
         ..needed
     };
@@ -197,8 +194,6 @@ pub fn filled(rng: &mut Rng, sizes: LeakageSizes, out_words: usize, out_values: 
         nexts: lanes(rng, sizes.nexts),
         fixed_heads: lanes(rng, sizes.fixed_heads),
         fixed_nexts: lanes(rng, sizes.fixed_nexts),
-        log_words: lanes(rng, sizes.log_words),
-        log_values: numbers(sizes.log_values),
         cand_words: lanes(rng, sizes.cand_words),
         cand_sums: numbers(sizes.cand_sums),
         next_words: lanes(rng, sizes.next_words),

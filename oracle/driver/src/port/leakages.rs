@@ -31,8 +31,6 @@ pub struct LeakageSizes {
     pub nexts: usize,
     pub fixed_heads: usize,
     pub fixed_nexts: usize,
-    pub log_words: usize,
-    pub log_values: usize,
     pub cand_words: usize,
     pub cand_sums: usize,
     pub next_words: usize,
@@ -66,8 +64,6 @@ pub struct LeakRoom {
     pub nexts: Vec<u64>,
     pub fixed_heads: Vec<u64>,
     pub fixed_nexts: Vec<u64>,
-    pub log_words: Vec<u64>,
-    pub log_values: Vec<f64>,
     pub cand_words: Vec<u64>,
     pub cand_sums: Vec<f64>,
     pub next_words: Vec<u64>,
@@ -93,8 +89,6 @@ impl LeakRoom {
             nexts: vec![0; lengths.nexts],
             fixed_heads: vec![0; lengths.fixed_heads],
             fixed_nexts: vec![0; lengths.fixed_nexts],
-            log_words: vec![0; lengths.log_words],
-            log_values: vec![0.0; lengths.log_values],
             cand_words: vec![0; lengths.cand_words],
             cand_sums: vec![0.0; lengths.cand_sums],
             next_words: vec![0; lengths.next_words],
@@ -108,7 +102,7 @@ impl LeakRoom {
     }
 
     /// The tables of lanes and places that are work tables.
-    pub fn work_lanes(&mut self) -> [&mut Vec<u64>; 15] {
+    pub fn work_lanes(&mut self) -> [&mut Vec<u64>; 14] {
         [
             &mut self.h_index,
             &mut self.j_index,
@@ -119,7 +113,6 @@ impl LeakRoom {
             &mut self.nexts,
             &mut self.fixed_heads,
             &mut self.fixed_nexts,
-            &mut self.log_words,
             &mut self.cand_words,
             &mut self.next_words,
             &mut self.place_order,
@@ -129,17 +122,16 @@ impl LeakRoom {
     }
 
     /// Those of numbers.
-    pub fn work_numbers(&mut self) -> [&mut Vec<f64>; 4] {
+    pub fn work_numbers(&mut self) -> [&mut Vec<f64>; 3] {
         [
             &mut self.work_sums,
-            &mut self.log_values,
             &mut self.cand_sums,
             &mut self.next_sums,
         ]
     }
 
     /// All tables of lanes and places, and all of numbers.
-    fn tables(&self) -> ([&Vec<u64>; 16], [&Vec<f64>; 5]) {
+    fn tables(&self) -> ([&Vec<u64>; 15], [&Vec<f64>; 4]) {
         let lanes = [
             &self.h_index,
             &self.j_index,
@@ -150,7 +142,6 @@ impl LeakRoom {
             &self.nexts,
             &self.fixed_heads,
             &self.fixed_nexts,
-            &self.log_words,
             &self.cand_words,
             &self.next_words,
             &self.place_order,
@@ -160,7 +151,6 @@ impl LeakRoom {
         ];
         let numbers = [
             &self.work_sums,
-            &self.log_values,
             &self.cand_sums,
             &self.next_sums,
             &self.out_values,
@@ -181,8 +171,6 @@ impl LeakRoom {
             nexts: self.nexts.len(),
             fixed_heads: self.fixed_heads.len(),
             fixed_nexts: self.fixed_nexts.len(),
-            log_words: self.log_words.len(),
-            log_values: self.log_values.len(),
             cand_words: self.cand_words.len(),
             cand_sums: self.cand_sums.len(),
             next_words: self.next_words.len(),
@@ -275,10 +263,6 @@ unsafe extern "C" {
         fixed_heads_len: usize,
         fixed_nexts: *mut u64,
         fixed_nexts_len: usize,
-        log_words: *mut u64,
-        log_words_len: usize,
-        log_values: *mut f64,
-        log_values_len: usize,
         cand_words: *mut u64,
         cand_words_len: usize,
         cand_sums: *mut f64,
@@ -356,10 +340,6 @@ pub fn leakage_with_prune(model: Model, lent: &Lent, given: &Given, room: &mut L
             room.fixed_heads.len(),
             room.fixed_nexts.as_mut_ptr(),
             room.fixed_nexts.len(),
-            room.log_words.as_mut_ptr(),
-            room.log_words.len(),
-            room.log_values.as_mut_ptr(),
-            room.log_values.len(),
             room.cand_words.as_mut_ptr(),
             room.cand_words.len(),
             room.cand_sums.as_mut_ptr(),

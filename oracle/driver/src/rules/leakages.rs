@@ -34,7 +34,6 @@ pub fn leakage_sizes(
     let protected = where_any(entries, protected.min(MAX_WORDS));
     let entries = entries.min(MAX_WORDS);
     let (touched, candidates) = (touched.min(MAX_PLACES), candidates.min(MAX_PLACES));
-    let both = touched.max(candidates);
     LeakageSizes {
         h_index: rows,
         j_index: rows,
@@ -46,14 +45,12 @@ pub fn leakage_sizes(
         nexts: entries,
         fixed_heads: 2 * protected,
         fixed_nexts: protected,
-        log_words: WORD_LANES * both,
-        log_values: both,
         cand_words: WORD_LANES * candidates,
         cand_sums: candidates,
         next_words: WORD_LANES * candidates,
         next_sums: candidates,
-        place_order: both,
-        place_work: both,
+        place_order: 2 * candidates,
+        place_work: candidates,
         place_kept: candidates,
     }
 }
@@ -240,15 +237,7 @@ pub fn course(acting: &Acting, is_outside: Outside, room: usize) -> Option<Cours
 // ---- the call
 
 fn sum_places(room: &LeakRoom) -> usize {
-    let slices = [
-        room.work_words.len() / WORD_LANES,
-        room.work_sums.len() / 2,
-        room.log_words.len() / WORD_LANES,
-        room.log_values.len(),
-        room.place_order.len(),
-        room.place_work.len(),
-    ];
-    slices.into_iter().min().expect("there are slices")
+    (room.work_words.len() / WORD_LANES).min(room.work_sums.len() / 2)
 }
 
 fn candidate_places(room: &LeakRoom) -> usize {

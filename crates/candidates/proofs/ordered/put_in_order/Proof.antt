@@ -8,9 +8,9 @@ use Prim.Native.Nat.{_*_}
 use native.Mathlib.Omega.{arith}
 use borrow.Author.Needs.{needs}
 use lib.ListN.{length, take, drop}
-use lib.Seq.{length-take-le, take-at}
+use lib.Seq.{length-take-le, length-front, take-at}
 use Rattle.word.specs.Flat.{wordLanes}
-use Rattle.candidates.proofs.RowLaws.{first-entries, table-long}
+use Rattle.candidates.proofs.RowLaws.{first-entries}
 use Rattle.candidates.proofs.ordered.put_in_order.Statement.{statement}
 use Rattle.candidates.proofs.ordered.put_in_order.Tie as tie
 
@@ -90,10 +90,10 @@ put-in-order-spec =
     order-taken-2
     copy-in-order-requires
     copy-rows-requires
-    (λ c. search needs)
-    (λ c. search needs)
-    (λ c. search needs)
-    (λ c. search needs)
-    (λ c. search needs)
-    (λ c. search needs)
+    (λ c. c .before .before .before .before .copy-rows .kept .1 .1 .1 .0)
+    (λ c. c .before .before .before .before .copy-rows .kept .1 .1 .1 .1 .0)
+    (λ c. length-front (c .before .before .before .before .before .before .before .before .before .before .before .before .before .before .before .before .before .before .before .before .before .before .before .before .before .before .before .before .before .before .before .before .before .args .order .now) (c .before .before .before .before .before .before .before .before .before .before .before .before .before .before .before .before .before .before .before .before .before .before .before .order-words .last .1 .0) (c .before .before .before .before .before .before .before .before .before .before .before .before .before .before .before .before .before .before .before .before .before .before .before .before .before .before .before .before .before .before .before .before .before .args .n) (c .before .before .before .before .before .before .before .before .before .before .before .before .before .before .before .before .before .before .before .before .before .before .before .order-words .kept .1 .0))
+    (λ c. length-front (c .before .before .before .before .before .before .before .before .before .before .before .before .before .before .before .before .before .before .before .before .before .before .before .before .before .before .before .before .before .before .before .before .before .args .work .now) (c .before .before .before .before .before .before .before .before .before .before .before .before .before .before .before .before .before .before .before .before .before .before .before .order-words .last .1 .1 .0) (c .before .before .before .before .before .before .before .before .before .before .before .before .before .before .before .before .before .before .before .before .before .before .before .before .before .before .before .before .before .before .before .before .before .args .n) (c .before .before .before .before .before .before .before .before .before .before .before .before .before .before .before .before .before .before .before .before .before .before .before .order-words .kept .1 .1 .0))
+    (λ c. c .before .before .before .before .before .before .before .before .before .before .before .before .before .copy-in-order .kept .1 .1 .1 .0)
+    (λ c. c .before .before .before .before .before .before .before .before .before .before .before .before .before .copy-in-order .kept .1 .1 .1 .1 .0)
     returns)

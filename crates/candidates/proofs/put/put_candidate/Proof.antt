@@ -6,7 +6,6 @@ use mathlib.Core.Path.{sym}
 use Prim.Native.Nat.{_*_, _-_, _<_}
 use native.Mathlib.Omega.{arith}
 use borrow.Author.Needs.{needs}
-use lib.ListN.{length}
 use lib.Seq.{length-take-le}
 use Rattle.word.specs.Flat.{wordLanes}
 use Rattle.candidates.proofs.StandLaws.{front-slots, place-low, put-added, put-no-place, put-new-row}

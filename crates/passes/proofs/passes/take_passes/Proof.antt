@@ -14,7 +14,7 @@ use Rattle.candidates.specs.Between.{Standing}
 use Rattle.model.specs.Stored.{ModelTables}
 use Rattle.model.specs.Between.{modelTables}
 use Rattle.passes.specs.Leaks.{passes, passCount, touchedAt, leaksAt}
-use Rattle.passes.proofs.PassesLaws.{ready-still, action-room-still, holding-still, rest, first-rest, pass-refused, end-refused, end-held, passes-end}
+use Rattle.passes.proofs.PassesLaws.{ready-still, action-room-still, rest, first-rest, pass-refused, end-refused, end-held, passes-end}
 use borrow.Author.Needs.{needs}
 use Rattle.passes.proofs.passes.take_passes.Statement.{statement}
 use Rattle.passes.proofs.passes.take_passes.Tie as tie

@@ -2,11 +2,8 @@
 -- SPDX-License-Identifier: Apache-2.0
 
 -- `room::cut_rows` meets its contract: the rows are in word order when the largest are chosen. Assumes nothing.
-use mathlib.Core.Path.{ap, sym, _∙_}
+use mathlib.Core.Path.{ap, _∙_}
 use native.Mathlib.Omega.{arith}
-use borrow.Author.Needs.{needs}
-use Rattle.candidates.specs.Tables.{Rows}
-use Rattle.passes.specs.Between.{FiniteRows}
 use Rattle.passes.specs.Leaks.{largest}
 use Rattle.passes.proofs.RoomLaws.{rows-finite, cut-none}
 use Rattle.passes.proofs.room.cut_rows.Statement.{statement}
@@ -40,11 +37,11 @@ cut-rows-spec =
     returns
     (λ c κs. c .before .before .before .before .before .before .before .before .before .before .before .before .before .before .pre .0)
     keep-largest-requires
-    (λ c. search needs)
-    (λ c. search needs)
-    (λ c. search needs)
-    (λ c. search needs)
-    (λ c. search needs)
-    (λ c. search needs)
-    (λ c. search needs)
+    (λ c. c .before .before .before .before .before .before .before .before .before .before .keep-largest .kept .0 ∙ c .before .before .before .before .before .before .before .before .before .before .before .before .before .before .before .before .before .before .before .before .before .before .before .before .before .before .before .before .put-in-order .kept .0)
+    (λ c. c .before .before .before .before .before .before .before .before .before .before .keep-largest .kept .1 .0 ∙ c .before .before .before .before .before .before .before .before .before .before .before .before .before .before .before .before .before .before .before .before .before .before .before .before .before .before .before .before .put-in-order .kept .1 .0)
+    (λ c. c .before .before .before .before .before .before .before .before .before .before .keep-largest .kept .1 .1 .1 .1 .0 ∙ c .before .before .before .before .before .before .before .before .before .before .before .before .before .before .before .before .before .before .before .before .before .before .before .before .before .before .before .before .put-in-order .kept .1 .1 .1 .0)
+    (λ c. c .before .before .before .before .before .before .before .before .before .before .keep-largest .kept .1 .1 .1 .1 .1 .0 ∙ c .before .before .before .before .before .before .before .before .before .before .before .before .before .before .before .before .before .before .before .before .before .before .before .before .before .before .before .before .put-in-order .kept .1 .1 .1 .1 .0)
+    (λ c. c .before .before .before .before .before .before .before .before .before .before .keep-largest .kept .1 .1 .1 .1 .1 .1 .0)
+    (λ c. c .before .before .before .before .before .before .before .before .before .before .before .before .before .before .before .before .before .before .before .before .before .before .before .before .before .before .before .before .put-in-order .kept .1 .1 .1 .1 .1 .0)
+    (λ c. c .before .before .before .before .before .before .before .before .before .before .before .before .before .before .before .before .before .before .before .before .before .before .before .before .before .before .before .before .put-in-order .kept .1 .1 .1 .1 .1 .1 .0)
     returns-2)

@@ -11,7 +11,7 @@ use Rattle.pebblelinen.proofs.leakages.pebblelinen_leakage_sizes.Tie as
 returns : tie.Need-returns
 unfolding leakageSizes
 returns c =
-    rw (← (c .before .before .before .before .before .before .before .before .smaller .ensures), ← (c .before .before .before .before .before .before .before .where-any .ensures), ← (c .before .before .before .before .before .before .where-any2 .ensures), ← (c .before .before .before .before .before .smaller2 .ensures), ← (c .before .before .before .before .where-any3 .ensures), ← (c .before .before .before .smaller3 .ensures), ← (c .before .before .smaller4 .ensures), ← (c .before .smaller5 .ensures), ← (c .larger .ensures))
+    rw (← (c .before .before .before .before .before .before .before .smaller .ensures), ← (c .before .before .before .before .before .before .where-any .ensures), ← (c .before .before .before .before .before .where-any2 .ensures), ← (c .before .before .before .before .smaller2 .ensures), ← (c .before .before .before .where-any3 .ensures), ← (c .before .before .smaller3 .ensures), ← (c .before .smaller4 .ensures), ← (c .smaller5 .ensures))
     refl
 
 pub pebblelinen-leakage-sizes-spec : {M : Type 1} → statement M
@@ -20,7 +20,6 @@ pebblelinen-leakage-sizes-spec =
     (tie.spec
     (λ c κs. search needs)
     (λ c. search needs)
-    (λ c κs. search needs)
     (λ c κs. search needs)
     (λ c κs. search needs)
     (λ c κs. search needs)
