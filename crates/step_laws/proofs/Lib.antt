@@ -2,3 +2,7 @@
 -- SPDX-License-Identifier: Apache-2.0
 
 -- Laws of the step.
+pub mod PickLaws
+pub mod CourseLaws
+pub mod EndLaws
+pub mod StepLaws

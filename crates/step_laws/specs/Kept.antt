@@ -5,7 +5,7 @@
 use Prim.Native.Nat.{ℕ, _≤_, _<_, max}
 use mathlib.Core.Path.{_≡_}
 use mathlib.Core.Bool.{true}
-use mathlib.Core.List.{List}
+use mathlib.Core.List.{List, _++_}
 use lib.Dec.{T}
 use lib.Ieee.{Float, nan, binary64, fits}
 use lib.ListN.{length, getD}
@@ -14,7 +14,16 @@ use Rattle.number.specs.Floats.{isFinite}
 use Rattle.order.specs.Members.{Member}
 use Rattle.keep.specs.Retained.{flagged}
 use Rattle.lent.specs.Read.{Read, got}
-use Rattle.step_laws.specs.Steps.{Stepped, protectedIn}
+use Rattle.step_laws.specs.Steps.{Outcome, Stepped, withZeros, protectedIn}
+
+-- the words given stand first, those that entered behind them, and the numbers are the given ones, with a zero for each word that entered,
+-- evolved once over all of them
+pub record FromGiven (evolving : List Word → List Float → Read Outcome) (ws : List Word) (cs : List Float) (s : Stepped) : Type 0 where
+  pub entered : List Word
+  pub words-are : s .words ≡ ws ++ entered
+  pub last : Outcome
+  pub evolves : evolving (s .words) (withZeros cs (s .words)) ≡ got last
+  pub numbers-are : s .numbers ≡ last .numbers
 
 -- at most max(max_basis, protected positions at the cap) words: those of the basis that the cap gets
 pub record Few (protected : List Word) (limit : ℕ) (beforeCap : Read Stepped) (s : Stepped) : Type 0 where
