@@ -5,4 +5,6 @@
 pub mod PickLaws
 pub mod CourseLaws
 pub mod EndLaws
+pub mod RankLaws
+pub mod PlaceLaws
 pub mod StepLaws
