@@ -7,4 +7,6 @@ pub mod CourseLaws
 pub mod EndLaws
 pub mod RankLaws
 pub mod PlaceLaws
+pub mod LoweredLaws
+pub mod EvolvedLaws
 pub mod StepLaws
