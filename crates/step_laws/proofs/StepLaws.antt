@@ -2,7 +2,7 @@
 -- SPDX-License-Identifier: Apache-2.0
 
 -- What a step that is not refused keeps: how many words, the protected ones, and that nobody is lost where only max_basis is raised, up to
--- admit_basis. Assumes nothing.
+-- admit_basis, or only drop_tol lowered, on one side of 1e-4. Assumes nothing.
 use mathlib.Core.Path.{_≡_, refl, sym, ap, ap₂, subst, _∙_}
 use mathlib.Core.Bool.{Bool, true, false, cond}
 use mathlib.Core.List.{List}
@@ -10,22 +10,25 @@ use Prim.Native.Nat.{ℕ, _≤_, max}
 use native.Mathlib.Omega.{arith}
 use borrow.Author.Tests.{ne-eqb}
 use lib.Dec.{eqb}
-use lib.Ieee.{Float}
-use lib.ListN.{length}
+use lib.Ieee.{Float, le}
+use lib.ListN.{length, length-append}
 use Rattle.word.specs.declared.word.Word.{Word}
 use Rattle.order.specs.Places.{isAmong}
 use Rattle.order.specs.Members.{Member}
 use Rattle.keep.specs.Retained.{flagged}
+use Rattle.expm.specs.Theta.{decimal}
 use Rattle.lent.specs.Read.{Read, got, onward}
 use Rattle.model.specs.Stored.{ModelTables}
 use Rattle.model.specs.declared.stored.Model.{Model}
 use Rattle.limits.specs.Defaults.{limitOf, tauOf}
 use Rattle.limits.specs.declared.Limits.{Limits}
-use Rattle.step_laws.specs.Steps.{Places, Stepped, courseBy, protectedIn, prunedBy, cappedBy, hop, evolution, courseOf, beforeCap, stepOf}
-use Rattle.step_laws.specs.Kept.{FromGiven, Few, LosesNobody}
+use Rattle.step_laws.specs.Steps.{Places, Outcome, Stepped, withZeros, courseBy, protectedIn, prunedBy, cappedBy, hop, evolution, courseOf, beforeCap, stepOf}
+use Rattle.step_laws.specs.Kept.{FromGiven, Few, LosesNobody, Finite, AllFinite}
 use Rattle.step_laws.proofs.PickLaws.{member-append}
 use Rattle.step_laws.proofs.CourseLaws.{Through, through, same-value, course-leaves}
 use Rattle.step_laws.proofs.EndLaws.{prune-protected, cap-protected, cap-few, cap-raised}
+use Rattle.step_laws.proofs.LoweredLaws.{lowered-stays}
+use Rattle.step_laws.proofs.EvolvedLaws.{zeros-finite, zeros-long, evolution-leaves, evolution-same}
 
 module _ (m : Model) (t : ModelTables) (protected : List Word) (dt : Float) (places : Places) where
   -- ---- the parts of a step that is not refused
@@ -100,4 +103,33 @@ module _ (m : Model) (t : ModelTables) (protected : List Word) (dt : Float) (pla
             after = cappedBy protected (l′ .«max_basis») pruned;
             accepted = ap (λ (r : Read Stepped). onward (onward r (λ g. got (prunedBy protected dropTol g))) (λ b. got (cappedBy protected (l′ .«max_basis») b))) (course-same ∙ p .course);
             stays = λ w h. cap-raised protected pruned (l .«max_basis») (l′ .«max_basis») raised w (subst (λ (x : Stepped). Member w (x .words)) (p .is) h);
+          }
+
+    -- ---- only drop_tol is lowered, on one side of 1e-4
+    module _ (each : length cs ≡ length ws) (numbers : AllFinite cs) (dropTol′ : Float) (finite : Finite dropTol) (finite′ : Finite dropTol′)
+        (lowered : le dropTol′ dropTol ≡ true) (one-side : le (decimal 1 4) dropTol ≡ le (decimal 1 4) dropTol′) where
+      -- the numbers before prune and cap: one for each word, all finite
+      grown-leaves : (g : Stepped) → courseOf m t protected dt places l dropTol ws cs ≡ got g → (length (g .numbers) ≡ length (g .words)) × AllFinite (g .numbers)
+      grown-leaves g e =
+          let f = from-given l dropTol ws cs g e in
+          let k : length cs ≤ length (g .words) = omega (arith, each, ap length (f .words-are), length-append ws (f .entered)) in
+          let v = evolution-leaves m t protected dt places dropTol (g .words) (withZeros cs (g .words)) (f .last) (zeros-finite cs (g .words) numbers) (f .evolves) in
+          (ap length (f .numbers-are) ∙ v .long ∙ zeros-long cs (g .words) k, subst AllFinite (sym (f .numbers-are)) (v .finite))
+
+      course-alike : courseOf m t protected dt places l dropTol ws cs ≡ courseOf m t protected dt places l dropTol′ ws cs
+      unfolding courseOf
+      course-alike =
+          ap (λ (e : List Word → List Float → Read Outcome). courseBy (hop m t protected dt places (limitOf l) (tauOf l)) e (limitOf l) ws cs)
+          (evolution-same m t protected dt places dropTol dropTol′ one-side)
+
+      pub drop-tol-loses-nobody : LosesNobody s (stepOf m t protected dt places l dropTol′ ws cs)
+      unfolding stepOf beforeCap
+      drop-tol-loses-nobody =
+          let p = parts l dropTol ws cs s accepted in
+          let g = grown-leaves (p .grown) (p .course) in
+          record {
+            after = cappedBy protected (l .«max_basis») (prunedBy protected dropTol′ (p .grown));
+            accepted = ap (λ (r : Read Stepped). onward (onward r (λ g. got (prunedBy protected dropTol′ g))) (λ b. got (cappedBy protected (l .«max_basis») b))) (sym course-alike ∙ p .course);
+            stays = λ w h.
+            lowered-stays protected (p .grown) (g .0) (g .1) (l .«max_basis») dropTol dropTol′ finite finite′ lowered w (subst (λ (x : Stepped). Member w (x .words)) (p .is) h);
           }
