@@ -1,0 +1,12 @@
+-- SPDX-FileCopyrightText: 2026 The PPVM Authors
+-- SPDX-License-Identifier: Apache-2.0
+
+-- Laws of the step.
+pub mod PickLaws
+pub mod CourseLaws
+pub mod EndLaws
+pub mod RankLaws
+pub mod PlaceLaws
+pub mod LoweredLaws
+pub mod EvolvedLaws
+pub mod StepLaws
