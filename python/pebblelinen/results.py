@@ -17,6 +17,7 @@ import csv
 import io
 import json
 import os
+import zlib
 from collections.abc import Mapping
 from typing import Any
 
@@ -125,13 +126,14 @@ def load_h5py() -> Any:
 
 def _hdf5(h5py: Any, pairs: list[tuple[str, Result]]) -> bytes:
     made = io.BytesIO()
-    with h5py.File(made, "w") as file:
-        file.attrs["format"] = _FORMAT
+    with _new_file(h5py, made) as file:
+        _say(h5py, file, "format", _FORMAT)
         file.attrs["layout"] = _LAYOUT
-        file.attrs["version"] = __version__
+        file.attrs["results"] = len(pairs)
+        _say(h5py, file, "version", __version__)
         for place, (label, result) in enumerate(pairs):
-            group = file.create_group(str(place))
-            group.attrs["label"] = label
+            group = _new_group(h5py, file, str(place))
+            _say(h5py, group, "label", label)
             if is_checked(result):
                 _put_checked(h5py, group, result)
             else:
@@ -139,45 +141,91 @@ def _hdf5(h5py: Any, pairs: list[tuple[str, Result]]) -> bytes:
     return made.getvalue()
 
 
+def _new_file(h5py: Any, made: io.BytesIO) -> Any:
+    # HDF5 1.10 and later keep checksums of all that describes the data, so that what is damaged is told and not
+    # followed. Texts of variable length have none, and are followed out of the file: nothing is written as one.
+    access = h5py.h5p.create(h5py.h5p.FILE_ACCESS)
+    access.set_fileobj_driver(h5py.h5fd.fileobj_driver, made)
+    access.set_libver_bounds(h5py.h5f.LIBVER_V110, h5py.h5f.LIBVER_LATEST)
+    kind = _without_clock(h5py, h5py.h5p.FILE_CREATE)
+    return h5py.File(h5py.h5f.create(b"results", h5py.h5f.ACC_TRUNC, kind, access))
+
+
+def _new_group(h5py: Any, parent: Any, name: str) -> Any:
+    kind = _without_clock(h5py, h5py.h5p.GROUP_CREATE)
+    return h5py.Group(h5py.h5g.create(parent.id, name.encode(), gcpl=kind))
+
+
+def _without_clock(h5py: Any, kind: Any) -> Any:
+    """Without the time at which it is made: the same results are the same file."""
+    made = h5py.h5p.create(kind)
+    made.set_obj_track_times(False)
+    return made
+
+
 def _put_checked(h5py: Any, group: Any, checked: Checked) -> None:
-    group.attrs["kind"] = "check"
+    _say(h5py, group, "kind", "check")
     group.attrs["tolerance"] = float(checked.tolerance)
     group.attrs["ok"] = bool(checked.ok)
-    group.attrs["says"] = checked.says
+    _say(h5py, group, "says", checked.says)
     for key, unit in _CHECK_UNITS.items():
-        _put(group, key, getattr(checked, key), unit)
+        _put(h5py, group, key, getattr(checked, key), unit)
     if checked.exact is not None:
-        _put(group, "exact", checked.exact, _NUMBER)
+        _put(h5py, group, "exact", checked.exact, _NUMBER)
     for key in "curve", "half_step", "double_room":
-        _put_curve(h5py, group.create_group(key), getattr(checked, key))
+        _put_curve(h5py, _new_group(h5py, group, key), getattr(checked, key))
 
 
 def _put_curve(h5py: Any, group: Any, curve: Curve) -> None:
-    group.attrs["kind"] = "curve"
-    group.attrs["name"] = curve.name
+    _say(h5py, group, "kind", "curve")
+    _say(h5py, group, "name", curve.name)
     group.attrs["finished"] = bool(curve.finished)
     for key, unit in _CURVE_UNITS.items():
-        _put(group, key, getattr(curve, key), unit)
-    texts = h5py.string_dtype()
-    group.create_dataset("word_names", data=np.array(list(curve.words), object), dtype=texts)
+        _put(h5py, group, key, getattr(curve, key), unit)
+    _put_data(group, "word_names", _texts(h5py, list(curve.words)))
     shape = len(curve.words), len(curve.times)
-    _put(group, "word_coefficients", np.array(list(curve.words.values()), np.float64).reshape(shape), _NUMBER)
-    steps = group.create_group("steps")
+    _put(h5py, group, "word_coefficients", np.array(list(curve.words.values()), np.float64).reshape(shape), _NUMBER)
+    steps = _new_group(h5py, group, "steps")
     for key, unit in _STEP_UNITS.items():
-        _put(steps, key, getattr(curve.steps, key), unit)
-    basis = group.create_group("basis")
+        _put(h5py, steps, key, getattr(curve.steps, key), unit)
+    basis = _new_group(h5py, group, "basis")
     basis.attrs["n"] = curve.basis.n
-    _put(basis, "words", curve.basis.words, _LANES)
-    _put(basis, "coefficients", curve.basis.coefficients, _NUMBER)
-    settings = group.create_group("settings")
+    _put(h5py, basis, "words", curve.basis.words, _LANES)
+    _put(h5py, basis, "coefficients", curve.basis.coefficients, _NUMBER)
+    settings = _new_group(h5py, group, "settings")
+    names = _texts(h5py, sorted(curve.settings))
+    settings.attrs.create("names", names, dtype=names.dtype)
     for key, value in sorted(curve.settings.items()):
         _put_setting(h5py, settings, key, value)
 
 
-def _put(group: Any, name: str, array: NDArray[Any], unit: str) -> None:
-    # Of long arrays, such as the lanes of words, most bits are 0.
-    packed = {"compression": "gzip", "shuffle": True} if array.size > 1024 else {}
-    group.create_dataset(name, data=array, **packed).attrs["units"] = unit
+def _put(h5py: Any, group: Any, name: str, array: NDArray[Any], unit: str) -> None:
+    _say(h5py, _put_data(group, name, array), "units", unit)
+
+
+def _put_data(group: Any, name: str, array: NDArray[Any]) -> Any:
+    # Of long arrays, such as the lanes of words, most bits are 0. What is damaged must not be unpacked.
+    packed = {"compression": "gzip", "shuffle": True, "fletcher32": True} if array.size > 1024 else {}
+    made = group.create_dataset(name, data=array, dtype=array.dtype, **packed)
+    # HDF5 has no checksum of a single number or text, and for that of arrays two bytes of 0 are the same as two of 255.
+    made.attrs["crc32"] = _crc32(array[()])
+    return made
+
+
+def _crc32(data: Any) -> int:
+    return zlib.crc32(np.asarray(data).tobytes())
+
+
+def _say(h5py: Any, item: Any, name: str, text: str) -> None:
+    """An attribute that is a text."""
+    one = _texts(h5py, [text])
+    item.attrs.create(name, one[0], dtype=one.dtype)
+
+
+def _texts(h5py: Any, texts: list[str]) -> NDArray[Any]:
+    """Texts in as many bytes as the longest has. HDF5 has no text of no bytes."""
+    coded = [text.encode() for text in texts]
+    return np.array(coded, h5py.string_dtype("utf-8", max([1, *map(len, coded)])))
 
 
 def _put_setting(h5py: Any, group: Any, name: str, value: Any) -> None:
@@ -186,11 +234,12 @@ def _put_setting(h5py: Any, group: Any, name: str, value: Any) -> None:
         made = group.create_dataset(name, data=h5py.Empty(np.float64))
     else:
         stored = _storable(value)
-        made = group.create_dataset(name, data=stored, dtype=h5py.string_dtype() if isinstance(stored, str) else None)
+        array = _texts(h5py, [stored]).reshape(()) if isinstance(stored, str) else np.array(stored)
+        made = _put_data(group, name, array)
         if type(stored) is not type(value):
             made.attrs["json"] = True
     if name in _SETTING_UNITS:
-        made.attrs["units"] = _SETTING_UNITS[name]
+        _say(h5py, made, "units", _SETTING_UNITS[name])
 
 
 def _storable(value: Any) -> str | bool | int | float | list[float]:
@@ -203,6 +252,10 @@ def _storable(value: Any) -> str | bool | int | float | list[float]:
 
 
 # ---- reading HDF5 ----
+
+
+# What h5py, or a part that is not as it was written, may raise.
+_DAMAGE = KeyError, OSError, RuntimeError, TypeError, AttributeError, ValueError
 
 
 class _Opened:
@@ -228,34 +281,54 @@ class _Opened:
         except InputError:
             self.file.close()
             raise
+        except _DAMAGE as error:
+            self.file.close()
+            raise self._damaged(error) from None
         return self.file
 
     def _look(self) -> None:
         about = self.file.attrs
-        if about.get("format") != _FORMAT:
+        if _text(about.get("format")) != _FORMAT:
             raise InputError("this HDF5 file has no results of pebblelinen", where=self.name)
         if about.get("layout") != _LAYOUT:
             raise InputError(
-                f"this file has the layout {about.get('layout')}, written by pebblelinen {about.get('version')}:"
+                f"this file has the layout {about.get('layout')}, written by pebblelinen {_text(about.get('version'))}:"
                 f" pebblelinen {__version__} reads the layout {_LAYOUT}",
                 where=self.name,
             )
 
     def __exit__(self, kind: object, error: object, _: object) -> None:
         self.file.close()
-        if isinstance(error, (KeyError, OSError, RuntimeError, TypeError, AttributeError, ValueError)):
-            raise InputError(f"something is missing or damaged in this file: {error}", where=self.name) from None
+        if isinstance(error, _DAMAGE):
+            raise self._damaged(error) from None
+
+    def _damaged(self, error: Exception) -> InputError:
+        return InputError(f"something is missing or damaged in this file: {error}", where=self.name)
 
 
 def _read(path: str | os.PathLike[str]) -> list[tuple[str, Result]]:
     with _Opened(path) as file:
-        # What others may have put beside the results is theirs.
-        groups = [file[place] for place in sorted(filter(str.isdecimal, file), key=int)]
-        return [(group.attrs["label"], _result(group)) for group in groups]
+        # What others may have put beside the results is theirs. Nor is HDF5 asked what a group has: where that is
+        # damaged, it crashes.
+        groups = [file[str(place)] for place in range(file.attrs["results"])]
+        return [(_text(group.attrs["label"]), _result(group)) for group in groups]
+
+
+def _text(stored: Any) -> str:
+    """A text that was read: as it was written, or as other tools may have put it."""
+    return stored.decode() if isinstance(stored, bytes) else str(stored)
+
+
+def _data(made: Any) -> Any:
+    """What a data set has, if it is as it was written."""
+    found = made[()]
+    if "crc32" in made.attrs and made.attrs["crc32"] != _crc32(found):
+        raise InputError(f"{made.name} is not as it was written")
+    return found
 
 
 def _result(group: Any) -> Result:
-    return _checked(group) if group.attrs["kind"] == "check" else _curve(group)
+    return _checked(group) if _text(group.attrs["kind"]) == "check" else _curve(group)
 
 
 def _checked(group: Any) -> Checked:
@@ -263,26 +336,26 @@ def _checked(group: Any) -> Checked:
         curve=_curve(group["curve"]),
         half_step=_curve(group["half_step"]),
         double_room=_curve(group["double_room"]),
-        moved_by_step=group["moved_by_step"][()],
-        moved_by_room=group["moved_by_room"][()],
-        exact=group["exact"][()] if "exact" in group else None,
+        moved_by_step=_data(group["moved_by_step"]),
+        moved_by_room=_data(group["moved_by_room"]),
+        exact=_data(group["exact"]) if "exact" in group else None,
         tolerance=float(group.attrs["tolerance"]),
-        says=group.attrs["says"],
+        says=_text(group.attrs["says"]),
         ok=bool(group.attrs["ok"]),
     )
 
 
 def _curve(group: Any) -> Curve:
-    basis = group["basis"]
+    basis, settings = group["basis"], group["settings"]
     curve = Curve(
-        name=group.attrs["name"],
+        name=_text(group.attrs["name"]),
         finished=bool(group.attrs["finished"]),
-        times=group["times"][()],
-        values=group["values"][()],
-        words=dict(zip(group["word_names"].asstr()[()], group["word_coefficients"][()])),
-        steps=Steps(**{key: group["steps"][key][()] for key in _STEP_UNITS}),
-        basis=Basis.from_arrays(int(basis.attrs["n"]), basis["words"][()], basis["coefficients"][()]),
-        settings={key: _setting(made) for key, made in group["settings"].items()},
+        times=_data(group["times"]),
+        values=_data(group["values"]),
+        words=dict(zip(map(_text, _data(group["word_names"])), _data(group["word_coefficients"]))),
+        steps=Steps(**{key: _data(group["steps"][key]) for key in _STEP_UNITS}),
+        basis=Basis.from_arrays(int(basis.attrs["n"]), _data(basis["words"]), _data(basis["coefficients"])),
+        settings={key: _setting(settings[key]) for key in map(_text, settings.attrs["names"])},
     )
     by_time = {curve.times.shape, curve.values.shape, *(table.shape for table in curve.words.values())}
     if len(by_time) > 1 or len({table.shape for table in curve.steps}) > 1:
@@ -293,10 +366,11 @@ def _curve(group: Any) -> Curve:
 def _setting(made: Any) -> Any:
     if made.shape is None:
         return None
-    if made.dtype.kind == "O":
-        text = made.asstr()[()]
+    found = _data(made)
+    if isinstance(found, bytes):
+        text = _text(found)
         return json.loads(text) if "json" in made.attrs else text
-    return made[()].tolist()
+    return found.tolist()
 
 
 # ---- tables ----

@@ -2,6 +2,8 @@
 # SPDX-License-Identifier: Apache-2.0
 """Results as files: what is read back is what was written, bit for bit."""
 import csv
+import os
+import subprocess
 import sys
 import tempfile
 import unittest
@@ -15,6 +17,36 @@ import made_curves
 from pebblelinen import Checked, Curve, InputError, LibraryMissing, results
 
 TABLES = "times", "values", "leaked", "dropped", "estimate"
+
+# Loads damaged files, in a process of its own: HDF5 may crash. What is loaded is written again, to the same bytes.
+DAMAGE = """
+import random
+import made_curves
+from pebblelinen import InputError, results
+
+def content(path):
+    with open(path, "rb") as file:
+        return file.read()
+
+results.save("whole.h5", {"one": made_curves.curve(), "long": made_curves.curve(count=1100)})
+whole = content("whole.h5")
+chance = random.Random(5)
+told = 0
+for i in range(40):
+    data = bytearray(whole)
+    for _ in range(chance.choice([1, 2, 8, 32])):
+        data[chance.randrange(len(data))] = chance.randrange(256)
+    with open("damaged.h5", "wb") as file:
+        file.write(data)
+    try:
+        stored = results.load_named("damaged.h5")
+    except InputError:
+        told += 1
+    else:
+        results.save("again.h5", stored)
+        assert content("again.h5") == whole, i
+print(told)
+"""
 
 
 class Case(unittest.TestCase):
@@ -99,11 +131,11 @@ class Hdf5(Case):
 
         def look(name, item):
             if isinstance(item, h5py.Dataset) and item.dtype.kind in "fiu" and "settings" not in name:
-                units[name] = item.attrs["units"]
+                units[name] = item.attrs["units"].decode()
 
         with h5py.File(self.path) as file:
             file.visititems(look)
-            self.assertEqual(file["0/curve/settings/dt"].attrs["units"], "model unit of time")
+            self.assertEqual(file["0/curve/settings/dt"].attrs["units"], b"model unit of time")
         self.assertEqual(len(units), 4 + 3 * (5 + 1 + 10 + 2))
         self.assertEqual(units["0/curve/times"], "model unit of time")
         self.assertEqual(units["0/curve/steps/leak_sum_before"], "1 / model unit of time")
@@ -164,16 +196,58 @@ class Hdf5(Case):
                 file[changed] = value
             with self.assertRaisesRegex(InputError, "decay.h5: something is missing or damaged"):
                 results.load(self.path)
+        for changed in "0/settings/dt", "0/word_coefficients", "0/basis/coefficients":
+            results.save(self.path, made_curves.curve())
+            with h5py.File(self.path, "r+") as file:
+                file[changed][...] = 0.5
+            with self.assertRaisesRegex(InputError, f"damaged in this file: /{changed} is not as it was written"):
+                results.load(self.path)
         results.save(self.path, made_curves.curve())
         self.path.write_bytes(self.path.read_bytes()[:-5000])
         with self.assertRaises(InputError):
             results.load(self.path)
 
+    def test_damaged_bytes(self):
+        ran = subprocess.run(
+            [sys.executable, "-W", "error", "-c", DAMAGE],
+            cwd=self.folder,
+            env={**os.environ, "PYTHONPATH": os.pathsep.join(map(os.path.abspath, sys.path))},
+            capture_output=True,
+            text=True,
+            timeout=60,
+        )
+        self.assertEqual((ran.returncode, ran.stderr), (0, ""))
+        self.assertGreater(int(ran.stdout), 20)
+
+    def test_texts_of_any_length(self):
+        words = {"Z1 " * 30000: np.zeros(11), "": np.ones(11)}
+        curve = made_curves.curve("\u03c3 " * 40000, words=words)
+        curve.settings.update(model="# \u03c3\n" * 50000, state="")
+        results.save(self.path, {"": curve})
+        self.same_curve(results.load_named(self.path)[""], curve)
+        results.save(self.path, made_curves.curve(settings={}))
+        self.assertEqual(results.load(self.path)[0].settings, {})
+
+    def test_nothing_is_of_variable_length(self):
+        found = []
+
+        def look(name, item):
+            found.extend(item.attrs.get_id(key).dtype for key in item.attrs)
+            found.extend([item.dtype] if isinstance(item, h5py.Dataset) else [])
+
+        results.save(self.path, made_curves.checked())
+        with h5py.File(self.path) as file:
+            look("/", file)
+            file.visititems(look)
+        self.assertEqual({kind.kind for kind in found}, set("biufS"))
+
     def test_what_others_put_beside_it(self):
         results.save(self.path, made_curves.curve())
         with h5py.File(self.path, "r+") as file:
             file["notes"] = "measured on Tuesday"
+            file["7"] = "and on Wednesday"
             file["0/mine"] = [1, 2]
+            file["0/settings/mine"] = "warm"
         self.assertEqual(len(results.load(self.path)), 1)
 
     def test_nothing_is_written_on_an_error(self):
