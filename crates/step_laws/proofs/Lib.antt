@@ -12,4 +12,5 @@ pub mod EvolvedLaws
 pub mod StepLaws
 pub mod AdmissionLaws
 pub mod RefusedLaws
+pub mod EmptyLaws
 pub mod CallLaws
