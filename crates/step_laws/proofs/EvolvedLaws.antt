@@ -42,7 +42,7 @@ use Rattle.step_laws.specs.Kept.{Finite, AllFinite}
 use Rattle.step_laws.proofs.CourseLaws.{no-value, same-value}
 
 -- as many numbers as before, all finite
-pub record Leaves (v v′ : List Float) : Type 0 where
+pub record Numbers (v v′ : List Float) : Type 0 where
   pub long : length v′ ≡ length v
   pub finite : AllFinite v′
 
@@ -87,7 +87,7 @@ module _ (offsets columns : List ℕ) (values : List Float) (m s : ℕ) (dt : Fl
   -- where a stage goes on from
   record Reached (v : List Float) (after : List Float → Evolution) (v′ : List Float) : Type 0 where
     value : List Float
-    leaves : Leaves v value
+    leaves : Numbers v value
     behind : after value ≡ evolved v′
 
   next-long : (j : ℕ) (b : List Float) → length (nextOf offsets columns values m s dt j b) ≡ length b
@@ -114,9 +114,9 @@ module _ (offsets columns : List ℕ) (values : List Float) (m s : ℕ) (dt : Fl
       let r = terms-leave n (suc j) (nextOf offsets columns values m s dt j b) (added v (nextOf offsets columns values m s dt j b)) after v′ (sym cl ∙ sym ul) fu (p3 .1) in
       record { value = r .value; leaves = record { long = r .leaves .long ∙ ul; finite = r .leaves .finite }; behind = r .behind }
 
-  stages-leave : (k : ℕ) (v v′ : List Float) → AllFinite v → stages offsets columns values m s dt k v ≡ evolved v′ → Leaves v v′
+  stages-leave : (k : ℕ) (v v′ : List Float) → AllFinite v → stages offsets columns values m s dt k v ≡ evolved v′ → Numbers v v′
   unfolding stages stage
-  stages-leave zero v v′ f e = let i : v ≡ v′ = cc in subst (Leaves v) i (record { long = refl; finite = f })
+  stages-leave zero v v′ f e = let i : v ≡ v′ = cc in subst (Numbers v) i (record { long = refl; finite = f })
   stages-leave (suc k) v v′ f e =
       let r = terms-leave m 1 v v (stages offsets columns values m s dt k) v′ refl f e in
       let i = stages-leave k (r .value) v′ (r .leaves .finite) (r .behind) in
@@ -127,36 +127,36 @@ module _ (offsets columns : List ℕ) (values : List Float) (dt : Float) (cs : L
   no-products : (q : Rattle.refusal.specs.declared.Refusal.Refusal) (k : ℕ) → Refused q ≡ Products k → ⊥
   no-products q k e = let z : _≡_ {A = ℕ} 0 1 = cc in omega arith
 
-  with-leaves : (c : Chosen) (k : ℕ) → evolveWith offsets columns values dt cs cs c .answer ≡ Products k → Leaves cs (evolveWith offsets columns values dt cs cs c .out)
+  with-leaves : (c : Chosen) (k : ℕ) → evolveWith offsets columns values dt cs cs c .answer ≡ Products k → Numbers cs (evolveWith offsets columns values dt cs cs c .out)
   with-leaves (Choice.Pair d) k e = go (stages offsets columns values (d .m) (d .s) dt (d .s) cs) refl e
     where
-      go : (x : Evolution) → stages offsets columns values (d .m) (d .s) dt (d .s) cs ≡ x → answerAfter (d .m * d .s) x ≡ Products k → Leaves cs (outAfter (length cs) cs x)
+      go : (x : Evolution) → stages offsets columns values (d .m) (d .s) dt (d .s) cs ≡ x → answerAfter (d .m * d .s) x ≡ Products k → Numbers cs (outAfter (length cs) cs x)
       go (evolved v) t a =
           let i : v ++ drop (length cs) cs ≡ v = ap (λ (l : List Float). v ++ l) (drop-of-length-le cs {i = length cs} (omega arith)) ∙ append-nil v in
-          subst (Leaves cs) (sym i) (stages-leave offsets columns values (d .m) (d .s) dt (d .s) cs v f t)
+          subst (Numbers cs) (sym i) (stages-leave offsets columns values (d .m) (d .s) dt (d .s) cs v f t)
       go (stopped r) t a = absurd (no-products _ k a)
   with-leaves (Choice.Refused q) k e = absurd (no-products q k e)
 
-  evolve-leaves : (norm dropTol : Float) (k : ℕ) → evolveBy offsets columns values dt cs cs norm dropTol .answer ≡ Products k → Leaves cs (evolveBy offsets columns values dt cs cs norm dropTol .out)
+  evolve-leaves : (norm dropTol : Float) (k : ℕ) → evolveBy offsets columns values dt cs cs norm dropTol .answer ≡ Products k → Numbers cs (evolveBy offsets columns values dt cs cs norm dropTol .out)
   unfolding evolveBy
   evolve-leaves norm dropTol k e = go (eqb (length cs) 0) e
     where
       go : (b : Bool) → cond b (record { answer = Products 0; out = cs }) (evolveWith offsets columns values dt cs cs (chosen dropTol (floats .times (magnitude dt) norm))) .answer ≡ Products k
-          → Leaves cs (cond b (record { answer = Products 0; out = cs }) (evolveWith offsets columns values dt cs cs (chosen dropTol (floats .times (magnitude dt) norm))) .out)
+          → Numbers cs (cond b (record { answer = Products 0; out = cs }) (evolveWith offsets columns values dt cs cs (chosen dropTol (floats .times (magnitude dt) norm))) .out)
       go true e = record { long = refl; finite = f }
       go false e = with-leaves (chosen dropTol (floats .times (magnitude dt) norm)) k e
 
 -- ---- of a model
 module _ (m : Model) (t : ModelTables) (protected : List Word) (dt : Float) (places : Places) where
-  pub evolution-leaves : (dropTol : Float) (ws : List Word) (cs : List Float) (o : Outcome) → AllFinite cs → evolution m t protected dt places dropTol ws cs ≡ got o → Leaves cs (o .numbers)
+  pub evolution-leaves : (dropTol : Float) (ws : List Word) (cs : List Float) (o : Outcome) → AllFinite cs → evolution m t protected dt places dropTol ws cs ≡ got o → Numbers cs (o .numbers)
   unfolding evolution
   evolution-leaves dropTol ws cs o f e = go (generatorRoom m t ws (places .touched) (places .entries)) e
     where
-      answers : (x : Evolves) (a : Evolved) → x .answer ≡ a → ((k : ℕ) → x .answer ≡ Products k → Leaves cs (x .out)) → outcomeOf m t protected dt places (x .out) a ≡ got o → Leaves cs (o .numbers)
-      answers x (Products k) i h g = subst (Leaves cs) (ap (λ (r : Outcome). r .numbers) (same-value _ o g)) (h k i)
+      answers : (x : Evolves) (a : Evolved) → x .answer ≡ a → ((k : ℕ) → x .answer ≡ Products k → Numbers cs (x .out)) → outcomeOf m t protected dt places (x .out) a ≡ got o → Numbers cs (o .numbers)
+      answers x (Products k) i h g = subst (Numbers cs) (ap (λ (r : Outcome). r .numbers) (same-value _ o g)) (h k i)
       answers x (Refused q) i h g = absurd (no-value q o g)
 
-      go : (a : Answer) → outcomeOf m t protected dt places (roomThen m t ws (length ws) cs dt dropTol a cs .out) (roomThen m t ws (length ws) cs dt dropTol a cs .answer) ≡ got o → Leaves cs (o .numbers)
+      go : (a : Answer) → outcomeOf m t protected dt places (roomThen m t ws (length ws) cs dt dropTol a cs .out) (roomThen m t ws (length ws) cs dt dropTol a cs .answer) ≡ got o → Numbers cs (o .numbers)
       go Tests.Accepted g = answers (byGenerator m t ws (length ws) cs dt dropTol cs) _ refl (λ k i. evolve-leaves _ _ _ dt cs f _ dropTol k i) g
       go (Tests.Refused q) g = absurd (no-value q o g)
 

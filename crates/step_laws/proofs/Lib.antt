@@ -10,3 +10,7 @@ pub mod PlaceLaws
 pub mod LoweredLaws
 pub mod EvolvedLaws
 pub mod StepLaws
+pub mod AdmissionLaws
+pub mod RefusedLaws
+pub mod EmptyLaws
+pub mod CallLaws
