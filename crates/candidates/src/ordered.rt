@@ -50,6 +50,12 @@ pub fn put_in_order(
     ensures { λ _. ⌜ candidateRows n (now (words .exit)) (now (sums .exit)) ≡ inWordOrder (candidateRows n (now (words .entry)) (now (sums .entry))) ⌝ }
 {
     order_words(&words[..n * WORD_LANES], &mut order[..n], &mut work[..n]);
-    copy_in_order(&words[..n * WORD_LANES], sums, &order[..n], next_words, next_sums);
+    copy_in_order(
+        &words[..n * WORD_LANES],
+        sums,
+        &order[..n],
+        next_words,
+        next_sums,
+    );
     copy_rows(next_words, next_sums, n, words, sums);
 }

@@ -102,7 +102,17 @@ fn cut(
     requires { ⌜ Standing places n (now words) (now sums) (now order) (now work) × Holding n n (now «next_words») (now «next_sums») × (n ≤ length (now kept)) × FiniteRows (inWordOrder (candidateRows n (now words) (now sums))) ⌝ }
     ensures { λ r. ⌜ Standing places r (now (words .exit)) (now (sums .exit)) (now (order .exit)) (now (work .exit)) × (inWordOrder (candidateRows r (now (words .exit)) (now (sums .exit))) ≡ largest room (inWordOrder (candidateRows n (now (words .entry)) (now (sums .entry))))) ⌝ }
 {
-    let held = cut_rows(words, sums, n, room, order, work, kept, next_words, next_sums);
+    let held = cut_rows(
+        words,
+        sums,
+        n,
+        room,
+        order,
+        work,
+        kept,
+        next_words,
+        next_sums,
+    );
     lay_slots(&words[..held * WORD_LANES], order, &mut work[..held]);
     held
 }

@@ -146,7 +146,7 @@ loop-again c =
     let p : ℕ = getD (a .positions .now) (l .i) 0 in
     let listed = listed-are (a .m) (stored s) (w .result) (a .sum-room) (l .work-words) (l .work-sums) _ _ _ (q .ensures) _ (c .before .before .before .before .before .before .before .before .before .before .before .before .before .before .before .before .before .before .before .before .added .given .1) in (
       passing-next (touches s) (leaks s) (a .sum-room) (a .room) (a .positions .now) _ (l .i) (l .held) (l .words) (l .sums) (l .order) (l .work) (l .inv .0) (c .before .before .before .before .before .before .before .before .before .before .before .before .before .before .before .before .before .before .before .before .before .before .before .before .before .before .before .before .before .before .before .before .before .before .loop-test .taken) p refl (fits (c .before .before .before .before .before .before .before .before .before .before .before)) _ _ _ _ (g .result)
-      (rw (leaks-are (a .m) (stored s) (wordsIn (a .basis .now)) (a .coeffs .now) (wordsIn (a .protected .now)) p (w .result) _ (w .ensures) listed) at (g .ensures)) _ (c .before .put .given .1),
+          (rw (leaks-are (a .m) (stored s) (wordsIn (a .basis .now)) (a .coeffs .now) (wordsIn (a .protected .now)) p (w .result) _ (w .ensures) listed) at (g .ensures)) _ (c .before .put .given .1),
       q .kept .1 .1 .1 .1 .1 .1 .1 .1 .1 .1 .1 .1 .0 ∙ l .inv .1,
       q .kept .0 ∙ l .inv .2,
       q .kept .1 .0 ∙ l .inv .3,
