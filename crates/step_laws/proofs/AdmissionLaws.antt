@@ -2,25 +2,24 @@
 -- SPDX-License-Identifier: Apache-2.0
 
 -- A leakage list is never longer than the room, so that admission appends all of it. Assumes nothing.
-use mathlib.Core.Path.{_≡_, refl, sym, ap, _∙_}
+use mathlib.Core.Path.{_≡_, sym, ap, _∙_}
 use mathlib.Core.Bool.{Bool, true, false, cond}
-use mathlib.Core.List.{List, [], _∷_, _++_, map}
-use Prim.Native.Nat.{ℕ, zero, suc, _+_, _-_, _≤_, _<_, min}
+use mathlib.Core.List.{List, [], _∷_}
+use Prim.Native.Nat.{ℕ, zero, suc, _+_, _-_, _≤_}
 use native.Mathlib.Omega.{arith}
 use lib.Dec.{ltb}
 use lib.Ieee.{Float}
 use lib.ListN.{length, take, drop, replicate, length-map, length-replicate}
 use Rattle.refusal.specs.declared.Refusal.{Refusal}
-use Rattle.refusal.specs.declared.Refusal.the-variants.{TableFull, SumNotFinite}
+use Rattle.refusal.specs.declared.Refusal.the-variants.{TableFull}
 use Rattle.word.specs.declared.word.Word.{Word}
 use Rattle.order.specs.Magnitudes.{byMagnitude}
-use Rattle.keep.specs.Retained.{pick, flagged}
+use Rattle.keep.specs.Retained.{pick}
 use Rattle.keep.specs.Chosen.{chosen}
-use Rattle.keep.proofs.FlagLaws.{Kept}
 use Rattle.keep.proofs.ChosenLaws.{chosen-unfixed}
 use Rattle.keep.proofs.OrderOnce.{magnitude-once}
 use Rattle.truncate.specs.Admissions.{admitFlags}
-use Rattle.lent.specs.Read.{Read, got, refused, onward, refuseIf}
+use Rattle.lent.specs.Read.{Read, got, refuseIf}
 use Rattle.lent.specs.Tests.{firstTo}
 use Rattle.lent.specs.Numbers.{notFinite}
 use Rattle.model.specs.Stored.{ModelTables}

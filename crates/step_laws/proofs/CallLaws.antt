@@ -5,18 +5,16 @@
 use mathlib.Core.Path.{_≡_, refl, sym, ap, _∙_}
 use mathlib.Core.Bool.{Bool, true, false, cond}
 use mathlib.Core.List.{List}
-use Prim.Native.Nat.{ℕ, _≤_, _<_}
+use Prim.Native.Nat.{ℕ, _≤_}
 use native.Mathlib.Omega.{arith}
 use lib.Dec.{leb}
 use lib.Ieee.{Float, le}
 use lib.ListN.{length, take, replicate, length-take, length-replicate, getD-replicate}
 use lib.Seq.{length-take-le}
 use Rattle.word.specs.Flat.{words}
-use Rattle.word.specs.declared.word.Word.{Word}
 use Rattle.word.proofs.FlatLaws.{words-high}
 use Rattle.number.specs.Floats.{float0}
 use Rattle.keep.specs.Retained.{pick, flagged}
-use Rattle.keep.proofs.FlagLaws.{Kept}
 use Rattle.truncate.specs.Prunes.{protectedFlags, pruneFlags, capFlags, Keeping, prune, cap}
 use Rattle.truncate.specs.declared.kept.Kept.the-variants.{Entries}
 use Rattle.truncate.proofs.CapLaws.{cap-room}

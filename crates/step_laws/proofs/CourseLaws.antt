@@ -12,7 +12,7 @@ use lib.Ieee.{Float}
 use lib.ListN.{length}
 use Rattle.refusal.specs.declared.Refusal.{Refusal}
 use Rattle.word.specs.declared.word.Word.{Word}
-use Rattle.lent.specs.Read.{Read, got, refused, onward, refuseIf}
+use Rattle.lent.specs.Read.{Read, got, refused, onward}
 use Rattle.step_laws.specs.Steps.{Outcome, Stepped, withZeros, secondHop, corrector, predictor, courseBy}
 use Rattle.step_laws.specs.Kept.{FromGiven}
 

@@ -5,10 +5,10 @@
 use mathlib.Core.Path.{_≡_, refl, ap, _∙_}
 use mathlib.Core.Bool.{Bool, true, false, cond}
 use mathlib.Core.List.{List, [], _∷_, _++_}
-use Prim.Native.Nat.{ℕ, zero, suc, _+_, _-_, _≤_}
+use Prim.Native.Nat.{ℕ, _+_, _-_}
 use native.Mathlib.Omega.{arith}
 use borrow.Author.Tests.{le-ltb, le-leb}
-use lib.Dec.{ltb, leb}
+use lib.Dec.{ltb}
 use lib.Ieee.{Float, le}
 use lib.ListN.{length}
 use Rattle.refusal.specs.declared.Refusal.the-variants.{TableFull}
@@ -49,7 +49,6 @@ module _ (m : Model) (t : ModelTables) (protected : List Word) (dt : Float) (pla
   admits-none : (limit : ℕ) → admitted m t protected dt places limit [] [] ≡ got []
   unfolding admitted
   admits-none limit =
-      let z : 0 + 0 ≡ 0 = omega arith in
       ap (λ (ws : List Word). refuseIf (ltb (places .basis) (0 + length ws)) (TableFull 3 (places .basis)) (got ws)) (pick-none (admitFlags 0 [] limit))
       ∙ ap (λ (b : Bool). refuseIf b (TableFull 3 (places .basis)) (got [])) (never (places .basis))
 

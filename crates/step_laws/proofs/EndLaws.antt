@@ -9,15 +9,15 @@ use mathlib.Core.List.{List, [], _∷_, map}
 use Prim.Native.Nat.{ℕ, zero, suc, _-_, _≤_, max}
 use native.Mathlib.Omega.{arith}
 use borrow.Author.Tests.{leb-true, leb-false, ne-eqb}
-use lib.Dec.{eqb, leb}
+use lib.Dec.{leb}
 use lib.Ieee.{Float, le}
-use lib.ListN.{length, getD, length-map}
+use lib.ListN.{length, length-map}
 use Rattle.word.specs.declared.word.Word.{Word}
-use Rattle.number.specs.Floats.{float0, magnitude}
+use Rattle.number.specs.Floats.{float0}
 use Rattle.order.specs.Magnitudes.{byMagnitude}
 use Rattle.order.specs.Places.{isAmong}
 use Rattle.order.specs.Members.{Member}
-use Rattle.keep.specs.Retained.{pick, flagged}
+use Rattle.keep.specs.Retained.{flagged}
 use Rattle.keep.specs.Chosen.{chosen, flagOf}
 use Rattle.keep.specs.Pruned.{largeFlag, largeFlags}
 use Rattle.keep.proofs.FlagLaws.{Kept}

@@ -4,7 +4,7 @@
 -- What an evolution that is not refused leaves: as many numbers, all finite; the same on one side of 1e-4. Assumes nothing.
 use mathlib.Core.Path.{_≡_, refl, sym, ap, subst, fun-ext, _∙_}
 use mathlib.Core.Bool.{Bool, true, false, cond}
-use mathlib.Core.List.{List, [], _∷_, _++_, append-nil}
+use mathlib.Core.List.{List, _++_, append-nil}
 use Prim.Native.Nat.{ℕ, zero, suc, _+_, _-_, _*_, _≤_, _<_}
 use native.Mathlib.Omega.{arith}
 use native.Mathlib.Decide.{decLt}
@@ -15,11 +15,12 @@ use lib.Ieee.Bits.{ofBits-fits}
 use lib.Ieee.Fits.{add-fits}
 use lib.ListN.{length, getD, drop, replicate, length-append, length-replicate, getD-replicate, drop-of-length-le, List·getD-append}
 use lib.Seq.{getD-append-add}
+use Rattle.refusal.specs.declared.Refusal.{Refusal}
 use Rattle.refusal.specs.declared.Answer.{Answer}
 use Rattle.refusal.specs.declared.Answer.the-variants as Tests
 use Rattle.word.specs.declared.word.Word.{Word}
 use Rattle.number.specs.Floats.{floats, float0, magnitude, isFinite}
-use Rattle.lent.specs.Read.{Read, got, refused}
+use Rattle.lent.specs.Read.{got}
 use Rattle.lent.specs.Tests.{firstTo}
 use Rattle.lent.specs.Numbers.{notFinite}
 use Rattle.lent.proofs.Firsts.{first-before}
@@ -53,13 +54,9 @@ zero-finite = record { fitting = ofBits-fits binary64 0; finite = unfold ofBits 
 pub zeros-finite : (cs : List Float) (ws : List Word) → AllFinite cs → AllFinite (withZeros cs ws)
 zeros-finite cs ws f i h = go (decLt i (length cs))
   where
-    n : ℕ
-    n = length ws - length cs
-
     go : Dec (i < length cs) → Finite (getD (withZeros cs ws) i nan)
     go (yes l) = subst Finite (sym (List·getD-append cs (replicate (length ws - length cs) float0) nan i l)) (f i l)
     go (no l) =
-        let j : ℕ = i - length cs in
         let e : length cs + (i - length cs) ≡ i = omega arith in
         let b : i - length cs < length ws - length cs = omega (arith, h, length-append cs (replicate (length ws - length cs) float0), length-replicate (length ws - length cs) float0) in
         subst Finite
@@ -99,8 +96,6 @@ module _ (offsets columns : List ℕ) (values : List Float) (m s : ℕ) (dt : Fl
   unfolding terms
   terms-leave zero j b v after v′ l f e = record { value = v; leaves = record { long = refl; finite = f }; behind = e }
   terms-leave (suc n) j b v after v′ l f e =
-      let c : List Float = nextOf offsets columns values m s dt j b in
-      let u : List Float = added v (nextOf offsets columns values m s dt j b) in
       let p1 = swept-passed (productOf offsets columns values b) _ v′ e in
       let p2 = swept-passed (nextOf offsets columns values m s dt j b) _ v′ (p1 .1) in
       let p3 = swept-passed (added v (nextOf offsets columns values m s dt j b)) _ v′ (p2 .1) in
@@ -124,7 +119,7 @@ module _ (offsets columns : List ℕ) (values : List Float) (m s : ℕ) (dt : Fl
 
 -- ---- the degree chosen, and what is written out
 module _ (offsets columns : List ℕ) (values : List Float) (dt : Float) (cs : List Float) (f : AllFinite cs) where
-  no-products : (q : Rattle.refusal.specs.declared.Refusal.Refusal) (k : ℕ) → Refused q ≡ Products k → ⊥
+  no-products : (q : Refusal) (k : ℕ) → Refused q ≡ Products k → ⊥
   no-products q k e = let z : _≡_ {A = ℕ} 0 1 = cc in omega arith
 
   with-leaves : (c : Chosen) (k : ℕ) → evolveWith offsets columns values dt cs cs c .answer ≡ Products k → Numbers cs (evolveWith offsets columns values dt cs cs c .out)

@@ -5,18 +5,18 @@
 -- before, so that each of these has the same rank. Assumes nothing.
 use mathlib.Core.Path.{_≡_, refl, sym, ap, ap₂, subst, _∙_}
 use mathlib.Core.Bool.{Bool, true, false, cond}
-use mathlib.Core.List.{List, [], _∷_, map}
-use Prim.Native.Nat.{ℕ, zero, suc, _+_, _-_, _≤_, _<_, min}
+use mathlib.Core.List.{List, [], _∷_}
+use Prim.Native.Nat.{ℕ, zero, suc, _-_, _<_}
 use native.Mathlib.Omega.{arith}
 use borrow.Author.Tests.{leb-true, leb-false, eqb-true, eqb-false}
 use denote.Floats.{passes}
-use lib.Dec.{T, eqb, leb}
+use lib.Dec.{eqb, leb}
 use lib.Ieee.{Float, nan, binary64, le, isNan, ofBits}
 use lib.Ieee.Bits.{ofBits-fits}
 use lib.ListN.{length, getD, replicate, length-map, length-replicate, getD-replicate}
 use Rattle.word.specs.declared.word.Word.{Word}
 use Rattle.number.specs.Floats.{float0, magnitude, isFinite}
-use Rattle.number.specs.Key.{key, nonneg}
+use Rattle.number.specs.Key.{key}
 use Rattle.number.proofs.KeyLaws.{le-key, magnitude-nonneg, magnitude-fits, magnitude-key}
 use Rattle.order.specs.Magnitudes.{byMagnitude, keyAt}
 use Rattle.order.specs.Members.{Member}
@@ -34,7 +34,7 @@ use Rattle.step_laws.specs.Steps.{Stepped, protectedIn, keptBy, prunedBy
 use Rattle.step_laws.specs.Kept.{Finite, AllFinite}
 use Rattle.step_laws.proofs.EndLaws.{chosen-long, large-stands}
 use Rattle.step_laws.proofs.RankLaws.{rankIn, flagged-gap, kept-rank, rank-kept}
-use Rattle.step_laws.proofs.PlaceLaws.{placeOf, pick-all, pick-each, picked-at, Found, found, stands, pick-map, pick-alike, pick-flagged, Beyond, rank-same}
+use Rattle.step_laws.proofs.PlaceLaws.{placeOf, pick-all, pick-each, picked-at, found, stands, pick-map, pick-alike, pick-flagged, Beyond, rank-same}
 
 number-of : (x : Float) → Finite x → Number x
 number-of x f = record { fits-f64 = f .fitting; no-nan = finite-number x (f .finite) }
@@ -85,9 +85,6 @@ module _ (xs : List Float) (finite : AllFinite xs) (fs : List ℕ) (long : lengt
   unfolding keepFlags
   keep-more tol tol′ n n′ lowered p k = go (le tol′ float0) refl (le tol float0) refl k
     where
-      N : Number tol
-      N = number-of tol n
-
       go : (b′ : Bool) → le tol′ float0 ≡ b′ → (b : Bool) → le tol float0 ≡ b → Kept (cond b (replicate (length xs) 1) (largeFlags tol xs fs)) p → Kept (cond b′ (replicate (length xs) 1) (largeFlags tol′ xs fs)) p
       go true u true v k = k
       go true u false v k = ones-kept (length xs) p (omega (arith, flag-inside (largeFlags tol xs fs) p k, large-length tol xs fs, long))
@@ -178,7 +175,6 @@ module _ (protected : List Word) (s : Stepped) (long : length (s .numbers) ≡ l
 
   ends-are : (tol : Float) → cappedBy protected limit (prunedBy protected tol s) .words ≡ pick (capOf (keepFlags tol xs fs)) (pick (keepFlags tol xs fs) (s .words))
   ends-are tol =
-      let A : List ℕ = keepFlags tol xs fs in
       ap (λ (x : Stepped). cappedBy protected limit x .words) (prune-flags protected s long tol)
       ∙ ap (λ (x : Stepped). x .words) (cap-flags protected (keptBy protected (keepFlags tol xs fs) s) (pick-alike (keepFlags tol xs fs) xs (s .words) long) limit)
       ∙ ap (λ (g : List ℕ). pick (chosen (byMagnitude (pick (keepFlags tol xs fs) xs)) g (limit - flagged g)) (pick (keepFlags tol xs fs) (s .words)))

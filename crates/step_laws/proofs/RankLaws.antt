@@ -3,7 +3,7 @@
 
 -- Which positions a cap keeps, told by ranks: one that is not fixed is kept exactly if fewer positions that are not fixed stand ahead of it
 -- than there are slots. Assumes nothing.
-use mathlib.Core.Path.{_≡_, refl, sym, _∙_}
+use mathlib.Core.Path.{_≡_, refl, _∙_}
 use mathlib.Core.Bool.{Bool, true, false, not, _&&_, cond}
 use mathlib.Core.List.{List, [], _∷_}
 use Prim.Native.Nat.{ℕ, zero, suc, _+_, _-_, _≤_, _<_, min}

@@ -35,10 +35,9 @@ use Rattle.action.specs.Acts.{actionOf}
 use Rattle.action.specs.Counts.{touchedBy}
 use Rattle.expm.specs.Selects.{underCeiling, degreeBy, tableFor, maxProducts, cost, chosen}
 use Rattle.expm.specs.declared.Degree.{Degree}
-use Rattle.expm.specs.declared.Chosen.{Chosen}
 use Rattle.expm.specs.declared.Chosen.the-variants as Choice
 use Rattle.taylor.specs.Stages.{Evolution, evolved, stopped, stages}
-use Rattle.taylor.specs.Evolves.{Evolves, answerAfter, evolveWith, evolveBy}
+use Rattle.taylor.specs.Evolves.{answerAfter, evolveWith, evolveBy}
 use Rattle.taylor.specs.declared.evolve.Evolved.{Evolved}
 use Rattle.taylor.specs.declared.evolve.Evolved.the-variants.{Products, Refused}
 use Rattle.evolution.specs.Evolutions.{roomThen, byGenerator}

@@ -3,8 +3,8 @@
 
 -- What a step that is not refused keeps: how many words, the protected ones, and that nobody is lost where only max_basis is raised, up to
 -- admit_basis, or only drop_tol lowered, on one side of 1e-4. Assumes nothing.
-use mathlib.Core.Path.{_≡_, refl, sym, ap, ap₂, subst, _∙_}
-use mathlib.Core.Bool.{Bool, true, false, cond}
+use mathlib.Core.Path.{_≡_, sym, ap, ap₂, subst, _∙_}
+use mathlib.Core.Bool.{true, false}
 use mathlib.Core.List.{List}
 use Prim.Native.Nat.{ℕ, _≤_, max}
 use native.Mathlib.Omega.{arith}
@@ -25,7 +25,7 @@ use Rattle.limits.specs.declared.Limits.{Limits}
 use Rattle.step_laws.specs.Steps.{Places, Outcome, Stepped, withZeros, courseBy, protectedIn, prunedBy, cappedBy, hop, evolution, courseOf, beforeCap, stepOf}
 use Rattle.step_laws.specs.Kept.{FromGiven, Few, LosesNobody, Finite, AllFinite}
 use Rattle.step_laws.proofs.PickLaws.{member-append}
-use Rattle.step_laws.proofs.CourseLaws.{Through, through, same-value, course-leaves}
+use Rattle.step_laws.proofs.CourseLaws.{through, same-value, course-leaves}
 use Rattle.step_laws.proofs.EndLaws.{prune-protected, cap-protected, cap-few, cap-raised}
 use Rattle.step_laws.proofs.LoweredLaws.{lowered-stays}
 use Rattle.step_laws.proofs.EvolvedLaws.{zeros-finite, zeros-long, evolution-leaves, evolution-same}
@@ -131,5 +131,5 @@ module _ (m : Model) (t : ModelTables) (protected : List Word) (dt : Float) (pla
             after = cappedBy protected (l .«max_basis») (prunedBy protected dropTol′ (p .grown));
             accepted = ap (λ (r : Read Stepped). onward (onward r (λ g. got (prunedBy protected dropTol′ g))) (λ b. got (cappedBy protected (l .«max_basis») b))) (sym course-alike ∙ p .course);
             stays = λ w h.
-            lowered-stays protected (p .grown) (g .0) (g .1) (l .«max_basis») dropTol dropTol′ finite finite′ lowered w (subst (λ (x : Stepped). Member w (x .words)) (p .is) h);
+                lowered-stays protected (p .grown) (g .0) (g .1) (l .«max_basis») dropTol dropTol′ finite finite′ lowered w (subst (λ (x : Stepped). Member w (x .words)) (p .is) h);
           }
