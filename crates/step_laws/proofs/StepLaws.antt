@@ -62,7 +62,12 @@ module _ (m : Model) (t : ModelTables) (protected : List Word) (dt : Float) (pla
     pub few : Few protected (l .«max_basis») (beforeCap m t protected dt places l dropTol ws cs) s
     few =
         let p = parts l dropTol ws cs s accepted in
-        record { capped = prunedBy protected dropTol (p .grown); reached = p .reached; few = subst (λ (x : Stepped). length (x .words) ≤ max (l .«max_basis») (flagged (protectedIn protected (prunedBy protected dropTol (p .grown) .words)))) (sym (p .is)) (cap-few protected (prunedBy protected dropTol (p .grown)) (l .«max_basis»)) }
+        let b : Stepped = prunedBy protected dropTol (p .grown) in
+        record {
+          capped = b;
+          reached = p .reached;
+          few = subst (λ (x : Stepped). length (x .words) ≤ max (l .«max_basis») (flagged (protectedIn protected (b .words)))) (sym (p .is)) (cap-few protected b (l .«max_basis»));
+        }
 
     -- every protected word that was present remains
     pub protected-stay : (w : Word) → isAmong w protected ≡ true → Member w ws → Member w (s .words)
