@@ -8,18 +8,18 @@ use mathlib.Core.List.{List}
 use Prim.Native.Nat.{ℕ, zero, suc, _+_, _-_, _*_, _^_, _<_, _≤_, min, max}
 use native.Mathlib.Omega.{arith}
 use native.Mathlib.Decide.{ℕ-discrete}
-use borrow.Author.Tests.{eq-eqb, ne-eqb}
+use borrow.Author.Tests.{eq-eqb, ne-eqb, lt-leb}
 use lib.Dec.{T, eqb, leb}
 use lib.Bits.{bitAnd, bitOr, bitXor, or-add-and, xor-add-and, and-le-l, and-le-r, and-lt, or-lt, xor-self}
 use lib.ListN.{getD, length}
 use lib.Seq.{ext-getD}
 use Rattle.word.specs.Count.{anyTo, tabulate}
-use Rattle.word.specs.Word.{laneCount, bit, Sound}
+use Rattle.word.specs.Word.{laneCount, maxQubits, bit, Sound}
 use Rattle.word.specs.Register.{actsOn, reaches, share}
 use Rattle.word.specs.Between.{DigitsFrom}
 use Rattle.word.specs.Order.{same}
 use Rattle.word.specs.declared.word.Word.{Word}
-use Rattle.word.proofs.Sums.{any-cong, any-runs}
+use Rattle.word.proofs.Sums.{any-none, any-cong, any-runs}
 use Rattle.word.proofs.Digits.{at-bits, bit-lt, bit-and, bit-or, any-digit}
 use Rattle.word.proofs.Lanes.{letter-in}
 use Rattle.word.proofs.Words.{word-eq, one-by-one}
@@ -104,6 +104,10 @@ share-is p q sp sq =
     ∙ sym (any-runs 64 laneCount (λ k. actsOn p k && actsOn q k))
 
 -- ---- reaching beyond a register
+pub none-beyond : (w : Word) (n : ℕ) → maxQubits ≤ n → false ≡ reaches w n
+unfolding reaches
+none-beyond w n h = sym (any-none maxQubits (λ q. leb n q && actsOn w q) (λ q l. ap (λ (b : Bool). b && actsOn w q) (lt-leb n q (omega (arith, h, l)))))
+
 pub reaches-is : (w : Word) → Sound w → (n : ℕ) (mask : ℕ → ℕ) → ((i : ℕ) → i < laneCount → (mask i < 2 ^ 64) × DigitsFrom (64 * i) n (mask i))
     → not (eqb (orTo (laneCount - 1) (λ i. bitAnd (acting w i) (mask i))) 0) ≡ reaches w n
 unfolding reaches

@@ -285,10 +285,14 @@ fn digits_from(from: usize, n: usize) -> u64
 }
 
 // Whether a word has a letter other than I at or above qubit n. All words of models and bases are asked
-// this: the digits are those of the register, and a loop over words finds them once.
+// this: the digits are those of the register, and a loop over words finds them once. There are none at
+// or above the widest register.
 pub fn reaches_beyond(w: Word, n_qubits: usize) -> bool
     ensures { λ r. ⌜ r ≡ reaches w «n_qubits» ⌝ }
 {
+    if MAX_QUBITS <= n_qubits {
+        return false;
+    }
     let m0 = digits_from(0, n_qubits);
     let m1 = digits_from(64, n_qubits);
     let m2 = digits_from(128, n_qubits);

@@ -1,7 +1,7 @@
 -- SPDX-FileCopyrightText: 2026 The PPVM Authors
 -- SPDX-License-Identifier: Apache-2.0
 
--- `word::reaches_beyond` meets its contract: a digit at or above the register in one of the lanes. Assumes nothing.
+-- `word::reaches_beyond` meets its contract: none above the widest register, else a digit in one of the lanes. Assumes nothing.
 use mathlib.Core.List.{[], _∷_}
 use Prim.Native.Nat.{ℕ, zero, suc, _*_, _^_, _<_}
 use native.Mathlib.Omega.{arith}
@@ -10,7 +10,7 @@ use borrow.Author.Needs.{needs}
 use Rattle.word.specs.Word.{laneCount}
 use Rattle.word.specs.Between.{DigitsFrom}
 use Rattle.word.proofs.Words.{sound}
-use Rattle.word.proofs.Tests.{orTo, reaches-is}
+use Rattle.word.proofs.Tests.{orTo, none-beyond, reaches-is}
 use Rattle.word.proofs.word.reaches_beyond.Statement.{statement}
 use Rattle.word.proofs.word.reaches_beyond.Tie as tie
 
@@ -26,8 +26,11 @@ module _ (n m0 m1 m2 m3 : ℕ) (f0 : m0 < 2 ^ 64) (f1 : m1 < 2 ^ 64) (f2 : m2 < 
   lane-by-lane (suc (suc (suc (suc i)))) h = absurd (omega arith)
 
 returns : tie.Need-returns
+returns c = none-beyond _ _ (c .if1 .taken)
+
+returns-2 : tie.Need-returns-2
 unfolding orTo
-returns c =
+returns-2 c =
     let a = c .before .before .before .before .before .digits-from in
     let b = c .before .before .before .before .digits-from2 in
     let d = c .before .before .before .digits-from3 in
@@ -43,6 +46,7 @@ pub reaches-beyond-spec : {M : Type 1} → statement M
 reaches-beyond-spec =
     tie.close
     (tie.spec
+    returns
     (λ c κs. search needs)
     (λ c κs. search needs)
     (λ c κs. search needs)
@@ -55,4 +59,4 @@ reaches-beyond-spec =
     (λ c. search needs)
     (λ c. search needs)
     (λ c. search needs)
-    returns)
+    returns-2)
