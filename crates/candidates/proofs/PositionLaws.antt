@@ -21,7 +21,8 @@ use Rattle.order.specs.Between.{All, wordBefore, byWord}
 use Rattle.order.proofs.OrderLaws.{Pairs, ordered-sorted}
 use Rattle.order.proofs.PlaceLaws.{word-order}
 use Rattle.candidates.specs.Sums.{Row, row, putOver, putAll}
-use Rattle.candidates.specs.Tables.{Rows, rows, candidateRows, latest, inWordOrder}
+use Rattle.candidates.specs.Tables.{Rows, rows, candidateRows}
+use Rattle.candidates.specs.Between.{latest, inWordOrder}
 use Rattle.candidates.proofs.PutLaws.{strict, InOrder, all-append, law}
 use Rattle.candidates.proofs.RowLaws.{noRow, rows-at, rows-long, rows-few, table-more}
 use Rattle.candidates.proofs.WordOrderLaws.{Each, Falls, order-own}

@@ -21,8 +21,8 @@ use Rattle.slots.specs.Between.{Slotted}
 use Rattle.slots.proofs.PlaceLaws.{last-inside, last-word, last-after}
 use Rattle.sums.specs.declared.sums.Added.the-variants.{Full, Held}
 use Rattle.candidates.specs.Sums.{Row, row}
-use Rattle.candidates.specs.Tables.{Rows, rows, candidateRows, putRow, inWordOrder}
-use Rattle.candidates.specs.Between.{Standing, Puts}
+use Rattle.candidates.specs.Tables.{Rows, rows, candidateRows, putRow}
+use Rattle.candidates.specs.Between.{inWordOrder, Standing, Puts}
 use Rattle.candidates.proofs.PutLaws.{strict}
 use Rattle.candidates.proofs.RowLaws.{noRow, rows-sum, table-long, table-at, table-more}
 use Rattle.candidates.proofs.WordOrderLaws.{Each, each-by, put-standing, put-behind}

@@ -4,14 +4,25 @@
 -- Contracts between functions: candidates that stand in the order in which they came, found by slots, and what putting one leaves.
 use Prim.Native.Nat.{ℕ, _*_, _≤_, _<_}
 use mathlib.Core.Path.{_≡_}
-use mathlib.Core.List.{List}
+use mathlib.Core.List.{List, []}
 use lib.Ieee.{Float}
 use lib.ListN.{length, take}
 use Rattle.word.specs.Flat.{words, wordLanes}
 use Rattle.slots.specs.Between.{Slotted}
 use Rattle.sums.specs.declared.sums.Added.{Added}
 use Rattle.sums.specs.declared.sums.Added.the-variants.{Held, Full}
-use Rattle.candidates.specs.Tables.{Rows, candidateRows, inWordOrder}
+use Rattle.word.specs.Order.{before}
+use Rattle.word.specs.declared.word.Word.{Word}
+use Rattle.number.specs.Floats.{floats}
+use Rattle.candidates.specs.Sums.{Row, putAll}
+use Rattle.candidates.specs.Tables.{Rows, candidateRows}
+
+-- rows in word order, of equal words the last
+abbrev pub latest : Float → Float → Float
+latest s v = v
+
+unfoldable pub inWordOrder : Rows → Rows
+inWordOrder U = putAll before latest (floats .nought) (λ (r : Row Word Float). r .word) (λ (r : Row Word Float). r .sum) U []
 
 -- n rows of so many places, each word once, with the slots of their words
 pub record Standing (room n : ℕ) (lanes : List ℕ) (sums : List Float) (heads nexts : List ℕ) : Type 0 where

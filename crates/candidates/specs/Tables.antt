@@ -1,7 +1,7 @@
 -- SPDX-FileCopyrightText: 2026 The PPVM Authors
 -- SPDX-License-Identifier: Apache-2.0
 
--- Tables in lent lists, a word and a float beside it; what entries add to one in word order, and rows put into that order.
+-- Tables in lent lists, a word and a float beside it, and what entries add to one in word order.
 use mathlib.Core.List.{List, [], _∷_}
 use Prim.Native.Nat.{ℕ}
 use lib.Ieee.{Float}
@@ -32,10 +32,3 @@ putRow = putOver before (floats .plus) (floats .nought)
 -- the entries of a list, one after another
 abbrev pub putRows : Rows → Rows → Rows
 putRows = putAll before (floats .plus) (floats .nought) (λ (r : Row Word Float). r .word) (λ (r : Row Word Float). r .sum)
-
--- for the functions that work on lent tables: rows in word order, of equal words the last
-abbrev pub latest : Float → Float → Float
-latest s v = v
-
-unfoldable pub inWordOrder : Rows → Rows
-inWordOrder U = putAll before latest (floats .nought) (λ (r : Row Word Float). r .word) (λ (r : Row Word Float). r .sum) U []

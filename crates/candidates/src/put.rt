@@ -3,8 +3,8 @@
 
 // One entry put to the candidates: added to the sum where its word stands, or behind them all. They stand
 // in the order in which they came; each sum is the one that an insertion in word order gives, bit for bit.
-ghost use Rattle.candidates.specs.Tables.{candidateRows, inWordOrder, putRow};
-ghost use Rattle.candidates.specs.Between.{Standing, Puts};
+ghost use Rattle.candidates.specs.Tables.{candidateRows, putRow};
+ghost use Rattle.candidates.specs.Between.{inWordOrder, Standing, Puts};
 use crate::rows::lay_row;
 use slots::add_slot;
 use slots::last_place;

@@ -16,8 +16,8 @@ use Rattle.word.specs.declared.word.Word.{Word}
 use Rattle.word.specs.Word.{identity}
 use Rattle.sums.specs.declared.sums.Added.{Added}
 use Rattle.sums.specs.declared.sums.Added.the-variants as Put
-use Rattle.candidates.specs.Tables.{Rows, candidateRows, putRows, inWordOrder}
-use Rattle.candidates.specs.Between.{Standing, Puts}
+use Rattle.candidates.specs.Tables.{Rows, candidateRows, putRows}
+use Rattle.candidates.specs.Between.{inWordOrder, Standing, Puts}
 use Rattle.model.specs.Terms.{Term}
 use Rattle.lent.specs.Read.{Read, refused}
 use Rattle.model.specs.Stored.{ModelTables}

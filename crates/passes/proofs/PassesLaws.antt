@@ -14,8 +14,8 @@ use Rattle.refusal.specs.declared.Refusal.{Refusal}
 use Rattle.word.specs.Flat.{wordLanes}
 use Rattle.slots.proofs.SlotLaws.{none-slotted}
 use Rattle.candidates.specs.Sums.{putAll}
-use Rattle.candidates.specs.Tables.{Rows, candidateRows, inWordOrder}
-use Rattle.candidates.specs.Between.{Standing, Orderable}
+use Rattle.candidates.specs.Tables.{Rows, candidateRows}
+use Rattle.candidates.specs.Between.{inWordOrder, Standing, Orderable}
 use Rattle.model.specs.Stored.{ModelTables}
 use Rattle.model.specs.declared.stored.Model.{Model}
 use Rattle.lent.specs.Read.{Read, got, refused, onward}

@@ -27,8 +27,8 @@ use Rattle.keep.proofs.FlagLaws.{flagged-few}
 use Rattle.keep.proofs.PickLaws.{pick-length}
 use Rattle.slots.specs.Between.{Slotted}
 use Rattle.candidates.specs.Sums.{Row, AllAfter, Rising}
-use Rattle.candidates.specs.Tables.{Rows, candidateRows, latest, inWordOrder}
-use Rattle.candidates.specs.Between.{Standing, Orderable}
+use Rattle.candidates.specs.Tables.{Rows, candidateRows}
+use Rattle.candidates.specs.Between.{latest, inWordOrder, Standing, Orderable}
 use Rattle.candidates.proofs.PutLaws.{strict}
 use Rattle.candidates.proofs.RisingLaws.{rising-all}
 use Rattle.candidates.proofs.RowLaws.{noRow, table-long, table-at}

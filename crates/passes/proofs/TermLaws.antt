@@ -18,8 +18,8 @@ use Rattle.sums.specs.Sums as Terms
 use Rattle.sums.specs.declared.sums.Added.{Added}
 use Rattle.sums.specs.declared.sums.Added.the-variants.{Full, Held}
 use Rattle.candidates.specs.Sums.{Row, row, putAll}
-use Rattle.candidates.specs.Tables.{Rows, candidateRows, putRow, putRows, inWordOrder}
-use Rattle.candidates.specs.Between.{Standing, Puts}
+use Rattle.candidates.specs.Tables.{Rows, candidateRows, putRow, putRows}
+use Rattle.candidates.specs.Between.{inWordOrder, Standing, Puts}
 use Rattle.candidates.proofs.PutLaws.{strict, all-grow}
 use Rattle.candidates.proofs.StandLaws.{puts-held, puts-full}
 use Rattle.model.specs.Terms.{Term, termAt}

@@ -8,8 +8,8 @@ use Prim.Native.Nat.{ℕ, _≤_}
 use native.Mathlib.Omega.{arith}
 use lib.Ieee.{Float}
 use Rattle.refusal.specs.declared.Refusal.{Refusal}
-use Rattle.candidates.specs.Tables.{Rows, candidateRows, inWordOrder}
-use Rattle.candidates.specs.Between.{Standing}
+use Rattle.candidates.specs.Tables.{Rows, candidateRows}
+use Rattle.candidates.specs.Between.{inWordOrder, Standing}
 use Rattle.lent.specs.Read.{Read, got, refused}
 use Rattle.passes.specs.Between.{Stood, Took}
 use Rattle.passes.specs.declared.taken.Taken.the-variants.{Held, Refused}

@@ -15,8 +15,8 @@ use Rattle.word.specs.Word.{identity}
 use Rattle.number.specs.Floats.{isFinite}
 use Rattle.slots.specs.Between.{Slotted}
 use Rattle.candidates.specs.Sums.{row}
-use Rattle.candidates.specs.Tables.{Rows, candidateRows, inWordOrder}
-use Rattle.candidates.specs.Between.{Standing}
+use Rattle.candidates.specs.Tables.{Rows, candidateRows}
+use Rattle.candidates.specs.Between.{inWordOrder, Standing}
 use Rattle.model.specs.Stored.{ModelTables}
 use Rattle.lent.specs.Read.{Read, got, refused}
 use Rattle.model.specs.Tested.{testModel}

@@ -5,8 +5,8 @@
 ghost use lib.ListN.{length};
 ghost use Rattle.word.specs.Flat.{words as wordsIn};
 ghost use Rattle.order.specs.Between.{AllBelow};
-ghost use Rattle.candidates.specs.Tables.{candidateRows, inWordOrder};
-ghost use Rattle.candidates.specs.Between.{Standing};
+ghost use Rattle.candidates.specs.Tables.{candidateRows};
+ghost use Rattle.candidates.specs.Between.{inWordOrder, Standing};
 ghost use Rattle.model.specs.Between.{modelTables};
 ghost use Rattle.passes.specs.Between.{ModelReady, BasisReady, ActionRoom, Stood};
 ghost use Rattle.passes.specs.Leaks.{takenBy, touchedAt, leaksAt};

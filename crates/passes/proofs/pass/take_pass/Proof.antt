@@ -9,7 +9,8 @@ use lib.ListN.{length, getD}
 use mir.Val.{Fits}
 use mir.Syntax.{w64}
 use Rattle.word.specs.Flat.{words as wordsIn}
-use Rattle.candidates.specs.Tables.{Rows, candidateRows, inWordOrder}
+use Rattle.candidates.specs.Tables.{Rows, candidateRows}
+use Rattle.candidates.specs.Between.{inWordOrder}
 use Rattle.order.proofs.Members.{all-at}
 use Rattle.model.specs.Stored.{ModelTables}
 use Rattle.action.proofs.ActLaws.{empty-room, sums-full, sums-held, listed-are, sums-inside}

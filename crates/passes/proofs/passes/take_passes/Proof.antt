@@ -9,8 +9,8 @@ use native.Mathlib.Omega.{arith}
 use lib.ListN.{length, drop}
 use Rattle.word.specs.Flat.{words as wordsIn}
 use Rattle.order.proofs.Members.{all-take, all-drop}
-use Rattle.candidates.specs.Tables.{Rows, candidateRows, inWordOrder}
-use Rattle.candidates.specs.Between.{Standing}
+use Rattle.candidates.specs.Tables.{Rows, candidateRows}
+use Rattle.candidates.specs.Between.{inWordOrder, Standing}
 use Rattle.model.specs.Stored.{ModelTables}
 use Rattle.model.specs.Between.{modelTables}
 use Rattle.passes.specs.Leaks.{passes, passCount, touchedAt, leaksAt}

@@ -5,7 +5,8 @@
 use mathlib.Core.Path.{ap, sym, _∙_}
 use native.Mathlib.Omega.{arith}
 use borrow.Author.Needs.{needs}
-use Rattle.candidates.specs.Tables.{candidateRows, inWordOrder}
+use Rattle.candidates.specs.Tables.{candidateRows}
+use Rattle.candidates.specs.Between.{inWordOrder}
 use Rattle.lent.specs.Read.{got}
 use Rattle.passes.specs.Between.{FiniteRows}
 use Rattle.passes.proofs.TookLaws.{stood-held, stood-refused}

@@ -9,7 +9,8 @@ use borrow.Author.Needs.{needs}
 use lib.ListN.{length}
 use Rattle.word.specs.Flat.{words as wordsIn}
 use Rattle.sums.specs.Sums as Terms
-use Rattle.candidates.specs.Tables.{candidateRows, inWordOrder, putRows}
+use Rattle.candidates.specs.Tables.{candidateRows, putRows}
+use Rattle.candidates.specs.Between.{inWordOrder}
 use Rattle.model.specs.Between.{onto}
 use Rattle.action.specs.Acts.{listed}
 use Rattle.passes.specs.Leaks.{outside, leaked}
