@@ -3,10 +3,10 @@
 
 -- An accepted evolution multiplies the matrix that an accepted call of the matrix by rows leaves for the same model and basis, and takes m × s
 -- products. Assumes nothing.
-use mathlib.Core.Path.{_≡_, refl, sym, ap, _∙_}
+use mathlib.Core.Path.{_≡_, refl}
 use mathlib.Core.Bool.{Bool, true, false, cond}
 use mathlib.Core.List.{List}
-use Prim.Native.Nat.{ℕ, _+_, _*_, _≤_}
+use Prim.Native.Nat.{ℕ, _+_, _*_}
 use native.Mathlib.Omega.{arith}
 use borrow.Author.Tests.{eqb-true}
 use lib.Dec.{eqb}
@@ -17,8 +17,7 @@ use Rattle.refusal.specs.declared.Answer.{Answer}
 use Rattle.refusal.specs.declared.Answer.the-variants as Tests
 use Rattle.word.specs.declared.word.Word.{Word}
 use Rattle.number.specs.Floats.{floats, magnitude}
-use Rattle.expm.specs.Selects.{chosen, maxProducts}
-use Rattle.expm.specs.declared.Degree.{Degree}
+use Rattle.expm.specs.Selects.{chosen}
 use Rattle.expm.specs.declared.Chosen.{Chosen}
 use Rattle.expm.specs.declared.Chosen.the-variants as Choice
 use Rattle.expm.proofs.CeilingLaws.{answers}
@@ -31,13 +30,12 @@ use Rattle.columns.specs.Columns.{generatorOf, generatorRoom}
 use Rattle.raw_norm.specs.Unshifted.{unshiftedNorm}
 use Rattle.generator.specs.Lent as Generator
 use Rattle.generator.specs.Lent.{basisOf}
-use Rattle.generator.specs.Generators.{CsrOut, csrPlaces, buildCsr}
+use Rattle.generator.specs.Generators.{csrPlaces, buildCsr}
 use Rattle.generator_laws.proofs.Accepted.{csr-accepted}
 use Rattle.generator_laws.proofs.RowPlaces.{first-offsets, first-columns, first-values}
 use Rattle.generator_laws.proofs.SoundRows.{below}
 use Rattle.taylor.specs.Stages.{Evolution, evolved, stopped, stages as stagesOf}
 use Rattle.taylor.specs.Evolves.{Evolves, answerAfter, outAfter, evolveBy, evolveWith}
-use Rattle.taylor.specs.declared.evolve.Evolved.{Evolved}
 use Rattle.taylor.specs.declared.evolve.Evolved.the-variants.{Products, Refused}
 use Rattle.evolution.specs.Lent.{Work, evolveTests}
 use Rattle.evolution.specs.Evolutions.{Evolving, byGenerator, roomThen, tested, evolveOver, evolve}

@@ -3,13 +3,11 @@
 
 -- `write::copy_bytes` meets its contract: i bytes are laid. Assumes nothing.
 use mathlib.Core.Path.{_≡_, sym, _∙_}
-use lib.ListN.{length-set}
 use Rattle.matrix_market.proofs.LaidLaws.{copy-turn, copy-end}
 use borrow.Author.Needs.{needs}
 use native.Mathlib.Omega.{arith}
-use mathlib.Core.Path.{_≡_}
 use Prim.Native.Nat.{_-_, _≤_}
-use lib.ListN.{length, drop, set}
+use lib.ListN.{length, drop, set, length-set}
 use Rattle.lent.specs.Laid.{laid}
 use Rattle.matrix_market.proofs.write.copy_bytes.Statement.{statement}
 use Rattle.matrix_market.proofs.write.copy_bytes.Tie as tie
