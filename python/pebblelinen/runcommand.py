@@ -6,10 +6,10 @@ import math
 import os
 import signal
 import sys
-from collections.abc import Iterator, Mapping, Sequence
+from collections.abc import Callable, Iterable, Iterator, Mapping, Sequence
 from contextlib import contextmanager
 from pathlib import Path
-from typing import Any, NamedTuple
+from typing import Any, NamedTuple, TypeVar
 
 from . import _output, modelfile
 from ._given import counted
@@ -21,6 +21,9 @@ from .check import Checked, compared, prepared
 from .curve import Curve
 from .errors import InputError, Refusal
 from .run import Run, Settings, begun, settings_of, tolerance_of
+
+# A curve or a check.
+_Found = TypeVar("_Found", Curve, Checked)
 
 # Exit statuses of their own: a curve that does not hold, and a run that was interrupted.
 NOT_HELD = 3
@@ -192,18 +195,10 @@ def _run(options: argparse.Namespace) -> Answers:
         told = [_named(each, options, curves=list(map(_curve_answer, curves[each.path]))) for each in asked]
         return {**(told[0] if len(told) == 1 else {"files": told}), **_output.answer(options)}
 
-    def lines() -> Iterator[str]:
-        for each in asked:
-            yield from _head(each, options)
-            for curve in curves[each.path]:
-                yield ""
-                yield from _curve_lines(curve, options.all)
-        yield from _output.lines(options)
-
     def rows() -> Rows:
         yield from _curve_rows(_output.labelled(found))
 
-    return answer, lines, rows
+    return answer, lambda: _lines(asked, curves, _curve_lines, options), rows
 
 
 def _check(options: argparse.Namespace) -> Answers:
@@ -232,14 +227,6 @@ def _check(options: argparse.Namespace) -> Answers:
         ]
         return {**(told[0] if len(told) == 1 else {"ok": all(ok.values()), "files": told}), **_output.answer(options)}
 
-    def lines() -> Iterator[str]:
-        for each in asked:
-            yield from _head(each, options)
-            for one in checks[each.path]:
-                yield ""
-                yield from _check_lines(one, options.all)
-        yield from _output.lines(options)
-
     def rows() -> Rows:
         yield "observable", "time", "value", "moved_by_step", "moved_by_room", "exact", "ok"
         for label, one in _output.labelled(found).items():
@@ -248,13 +235,28 @@ def _check(options: argparse.Namespace) -> Answers:
             for *numbers, x in zip(*(column.tolist() for column in columns), exact):
                 yield label, *map(repr, numbers), x, one.ok
 
-    return answer, lines, rows
+    return answer, lambda: _lines(asked, checks, _check_lines, options), rows
 
 
 def _named(each: _Asked, options: argparse.Namespace, **found: Any) -> dict[str, Any]:
     """An answer for programs. Of several files each says its name."""
     name = {"file": each.path} if len(options.files) > 1 else {}
     return {**name, "qubits": each.file.model.n, **found}
+
+
+def _lines(
+    asked: Sequence[_Asked],
+    found: Mapping[str, Iterable[_Found]],
+    told: Callable[[_Found, bool], Iterable[str]],
+    options: argparse.Namespace,
+) -> Iterator[str]:
+    """What people are shown of curves or checks, file by file."""
+    for each in asked:
+        yield from _head(each, options)
+        for one in found[each.path]:
+            yield ""
+            yield from told(one, options.all)
+    yield from _output.lines(options)
 
 
 def _head(each: _Asked, options: argparse.Namespace) -> Iterator[str]:
