@@ -15,7 +15,7 @@ ghost use Rattle.word.specs.declared.word.Ordering.the-variants.{Equal};
 ghost use Rattle.word.specs.Steps.{chosen, Put, scanFrom};
 use refusal::Answer;
 use refusal::Refusal;
-ghost use Rattle.word.specs.Between.{Wrote, NextQubit, DigitsFrom};
+ghost use Rattle.word.specs.Between.{Wrote, NextQubit, DigitsFrom, join, covers};
 
 // The lanes of a word's x and of its z, and the qubits that they hold, 64 to a lane.
 pub const LANES: usize = 4;
@@ -412,4 +412,25 @@ pub fn same_word(p: Word, q: Word) -> bool
     let d2 = (x[2] ^ u[2]) | (z[2] ^ v[2]);
     let d3 = (x[3] ^ u[3]) | (z[3] ^ v[3]);
     d0 | d1 | d2 | d3 == 0
+}
+
+// The bits of both words.
+pub fn joined(u: Word, w: Word) -> Word
+    ensures { λ r. ⌜ r ≡ join u w ⌝ }
+{
+    let a = u.x;
+    let b = u.z;
+    let x = w.x;
+    let z = w.z;
+    Word {
+        x: [a[0] | x[0], a[1] | x[1], a[2] | x[2], a[3] | x[3]],
+        z: [b[0] | z[0], b[1] | z[1], b[2] | z[2], b[3] | z[3]],
+    }
+}
+
+// Whether u has every bit of w.
+pub fn covers_word(u: Word, w: Word) -> bool
+    ensures { λ r. ⌜ r ≡ covers u w ⌝ }
+{
+    same_word(joined(u, w), u)
 }
