@@ -432,5 +432,13 @@ pub fn joined(u: Word, w: Word) -> Word
 pub fn covers_word(u: Word, w: Word) -> bool
     ensures { λ r. ⌜ r ≡ covers u w ⌝ }
 {
-    same_word(joined(u, w), u)
+    let a = u.x;
+    let b = u.z;
+    let x = w.x;
+    let z = w.z;
+    let m0 = (x[0] & !a[0]) | (z[0] & !b[0]);
+    let m1 = (x[1] & !a[1]) | (z[1] & !b[1]);
+    let m2 = (x[2] & !a[2]) | (z[2] & !b[2]);
+    let m3 = (x[3] & !a[3]) | (z[3] & !b[3]);
+    m0 | m1 | m2 | m3 == 0
 }
