@@ -1,12 +1,12 @@
 -- SPDX-FileCopyrightText: 2026 The PPVM Authors
 -- SPDX-License-Identifier: Apache-2.0
 
--- `actions::print_list` meets its contract: each turn prints one entry. Assumes nothing.
+-- `bases::print_list` meets its contract: each turn prints one entry. Assumes nothing.
 use Prim.Native.Nat.{_-_, _≤_}
 use lib.ListN.{length}
 use borrow.Author.Needs.{needs}
-use Rattle.examples.proofs.actions.print_list.Statement.{statement}
-use Rattle.examples.proofs.actions.print_list.Tie as tie
+use Rattle.examples.proofs.bases.print_list.Statement.{statement}
+use Rattle.examples.proofs.bases.print_list.Tie as tie
 
 abbrev Inv-loop : tie.InvT-loop
 Inv-loop words values count i₀ t5 i = i ≤ length values
