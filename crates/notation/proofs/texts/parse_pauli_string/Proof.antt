@@ -1,12 +1,12 @@
 -- SPDX-FileCopyrightText: 2026 The PPVM Authors
 -- SPDX-License-Identifier: Apache-2.0
 
--- `word::parse_pauli_string` meets its contract, by what the first look finds. Assumes nothing.
+-- `texts::parse_pauli_string` meets its contract, by what the first look finds. Assumes nothing.
 use mathlib.Core.Path.{sym, _∙_}
-use Rattle.word.proofs.TextLaws.{parse-wide, parse-foreign, parse-length, parse-letters, counted}
+use Rattle.notation.proofs.TextLaws.{parse-wide, parse-foreign, parse-length, parse-letters, counted}
 use borrow.Author.Needs.{needs}
-use Rattle.word.proofs.word.parse_pauli_string.Statement.{statement}
-use Rattle.word.proofs.word.parse_pauli_string.Tie as tie
+use Rattle.notation.proofs.texts.parse_pauli_string.Statement.{statement}
+use Rattle.notation.proofs.texts.parse_pauli_string.Tie as tie
 
 returns : tie.Need-returns
 returns c = parse-wide _ _ (c .if1 .taken)

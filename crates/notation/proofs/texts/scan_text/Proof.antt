@@ -1,16 +1,16 @@
 -- SPDX-FileCopyrightText: 2026 The PPVM Authors
 -- SPDX-License-Identifier: Apache-2.0
 
--- `word::scan_text` meets its contract: what the first look finds is what a look at the rest finds. Assumes nothing.
+-- `texts::scan_text` meets its contract: what the first look finds is what a look at the rest finds. Assumes nothing.
 use mathlib.Core.Path.{_≡_, refl, sym, _∙_}
 use Prim.Native.Nat.{_-_, _≤_}
 use lib.ListN.{length, drop}
-use Rattle.word.specs.Steps.{scanFrom}
-use Rattle.word.proofs.TextLaws.{scan-underscore, scan-letter, scan-foreign, scan-end}
+use Rattle.notation.specs.Between.{scanFrom}
+use Rattle.notation.proofs.TextLaws.{scan-underscore, scan-letter, scan-foreign, scan-end}
 use borrow.Author.Needs.{needs}
 use native.Mathlib.Omega.{arith}
-use Rattle.word.proofs.word.scan_text.Statement.{statement}
-use Rattle.word.proofs.word.scan_text.Tie as tie
+use Rattle.notation.proofs.texts.scan_text.Statement.{statement}
+use Rattle.notation.proofs.texts.scan_text.Tie as tie
 
 abbrev Inv-loop : tie.InvT-loop
 Inv-loop text place₀ i₀ place i = (i ≤ length text) × (place ≤ i) × (scanFrom 0 text ≡ scanFrom place (drop i text))

@@ -1,17 +1,17 @@
 -- SPDX-FileCopyrightText: 2026 The PPVM Authors
 -- SPDX-License-Identifier: Apache-2.0
 
--- `word::read_letters` meets its contract: after each letter the word has the letters read so far, and I above. Assumes nothing.
+-- `texts::read_letters` meets its contract: after each letter the word has the letters read so far, and I above. Assumes nothing.
 use mathlib.Core.Path.{_≡_, refl, sym, ap, _∙_}
 use Prim.Native.Nat.{_-_, _≤_}
 use lib.ListN.{length, getD, drop}
-use Rattle.word.specs.Text.{codeOf, dropped, noLetter}
-use Rattle.word.specs.declared.word.ParsedWord.the-variants.{Parsed}
-use Rattle.word.proofs.TextLaws.{Passed, passed-none, passed-more, ReadTo, read-none, read-more, read-none-more, underscore-next, letter-left, letter-next, letter-here, letters-end, letters-read, letter-refused, not-refused}
+use Rattle.notation.specs.Text.{codeOf, dropped, noLetter}
+use Rattle.notation.specs.declared.texts.ParsedWord.the-variants.{Parsed}
+use Rattle.notation.proofs.TextLaws.{Passed, passed-none, passed-more, ReadTo, read-none, read-more, read-none-more, underscore-next, letter-left, letter-next, letter-here, letters-end, letters-read, letter-refused, not-refused}
 use borrow.Author.Needs.{needs}
 use native.Mathlib.Omega.{arith}
-use Rattle.word.proofs.word.read_letters.Statement.{statement}
-use Rattle.word.proofs.word.read_letters.Tie as tie
+use Rattle.notation.proofs.texts.read_letters.Statement.{statement}
+use Rattle.notation.proofs.texts.read_letters.Tie as tie
 
 abbrev Inv-loop : tie.InvT-loop
 Inv-loop text w₀ q₀ i₀ w q i =

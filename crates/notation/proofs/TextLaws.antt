@@ -20,21 +20,21 @@ use Rattle.refusal.specs.declared.Refusal.{Refusal}
 use Rattle.refusal.specs.declared.Answer.{Answer}
 use Rattle.refusal.specs.declared.Answer.the-variants.{Accepted}
 use Rattle.refusal.specs.declared.Answer.the-variants as Answers
 use Rattle.word.specs.Count.{tabulate}
 use Rattle.word.specs.Word.{maxQubits, letterAt, wordOf, identity, pack, Sound}
-use Rattle.word.specs.Text.{codeOf, dropped, firstWhere, refuseByte, foreign, noLetter, readLetters, parse}
-use Rattle.word.specs.Codes.{noCode, readCodes, writeAnswer, writeFor, written}
+use Rattle.notation.specs.Text.{codeOf, dropped, firstWhere, refuseByte, foreign, noLetter, readLetters, parse}
+use Rattle.notation.specs.Codes.{noCode, readCodes, writeAnswer, writeFor, written}
 use Rattle.word.specs.Register.{reaches}
-use Rattle.word.specs.Steps.{chosen, Put, scanFrom}
+use Rattle.word.specs.Steps.{chosen, Put}
+use Rattle.notation.specs.Between.{scanFrom, Wrote}
 use Rattle.word.specs.declared.word.Word.{Word}
-use Rattle.word.specs.declared.word.Scan.{Scan}
-use Rattle.word.specs.declared.word.Scan.the-variants.{Letters, Foreign}
-use Rattle.word.specs.declared.word.ParsedWord.{ParsedWord}
-use Rattle.word.specs.declared.word.ParsedWord.the-variants.{Parsed, Refused}
+use Rattle.notation.specs.declared.texts.Scan.{Scan}
+use Rattle.notation.specs.declared.texts.Scan.the-variants.{Letters, Foreign}
+use Rattle.notation.specs.declared.texts.ParsedWord.{ParsedWord}
+use Rattle.notation.specs.declared.texts.ParsedWord.the-variants.{Parsed, Refused}
 use Rattle.word.proofs.Sums.{length-tabulate}
 use Rattle.word.proofs.Words.{word-is}
 use Rattle.word.proofs.WordLaws.{letter-identity, sound-identity}
-use Rattle.word.specs.Between.{Wrote}
 
 -- ---- the first place that passes a test
 module _ (p : ℕ → Bool) where

@@ -11,13 +11,13 @@ use Rattle.refusal.specs.declared.Refusal.the-variants.{TooManyQubits, InvalidP
 use Rattle.refusal.specs.declared.Answer.{Answer}
 use Rattle.refusal.specs.declared.Answer.the-variants.{Accepted}
 use Rattle.refusal.specs.declared.Answer.the-variants as Answers
 use Rattle.word.specs.Count.{tabulate}
 use Rattle.word.specs.Word.{maxQubits, letterAt, wordOf, pack}
-use Rattle.word.specs.Text.{firstWhere}
+use Rattle.notation.specs.Text.{firstWhere}
 use Rattle.word.specs.Register.{reaches}
 use Rattle.word.specs.declared.word.Word.{Word}
-use Rattle.word.specs.declared.word.ParsedWord.{ParsedWord}
-use Rattle.word.specs.declared.word.ParsedWord.the-variants.{Parsed, Refused}
+use Rattle.notation.specs.declared.texts.ParsedWord.{ParsedWord}
+use Rattle.notation.specs.declared.texts.ParsedWord.the-variants.{Parsed, Refused}
 
 abbrev pub noCode : ℕ → Bool
 noCode c = ltb 3 c

@@ -1,11 +1,11 @@
 -- SPDX-FileCopyrightText: 2026 The PPVM Authors
 -- SPDX-License-Identifier: Apache-2.0
 
--- `word::code_of` meets its contract. Assumes nothing.
+-- `texts::code_of` meets its contract. Assumes nothing.
 use borrow.Author.Tests.{eq-eqb, ne-eqb}
-use Rattle.word.specs.Text.{codeOf}
-use Rattle.word.proofs.word.code_of.Statement.{statement}
-use Rattle.word.proofs.word.code_of.Tie as tie
+use Rattle.notation.specs.Text.{codeOf}
+use Rattle.notation.proofs.texts.code_of.Statement.{statement}
+use Rattle.notation.proofs.texts.code_of.Tie as tie
 
 returns : tie.Need-returns
 unfolding codeOf

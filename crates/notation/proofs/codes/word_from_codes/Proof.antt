@@ -1,18 +1,18 @@
 -- SPDX-FileCopyrightText: 2026 The PPVM Authors
 -- SPDX-License-Identifier: Apache-2.0
 
--- `word::word_from_codes` meets its contract: after each code the word has the letters read so far, and I above. Assumes nothing.
+-- `codes::word_from_codes` meets its contract: after each code the word has the letters read so far, and I above. Assumes nothing.
 use mathlib.Core.Path.{refl, ap, _∙_}
 use Prim.Native.Nat.{_-_, _≤_}
 use lib.ListN.{length, getD}
 use borrow.Author.Tests.{le-ltb}
-use Rattle.word.specs.Codes.{noCode}
-use Rattle.word.specs.declared.word.ParsedWord.the-variants.{Parsed}
-use Rattle.word.proofs.TextLaws.{Passed, passed-none, passed-more, ReadTo, read-none, read-more, codes-wide, code-refused, codes-read}
+use Rattle.notation.specs.Codes.{noCode}
+use Rattle.notation.specs.declared.texts.ParsedWord.the-variants.{Parsed}
+use Rattle.notation.proofs.TextLaws.{Passed, passed-none, passed-more, ReadTo, read-none, read-more, codes-wide, code-refused, codes-read}
 use borrow.Author.Needs.{needs}
 use native.Mathlib.Omega.{arith}
-use Rattle.word.proofs.word.word_from_codes.Statement.{statement}
-use Rattle.word.proofs.word.word_from_codes.Tie as tie
+use Rattle.notation.proofs.codes.word_from_codes.Statement.{statement}
+use Rattle.notation.proofs.codes.word_from_codes.Tie as tie
 
 abbrev Inv-loop : tie.InvT-loop
 Inv-loop codes n-qubits w₀ q₀ w q = (q ≤ length codes) × Passed noCode q codes × ReadTo (λ k. getD codes k 0) q w

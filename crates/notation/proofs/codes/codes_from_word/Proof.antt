@@ -1,18 +1,18 @@
 -- SPDX-FileCopyrightText: 2026 The PPVM Authors
 -- SPDX-License-Identifier: Apache-2.0
 
--- `word::codes_from_word` meets its contract: after q turns the first q places have their codes. Assumes nothing.
+-- `codes::codes_from_word` meets its contract: after q turns the first q places have their codes. Assumes nothing.
 use mathlib.Core.Path.{_≡_, refl, sym, ap, _∙_}
 use Prim.Native.Nat.{ℕ, _-_, _≤_}
 use mathlib.Core.List.{List, _++_}
 use lib.ListN.{length, drop, set}
 use Rattle.word.specs.Count.{tabulate}
 use Rattle.word.specs.Word.{letterAt}
-use Rattle.word.proofs.TextLaws.{written-more, written-length, write-wide, write-short, write-outside, write-accepted}
+use Rattle.notation.proofs.TextLaws.{written-more, written-length, write-wide, write-short, write-outside, write-accepted}
 use borrow.Author.Needs.{needs}
 use native.Mathlib.Omega.{arith}
-use Rattle.word.proofs.word.codes_from_word.Statement.{statement}
-use Rattle.word.proofs.word.codes_from_word.Tie as tie
+use Rattle.notation.proofs.codes.codes_from_word.Statement.{statement}
+use Rattle.notation.proofs.codes.codes_from_word.Tie as tie
 
 abbrev Inv-loop : tie.InvT-loop
 Inv-loop w n-qubits out₀ q₀ out q = (q ≤ n-qubits) × (out ≡ tabulate q (letterAt w) ++ drop q out₀)

@@ -17,22 +17,22 @@ use Rattle.refusal.specs.declared.Refusal.{Refusal}
 use Rattle.refusal.specs.declared.Answer.{Answer}
 use Rattle.refusal.specs.declared.Answer.the-variants.{Accepted}
 use Rattle.refusal.specs.declared.Answer.the-variants as Answers
 use Rattle.word.specs.Count.{tabulate}
 use Rattle.word.specs.Word.{maxQubits, letterAt, wordOf, pack, unpack, Sound}
-use Rattle.word.specs.Text.{codeOf, dropped, firstWhere, noLetter, readLetters, parse}
-use Rattle.word.specs.Codes.{noCode, readCodes, writeAnswer, writeFor, written}
+use Rattle.notation.specs.Text.{codeOf, dropped, firstWhere, noLetter, readLetters, parse}
+use Rattle.notation.specs.Codes.{noCode, readCodes, writeAnswer, writeFor, written}
 use Rattle.word.specs.Register.{actsOn, reaches}
 use Rattle.word.specs.declared.word.Word.{Word}
 use Rattle.word.specs.declared.word.Lanes.{Lanes}
-use Rattle.word.specs.Steps.{scanFrom}
-use Rattle.word.specs.declared.word.Scan.{Scan}
-use Rattle.word.specs.declared.word.Scan.the-variants.{Letters, Foreign}
-use Rattle.word.specs.declared.word.ParsedWord.{ParsedWord}
-use Rattle.word.specs.declared.word.ParsedWord.the-variants.{Parsed, Refused}
+use Rattle.notation.specs.Between.{scanFrom}
+use Rattle.notation.specs.declared.texts.Scan.{Scan}
+use Rattle.notation.specs.declared.texts.Scan.the-variants.{Letters, Foreign}
+use Rattle.notation.specs.declared.texts.ParsedWord.{ParsedWord}
+use Rattle.notation.specs.declared.texts.ParsedWord.the-variants.{Parsed, Refused}
 use Rattle.word.proofs.Sums.{any-false, any-none, length-tabulate, getD-tabulate}
-use Rattle.word.proofs.TextLaws.{first-here, first-later, refuse-first, refuse-none, letters-counted, parse-wide, parse-foreign, parse-length, parse-letters, codes-wide, write-wide, write-short, write-outside}
+use Rattle.notation.proofs.TextLaws.{first-here, first-later, refuse-first, refuse-none, letters-counted, parse-wide, parse-foreign, parse-length, parse-letters, codes-wide, write-wide, write-short, write-outside}
 use Rattle.word.proofs.Words.{sound-wordOf, letter-wordOf, letter-beyond, unpack-pack, word-is}
 use Rattle.word.proofs.WordLaws.{word-letter-lt}
 
 -- ---- answers that are words
 is-word : {a b : Lanes} → _≡_ {A = ParsedWord} (Parsed a) (Parsed b) → a ≡ b
