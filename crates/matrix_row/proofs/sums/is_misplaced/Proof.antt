@@ -3,10 +3,10 @@
 
 -- `sums::is_misplaced` meets its contract. Assumes nothing.
 use native.Mathlib.Omega.{arith}
-use Rattle.csr.proofs.PlaceLaws.{one-test}
+use Rattle.matrix_row.proofs.PlaceLaws.{one-test}
 use borrow.Author.Needs.{needs}
-use Rattle.csr.proofs.sums.is_misplaced.Statement.{statement}
-use Rattle.csr.proofs.sums.is_misplaced.Tie as tie
+use Rattle.matrix_row.proofs.sums.is_misplaced.Statement.{statement}
+use Rattle.matrix_row.proofs.sums.is_misplaced.Tie as tie
 
 returns : tie.Need-returns
 returns c =

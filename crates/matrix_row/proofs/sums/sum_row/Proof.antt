@@ -6,11 +6,11 @@ use mathlib.Core.Path.{sym, _∙_}
 use Prim.Native.Nat.{_-_, _<_}
 use native.Mathlib.Omega.{arith}
 use lib.ListN.{length}
-use Rattle.csr.proofs.PlaceLaws.{in-place}
-use Rattle.csr.proofs.SumLaws.{Passing, passing-start, all-passed, stops-misplaced, passing-more}
+use Rattle.matrix_row.proofs.PlaceLaws.{in-place}
+use Rattle.matrix_row.proofs.SumLaws.{Passing, passing-start, all-passed, stops-misplaced, passing-more}
 use borrow.Author.Needs.{needs}
-use Rattle.csr.proofs.sums.sum_row.Statement.{statement}
-use Rattle.csr.proofs.sums.sum_row.Tie as tie
+use Rattle.matrix_row.proofs.sums.sum_row.Statement.{statement}
+use Rattle.matrix_row.proofs.sums.sum_row.Tie as tie
 
 abbrev Inv-loop : tie.InvT-loop
 Inv-loop columns values input sum₀ least₀ k₀ sum least k = Passing input columns values sum least k

@@ -3,8 +3,8 @@
 
 -- `sums::stored` meets its contract. Assumes nothing.
 use borrow.Author.Needs.{needs}
-use Rattle.csr.proofs.sums.stored.Statement.{statement}
-use Rattle.csr.proofs.sums.stored.Tie as tie
+use Rattle.matrix_row.proofs.sums.stored.Statement.{statement}
+use Rattle.matrix_row.proofs.sums.stored.Tie as tie
 
 returns-2 : tie.Need-returns-2
 returns-2 c = rw (c .if1 .left)

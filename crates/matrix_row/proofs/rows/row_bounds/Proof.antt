@@ -3,11 +3,11 @@
 
 -- `rows::row_bounds` meets its contract, answer by answer. Assumes nothing.
 use native.Mathlib.Omega.{arith}
-use Rattle.csr.proofs.RowLaws.{row-missing, row-falling, row-outside, row-is}
+use Rattle.matrix_row.proofs.RowLaws.{row-missing, row-falling, row-outside, row-is}
 use mathlib.Core.Path.{sym}
 use borrow.Author.Needs.{needs}
-use Rattle.csr.proofs.rows.row_bounds.Statement.{statement}
-use Rattle.csr.proofs.rows.row_bounds.Tie as tie
+use Rattle.matrix_row.proofs.rows.row_bounds.Statement.{statement}
+use Rattle.matrix_row.proofs.rows.row_bounds.Tie as tie
 
 returns : tie.Need-returns
 returns c = let a = c .before .args in row-missing (a .offsets .now) (a .places) (a .row) (omega arith)

@@ -17,10 +17,10 @@ use lib.Seq.{take-suc, take-all}
 use Rattle.number.specs.Floats.{float0, isFinite}
 use Rattle.number.proofs.ZeroLaws.{isMinusZero, add-not-minus, adds-nothing}
 use Rattle.lent.proofs.Firsts.{NoneBefore, none-start, none-more, first-here, first-none}
-use Rattle.csr.specs.Products.{RowEntry, beside, addEntry, addEntries, rowSum}
-use Rattle.csr.specs.Walks.{misplaced, badPlace, addProduct, addProducts, fullSum, RowWalked}
-use Rattle.csr.proofs.NumberLaws.{mul-finite, add-finite}
-use Rattle.csr.proofs.PlaceLaws.{Placed, placed-start, place-is, placed-next}
+use Rattle.matrix_row.specs.Rows.{RowEntry, beside, addEntry, addEntries, rowSum}
+use Rattle.matrix_row.specs.Walks.{misplaced, badPlace, addProduct, addProducts, fullSum, RowWalked}
+use Rattle.matrix_row.proofs.FiniteLaws.{mul-finite, add-finite}
+use Rattle.matrix_row.proofs.PlaceLaws.{Placed, placed-start, place-is, placed-next}
 
 -- ---- columns beside their values
 abbrev pub entryAt : List ℕ → List Float → ℕ → RowEntry

@@ -12,8 +12,8 @@ use borrow.Author.Tests.{leb-true, lt-ltb, le-ltb, le-leb, lt-leb}
 use lib.Dec.{ltb, leb}
 use lib.ListN.{getD, length, drop, length-drop}
 use lib.Seq.{length-take-le, getD-take, getD-drop}
-use Rattle.csr.specs.Rows.{rowAt, partOf}
-use Rattle.csr.specs.declared.rows.Row.{Row}
+use Rattle.matrix_row.specs.Rows.{rowAt, partOf}
+use Rattle.matrix_row.specs.declared.rows.Row.{Row}
 
 -- nowhere
 abbrev pub nowhere : Row

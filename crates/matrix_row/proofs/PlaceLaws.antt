@@ -12,7 +12,7 @@ use native.Mathlib.Decide.{decLt}
 use borrow.Author.Tests.{ltb-false, leb-false, lt-ltb, le-ltb, le-leb, lt-leb}
 use lib.Dec.{ltb, leb}
 use lib.ListN.{getD}
-use Rattle.csr.specs.Walks.{leastAt, misplaced, badPlace}
+use Rattle.matrix_row.specs.Walks.{leastAt, misplaced, badPlace}
 
 pub least-next : (cs : List ℕ) (k : ℕ) → getD cs k 0 + 1 ≡ leastAt cs (k + 1)
 unfolding leastAt
