@@ -7,7 +7,7 @@ ghost use Prim.Native.Nat.{_*_, _≤_};
 ghost use lib.ListN.{length, take};
 ghost use Rattle.word.specs.Flat.{words as wordsIn, wordLanes};
 ghost use Rattle.order.specs.Places.{isAmong};
-ghost use Rattle.norm.specs.Between.{BasisSlots};
+ghost use Rattle.column_norm.specs.Between.{BasisSlots};
 use slots::has_word;
 use slots::lay_slots;
 use word::flat::WORD_LANES;

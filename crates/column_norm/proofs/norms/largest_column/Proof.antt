@@ -1,12 +1,12 @@
 -- SPDX-FileCopyrightText: 2026 The PPVM Authors
 -- SPDX-License-Identifier: Apache-2.0
 
--- `norm::largest_column` meets its contract: before each column, the largest so far beside those that are left. Assumes nothing.
+-- `norms::largest_column` meets its contract: before each column, the largest so far beside those that are left. Assumes nothing.
 use Prim.Native.Nat.{_-_}
-use Rattle.norm.proofs.NormLaws.{LargestState, largest-start, largest-more, largest-done}
+use Rattle.column_norm.proofs.NormLaws.{LargestState, largest-start, largest-more, largest-done}
 use borrow.Author.Needs.{needs}
-use Rattle.norm.proofs.norm.largest_column.Statement.{statement}
-use Rattle.norm.proofs.norm.largest_column.Tie as tie
+use Rattle.column_norm.proofs.norms.largest_column.Statement.{statement}
+use Rattle.column_norm.proofs.norms.largest_column.Tie as tie
 
 abbrev Inv-loop : tie.InvT-loop
 Inv-loop raws diags len mu norm₀ i₀ norm i = LargestState mu len raws diags norm i

@@ -1,14 +1,14 @@
 -- SPDX-FileCopyrightText: 2026 The PPVM Authors
 -- SPDX-License-Identifier: Apache-2.0
 
--- `norm::column_norm` meets its contract, by those of the magnitudes. Assumes nothing.
+-- `norms::column_norm` meets its contract, by those of the magnitudes. Assumes nothing.
 use mathlib.Core.Path.{ap₂}
 use borrow.Author.Needs.{needs}
 use lib.Ieee.{Float}
 use Rattle.number.specs.Floats.{floats}
-use Rattle.norm.specs.Columns.{columnNorm}
-use Rattle.norm.proofs.norm.column_norm.Statement.{statement}
-use Rattle.norm.proofs.norm.column_norm.Tie as tie
+use Rattle.column_norm.specs.Columns.{columnNorm}
+use Rattle.column_norm.proofs.norms.column_norm.Statement.{statement}
+use Rattle.column_norm.proofs.norms.column_norm.Tie as tie
 
 returns : tie.Need-returns
 unfolding columnNorm

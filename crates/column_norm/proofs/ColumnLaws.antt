@@ -18,7 +18,7 @@ use Rattle.sums.specs.Sums.{sumRows}
 use Rattle.model.specs.Terms.{Term, termAt}
 use Rattle.action.specs.Acts.{listed}
 use Rattle.action.proofs.ListLaws.{left, left-none, left-passed, left-listed}
-use Rattle.norm.specs.Columns.{sumFrom, insideOf, rawOf, diagOf}
+use Rattle.column_norm.specs.Columns.{sumFrom, insideOf, rawOf, diagOf}
 
 -- the magnitudes of the terms whose words are in a basis
 abbrev sizes : List Word → List Term → List Float

@@ -1,16 +1,16 @@
 -- SPDX-FileCopyrightText: 2026 The PPVM Authors
 -- SPDX-License-Identifier: Apache-2.0
 
--- `columns::raw_of` meets its contract: before each sum, what is added so far beside what is left. Assumes nothing.
+-- `column::raw_of` meets its contract: before each sum, what is added so far beside what is left. Assumes nothing.
 use mathlib.Core.Path.{sym, _∙_}
 use Prim.Native.Nat.{_-_}
 use lib.ListN.{take}
 use Rattle.word.specs.Flat.{words}
 use Rattle.model.specs.Between.{onto}
-use Rattle.norm.proofs.ColumnLaws.{RawState, raw-start, raw-passes, raw-adds, raw-leaves, raw-done}
+use Rattle.column_norm.proofs.ColumnLaws.{RawState, raw-start, raw-passes, raw-adds, raw-leaves, raw-done}
 use borrow.Author.Needs.{needs}
-use Rattle.norm.proofs.columns.raw_of.Statement.{statement}
-use Rattle.norm.proofs.columns.raw_of.Tie as tie
+use Rattle.column_norm.proofs.column.raw_of.Statement.{statement}
+use Rattle.column_norm.proofs.column.raw_of.Tie as tie
 
 abbrev Inv-loop : tie.InvT-loop
 Inv-loop sum-words sums count lanes len heads nexts raw₀ i₀ raw i = RawState (take len (words lanes)) count sum-words sums raw i

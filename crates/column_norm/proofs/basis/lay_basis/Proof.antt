@@ -7,10 +7,10 @@ use native.Mathlib.Omega.{arith}
 use lib.Seq.{length-take-le, length-front}
 use Rattle.word.specs.Flat.{wordLanes}
 use Prim.Native.Nat.{_*_}
-use Rattle.norm.proofs.BasisLaws.{slots-asked, slots-laid}
+use Rattle.column_norm.proofs.BasisLaws.{slots-asked, slots-laid}
 use borrow.Author.Needs.{needs}
-use Rattle.norm.proofs.basis.lay_basis.Statement.{statement}
-use Rattle.norm.proofs.basis.lay_basis.Tie as tie
+use Rattle.column_norm.proofs.basis.lay_basis.Statement.{statement}
+use Rattle.column_norm.proofs.basis.lay_basis.Tie as tie
 
 mul-lay-slots : tie.Need-mul-lay-slots
 mul-lay-slots c = let a = c .before .before .before .args in let h = c .before .before .before .pre .0 in search (h, c .before .before .before .good .0, needs)

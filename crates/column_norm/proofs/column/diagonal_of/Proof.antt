@@ -1,14 +1,14 @@
 -- SPDX-FileCopyrightText: 2026 The PPVM Authors
 -- SPDX-License-Identifier: Apache-2.0
 
--- `columns::diagonal_of` meets its contract. Assumes nothing.
+-- `column::diagonal_of` meets its contract. Assumes nothing.
 use mathlib.Core.Path.{sym, _∙_}
 use Prim.Native.Nat.{_-_}
 use Rattle.model.specs.Between.{onto}
-use Rattle.norm.proofs.ColumnLaws.{DiagState, diag-start, diag-passes, diag-found, diag-other, diag-none}
+use Rattle.column_norm.proofs.ColumnLaws.{DiagState, diag-start, diag-passes, diag-found, diag-other, diag-none}
 use borrow.Author.Needs.{needs}
-use Rattle.norm.proofs.columns.diagonal_of.Statement.{statement}
-use Rattle.norm.proofs.columns.diagonal_of.Tie as tie
+use Rattle.column_norm.proofs.column.diagonal_of.Statement.{statement}
+use Rattle.column_norm.proofs.column.diagonal_of.Tie as tie
 
 abbrev Inv-loop : tie.InvT-loop
 Inv-loop words sums len w i₀ i = DiagState len words sums w i

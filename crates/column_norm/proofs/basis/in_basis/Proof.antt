@@ -7,10 +7,10 @@ use native.Mathlib.Omega.{arith}
 use lib.Seq.{length-take-le}
 use Rattle.word.specs.Flat.{wordLanes}
 use Prim.Native.Nat.{_*_}
-use Rattle.norm.proofs.BasisLaws.{slots-read, among-first}
+use Rattle.column_norm.proofs.BasisLaws.{slots-read, among-first}
 use borrow.Author.Needs.{needs}
-use Rattle.norm.proofs.basis.in_basis.Statement.{statement}
-use Rattle.norm.proofs.basis.in_basis.Tie as tie
+use Rattle.column_norm.proofs.basis.in_basis.Statement.{statement}
+use Rattle.column_norm.proofs.basis.in_basis.Tie as tie
 
 mul-has-word : tie.Need-mul-has-word
 mul-has-word c = let h = c .before .before .before .pre .lanes-long in search (h, c .before .before .before .good .0, needs)

@@ -12,8 +12,8 @@ use lib.Ieee.{Float, nan, binary64, div, ofInt}
 use lib.ListN.{length, getD, take, drop, drop-of-length-le}
 use lib.Seq.{drop-cons, getD-take, length-take-le}
 use Rattle.number.specs.Floats.{floats, float0}
-use Rattle.norm.specs.Columns.{sumFrom, total, meanOf, largestFrom, largest, columnNorm}
-use Rattle.norm.specs.Between.{columnNorms}
+use Rattle.column_norm.specs.Columns.{sumFrom, total, meanOf, largestFrom, largest, columnNorm}
+use Rattle.column_norm.specs.Between.{columnNorms}
 
 -- ---- one more of the first len numbers
 module _ (len : ℕ) (l : List Float) (long : len ≤ length l) where

@@ -14,7 +14,7 @@ use Rattle.word.specs.declared.word.Word.{Word}
 use Rattle.word.proofs.FlatLaws.{words-take, words-high}
 use Rattle.order.specs.Places.{isAmong}
 use Rattle.slots.specs.Between.{Slotted}
-use Rattle.norm.specs.Between.{BasisSlots}
+use Rattle.column_norm.specs.Between.{BasisSlots}
 
 module _ (lanes : List ℕ) (len : ℕ) where
   pub first-words : words (take (len * wordLanes) lanes) ≡ take len (words lanes)

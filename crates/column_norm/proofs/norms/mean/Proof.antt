@@ -1,15 +1,15 @@
 -- SPDX-FileCopyrightText: 2026 The PPVM Authors
 -- SPDX-License-Identifier: Apache-2.0
 
--- `norm::mean` meets its contract: before each diagonal, the sum so far beside what is left. Assumes nothing.
+-- `norms::mean` meets its contract: before each diagonal, the sum so far beside what is left. Assumes nothing.
 use Prim.Native.Nat.{_-_}
 use native.Mathlib.Omega.{arith}
 use lib.Dec.{le→leb}
 use lib.Ieee.{inFloat}
-use Rattle.norm.proofs.NormLaws.{SumState, sum-start, sum-adds, mean-none, mean-done}
+use Rattle.column_norm.proofs.NormLaws.{SumState, sum-start, sum-adds, mean-none, mean-done}
 use borrow.Author.Needs.{needs}
-use Rattle.norm.proofs.norm.mean.Statement.{statement}
-use Rattle.norm.proofs.norm.mean.Tie as tie
+use Rattle.column_norm.proofs.norms.mean.Statement.{statement}
+use Rattle.column_norm.proofs.norms.mean.Tie as tie
 
 abbrev Inv-loop : tie.InvT-loop
 Inv-loop diags len sum₀ i₀ sum i = SumState len diags sum i
