@@ -1,7 +1,7 @@
 -- SPDX-FileCopyrightText: 2026 The PPVM Authors
 -- SPDX-License-Identifier: Apache-2.0
 
--- Laws that belong to no one function; WordLaws, OrderLaws, CoverLaws and TextLaws are those that other crates cite.
+-- Laws that belong to no one function; WordLaws, OrderLaws and CoverLaws are those that other crates cite.
 pub mod Sums
 pub mod CountLaws
 pub mod Digits
@@ -14,7 +14,5 @@ pub mod Planes
 pub mod NextLaws
 pub mod Tests
 pub mod CoverLaws
-pub mod TextLaws
-pub mod RoundTrips
 pub mod FlatLaws
 pub mod HashLaws
