@@ -14,3 +14,5 @@ pub mod AdmissionLaws
 pub mod RefusedLaws
 pub mod EmptyLaws
 pub mod CallLaws
+pub mod InsideLaws
+pub mod GrownLaws
