@@ -16,3 +16,5 @@ pub mod EmptyLaws
 pub mod CallLaws
 pub mod InsideLaws
 pub mod GrownLaws
+pub mod HeldLaws
+pub mod EvolveCall
