@@ -8,7 +8,7 @@ use mathlib.Core.Bool.{Bool, true, false, cond}
 use mathlib.Core.List.{List, [], _∷_, _++_, append-nil}
 use Prim.Native.Nat.{ℕ, suc, _*_, _≤_}
 use native.Mathlib.Omega.{arith}
-use borrow.Author.Tests.{le-ltb, eqb-true}
+use borrow.Author.Tests.{eqb-true}
 use lib.Dec.{eqb}
 use lib.Ieee.{Float}
 use lib.ListN.{length, take, drop, drop-of-length-le, length-append, length-drop}
@@ -27,8 +27,7 @@ use Rattle.model.specs.Tested.{testModel}
 use Rattle.model.specs.declared.stored.Model.{Model}
 use Rattle.action.specs.Acts.{sumPlaces}
 use Rattle.columns.specs.Columns.{generatorRoom}
-use Rattle.columns.specs.Repeats.{firstRepeat}
-use Rattle.generator.specs.Lent.{basisOf, distinct}
+use Rattle.generator.specs.Lent.{basisOf}
 use Rattle.generator.specs.Generators.{csrPlaces}
 use Rattle.taylor.specs.Stages.{Evolution, evolved, stopped, stages}
 use Rattle.taylor.specs.Evolves.{Evolves, answerAfter, outAfter, evolveWith, evolveBy}
@@ -41,7 +40,7 @@ use Rattle.step_laws.specs.Steps.{Places, Outcome, outcomeOf, evolution}
 use Rattle.step_laws.specs.Passing.{Good, Held, EvolveCall}
 use Rattle.step_laws.proofs.CourseLaws.{no-value, same-value}
 use Rattle.step_laws.proofs.EvolvedLaws.{stages-leave}
-use Rattle.step_laws.proofs.HeldLaws.{held-words, held-numbers, inside-passes, finite-passes, need-none}
+use Rattle.step_laws.proofs.HeldLaws.{held-words, held-numbers, inside-passes, finite-passes, need-none, apart-passes}
 
 -- ---- an evolution that writes into a table, beside one that writes over its numbers
 record Alike (len : ℕ) (out : List Float) (x y : Evolves) : Type 0 where
@@ -126,13 +125,9 @@ module _ (m : Model) (t : ModelTables) (ok : testModel m t ≡ Tests.Accepted) (
   numbers-ok =
       inside-passes lanes coeffs len ws cs h (m .qubits) _ (good .words .inside) ∙ finite-passes lanes coeffs len ws cs h 0 _ (good .finite) ∙ rw (dt-finite, tol-finite)
 
-  distinct-ok : distinct (basisOf lanes len) ≡ Tests.Accepted
-  unfolding distinct
-  distinct-ok = rw (h .words-are, le-ltb (firstRepeat ws) (length ws) (omega (arith, good .words .apart)))
-
   pub evolve-accepted : evolveTests m t lanes coeffs len dt dropTol w out ≡ Tests.Accepted
   unfolding evolveTests
-  evolve-accepted = rw (basis-ok, tables-ok, numbers-ok) distinct-ok
+  evolve-accepted = rw (basis-ok, tables-ok, numbers-ok, h .words-are) (apart-passes ws (good .words .apart))
 
   module _ (protected : List Word) (places : Places) (touched : places .touched ≡ sumPlaces (w .generator .workWords) (w .generator .workSums)) (entries : places .entries ≡ csrPlaces (w .generator) (w .columns) (w .values)) where
     abbrev after : Evolving

@@ -12,7 +12,7 @@ use native.Mathlib.Decide.{decLt}
 use denote.Floats.{passes as holds}
 use lib.Dec.{eqb, ltb}
 use lib.Ieee.{Float, nan}
-use lib.ListN.{length, getD, take, drop, length-append, length-map, List·getD-append, List·getD-eq-default}
+use lib.ListN.{length, getD, take, drop, replicate, length-append, length-map, List·getD-append, List·getD-eq-default}
 use lib.Seq.{take-append-le, take-append-add, getD-append-add}
 use Rattle.refusal.specs.declared.Refusal.the-variants.{TableFull}
 use Rattle.refusal.specs.declared.Answer.the-variants.{Accepted}
@@ -22,7 +22,7 @@ use Rattle.word.specs.Register.{reaches}
 use Rattle.word.specs.declared.word.Word.{Word}
 use Rattle.word.proofs.OrderLaws.{before-self, same-eq}
 use Rattle.word.proofs.WordLaws.{letter-identity}
-use Rattle.number.specs.Floats.{floats, isFinite}
+use Rattle.number.specs.Floats.{floats, float0, isFinite}
 use Rattle.order.specs.Places.{isAmong}
 use Rattle.keep.specs.Retained.{pick}
 use Rattle.lent.specs.Every.{Every}
@@ -44,9 +44,10 @@ use Rattle.limits.specs.Defaults.{isAbove}
 use Rattle.passes.specs.Leaks.{outside, leaked, takenBy, ended, largest, passSize, passes, leaksAt, candidatesOf, above, wordsOf, sumsOf}
 use Rattle.passes.proofs.RoomLaws.{largest-rising}
 use Rattle.leakage_laws.proofs.KeepLaws.{ended-finite}
-use Rattle.step_laws.specs.Steps.{Places, leakage, hop}
-use Rattle.step_laws.specs.Passing.{Inside, AreFinite, GoodWords}
+use Rattle.step_laws.specs.Steps.{Places, Outcome, withZeros, leakage, hop, evolution}
+use Rattle.step_laws.specs.Passing.{Inside, AreFinite, GoodWords, Good}
 use Rattle.step_laws.proofs.CourseLaws.{same-value, through}
+use Rattle.step_laws.proofs.EvolvedLaws.{zeros-each, zero-finite, zeros-long, evolution-finite}
 use Rattle.step_laws.proofs.AdmissionLaws.{not-refused, all-enter}
 use Rattle.step_laws.proofs.InsideLaws.{action-inside}
 
@@ -269,3 +270,24 @@ module _ (m : Model) (t : ModelTables) (ok : testModel m t ≡ Accepted) (protec
           go (no j) =
               let z : length us + (i - length us) ≡ i = omega arith in
               ap (λ (p : ℕ). reaches (getD (us ++ vs) p identity) n) (sym z) ∙ ap (λ (w : Word). reaches w n) (getD-append-add us vs (i - length us) identity) ∙ k (i - length us) (omega (arith, l, length-append us vs))
+
+-- ---- the numbers beside the words
+-- those given, with a zero for each word that entered
+pub zeros-behind : (ws us : List Word) (cs : List Float) → length cs ≡ length ws → withZeros cs (ws ++ us) ≡ cs ++ replicate (length us) float0
+zeros-behind ws us cs e =
+    let z : length (ws ++ us) - length cs ≡ length us = omega (arith, length-append ws us, e) in
+    ap (λ (k : ℕ). cs ++ replicate k float0) z
+
+pub zeros-good : (n : ℕ) (ws us : List Word) (cs : List Float) → Good n ws cs → GoodWords n (ws ++ us) → Good n (ws ++ us) (withZeros cs (ws ++ us))
+zeros-good n ws us cs g w = record {
+  words = w;
+  each = zeros-long cs (ws ++ us) (omega (arith, g .each, length-append ws us));
+  finite = zeros-each (λ x. isFinite x ≡ true) zero-finite cs (ws ++ us) (g .finite);
+}
+
+-- those evolved
+pub evolved-good : (m : Model) (t : ModelTables) (protected : List Word) (dt : Float) (places : Places) (n : ℕ) (dropTol : Float) (ws : List Word) (cs : List Float) (o : Outcome) → Good n ws cs
+    → evolution m t protected dt places dropTol ws cs ≡ got o → Good n ws (o .numbers)
+evolved-good m t protected dt places n dropTol ws cs o g e =
+    let v = evolution-finite m t protected dt places dropTol ws cs o (g .finite) e in
+    record { words = g .words; each = v .long ∙ g .each; finite = v .each }

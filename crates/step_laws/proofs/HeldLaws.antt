@@ -7,11 +7,14 @@ use mathlib.Core.Bool.{not}
 use mathlib.Core.List.{List}
 use Prim.Native.Nat.{ℕ, zero, suc, _≤_, _<_}
 use native.Mathlib.Omega.{arith}
-use borrow.Author.Tests.{le-ltb}
+use borrow.Author.Tests.{le-ltb, ltb-false}
+use lib.Dec.{ltb}
 use lib.Ieee.{Float, nan}
 use lib.ListN.{length, getD}
 use lib.Seq.{getD-take, length-take-le}
+use Rattle.refusal.specs.declared.Refusal.the-variants.{RepeatedBasisWord}
 use Rattle.refusal.specs.declared.Answer.{Answer}
+use Rattle.refusal.specs.declared.Answer.the-variants.{Accepted}
 use Rattle.word.specs.Word.{identity}
 use Rattle.word.specs.Flat.{words}
 use Rattle.word.specs.Register.{reaches}
@@ -21,7 +24,10 @@ use Rattle.number.specs.Floats.{isFinite}
 use Rattle.lent.specs.Tests.{firstTo, whereAny}
 use Rattle.lent.specs.Words.{outsideAt, insideTo}
 use Rattle.lent.specs.Numbers.{notFinite, finiteTo}
-use Rattle.lent.proofs.Firsts.{first-none}
+use Rattle.lent.proofs.Firsts.{first-none, first-inside}
+use Rattle.lent.proofs.Passed.{passed}
+use Rattle.columns.specs.Repeats.{repeatsAt, firstRepeat}
+use Rattle.generator.specs.Lent.{distinct}
 use Rattle.step_laws.specs.Passing.{AreFinite, Inside, Held}
 
 module _ (lanes : List ℕ) (numbers : List Float) (len : ℕ) (ws : List Word) (cs : List Float) (h : Held lanes numbers len ws cs) where
@@ -56,3 +62,14 @@ pub need-none : (count places have : ℕ) → (0 < count → places ≤ have) �
 unfolding whereAny
 need-none zero places have h = omega arith
 need-none (suc count) places have h = h (omega arith)
+
+-- ---- 12 is not given exactly where the words differ
+pub apart-passes : (ws : List Word) → firstRepeat ws ≡ length ws → distinct ws ≡ Accepted
+unfolding distinct
+apart-passes ws e = rw (le-ltb (firstRepeat ws) (length ws) (omega (arith, e)))
+
+pub passes-apart : (ws : List Word) → distinct ws ≡ Accepted → firstRepeat ws ≡ length ws
+unfolding distinct firstRepeat
+passes-apart ws e =
+    let p = passed (ltb (firstRepeat ws) (length ws)) (RepeatedBasisWord (firstRepeat ws)) Accepted e in
+    omega (arith, ltb-false (firstRepeat ws) (length ws) (p .0), first-inside (length ws) (repeatsAt ws))

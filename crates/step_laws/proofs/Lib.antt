@@ -18,3 +18,4 @@ pub mod InsideLaws
 pub mod GrownLaws
 pub mod HeldLaws
 pub mod EvolveCall
+pub mod AdmitCall

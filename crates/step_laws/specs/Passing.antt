@@ -3,20 +3,22 @@
 
 -- Statements between laws: a basis that passes the tests of a step's calls, how it stands in lent tables, and that a call which passes
 -- does to those tables what the step says of plain lists.
-use Prim.Native.Nat.{ℕ, _*_, _≤_, _<_}
+use Prim.Native.Nat.{ℕ, _+_, _*_, _≤_, _<_}
 use mathlib.Core.Path.{_≡_}
 use mathlib.Core.Bool.{true, false}
-use mathlib.Core.List.{List}
+use mathlib.Core.List.{List, _++_}
 use lib.Ieee.{Float, nan}
-use lib.ListN.{length, getD, take, drop}
+use lib.ListN.{length, getD, take, drop, replicate}
 use Rattle.refusal.specs.declared.Refusal.{Refusal}
 use Rattle.word.specs.Word.{identity}
 use Rattle.word.specs.Flat.{words, wordLanes}
 use Rattle.word.specs.Register.{reaches}
 use Rattle.word.specs.declared.word.Word.{Word}
-use Rattle.number.specs.Floats.{isFinite}
+use Rattle.number.specs.Floats.{float0, isFinite}
 use Rattle.lent.specs.Read.{Read, got, refused}
 use Rattle.lent.specs.Words.{maxWords}
+use Rattle.truncate.specs.Admissions.{Admitting}
+use Rattle.truncate.specs.declared.kept.Kept.the-variants as Kept
 use Rattle.columns.specs.Repeats.{firstRepeat}
 use Rattle.taylor.specs.declared.evolve.Evolved.the-variants as Evolved
 use Rattle.evolution.specs.Lent.{Work, zeroed}
@@ -60,3 +62,15 @@ pub record EvolveCall (w : Work) (out : List Float) (len : ℕ) (after : Evolvin
   pub turned : (q : Refusal) → plain ≡ refused q → (after .answer ≡ Evolved.Refused q) × (after .out ≡ out)
   pub by-products : (k : ℕ) → after .answer ≡ Evolved.Products k → plain ≡ got (record { numbers = take len (after .out); products = k })
   pub by-refusal : (q : Refusal) → after .answer ≡ Evolved.Refused q → plain ≡ refused q
+
+-- an admission of lent tables that passes, beside that of plain lists
+pub record AdmitCall (lanes : List ℕ) (coeffs : List Float) (len : ℕ) (ws : List Word) (cs : List Float) (order work kept : List ℕ) (after : Admitting) (plain : Read (List Word)) : Type 0 where
+  pub order-zero : after .order ≡ replicate (length order) 0
+  pub work-zero : after .work ≡ replicate (length work) 0
+  pub kept-zero : after .kept ≡ replicate (length kept) 0
+  pub lanes-long : length (after .lanes) ≡ length lanes
+  pub coeffs-long : length (after .coeffs) ≡ length coeffs
+  pub entered : (us : List Word) → plain ≡ got us → (after .answer ≡ Kept.Entries (len + length us)) × Held (after .lanes) (after .coeffs) (len + length us) (ws ++ us) (cs ++ replicate (length us) float0)
+  pub turned : (q : Refusal) → plain ≡ refused q → (after .answer ≡ Kept.Refused q) × (after .lanes ≡ lanes) × (after .coeffs ≡ coeffs)
+  pub by-entries : (r : ℕ) → after .answer ≡ Kept.Entries r → (us : List Word) × ((plain ≡ got us) × (r ≡ len + length us))
+  pub by-refusal : (q : Refusal) → after .answer ≡ Kept.Refused q → plain ≡ refused q
