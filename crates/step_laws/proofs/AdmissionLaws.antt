@@ -55,7 +55,7 @@ passes-few touched leaks sumRoom candidateRoom room (suc k) ps T S h e =
     let b = through (ended room (a .value)) (passes touched leaks sumRoom candidateRoom room k (drop passSize ps)) S (a .behind) in
     passes-few touched leaks sumRoom candidateRoom room k (drop passSize ps) (b .value) S (ended-few room (a .value) (b .value) (b .before)) (b .behind)
 
-above-few : (tau : Float) (T : Rows) → length (above tau T) ≤ length T
+pub above-few : (tau : Float) (T : Rows) → length (above tau T) ≤ length T
 unfolding above
 above-few tau [] = omega arith
 above-few tau (r ∷ T) = go (isAbove tau (r .sum)) (above-few tau T)

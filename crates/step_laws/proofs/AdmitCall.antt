@@ -37,7 +37,7 @@ use Rattle.candidates.specs.Tables.{Rows}
 use Rattle.passes.specs.Leaks.{wordsOf, sumsOf}
 use Rattle.step_laws.specs.Steps.{Places, admitted}
 use Rattle.step_laws.specs.Passing.{AreFinite, Inside, Held, AdmitCall}
-use Rattle.step_laws.proofs.CourseLaws.{no-value, same-value}
+use Rattle.step_laws.proofs.CourseLaws.{no-value, same-value, same-refused}
 use Rattle.step_laws.proofs.HeldLaws.{held-words, held-numbers, inside-passes, finite-passes}
 
 lanes-count : (ws : List Word) → Whole ws → length (flatLanes ws) ≡ wordLanes * length ws
@@ -47,6 +47,9 @@ lanes-count (w ∷ ws) h = omega (arith, length-append (w .x ++ w .z) (flatLanes
 
 no-entries : (q : Refusal) (r : ℕ) → Refused q ≡ Entries r → ⊥
 no-entries q r e = let z : _≡_ {A = ℕ} 0 1 = cc in omega arith
+
+same-answer : (q r : Refusal) → Refused q ≡ Refused r → q ≡ r
+same-answer q r e = cc
 
 -- a basis, and a list of k words in the first places of other tables
 module _ (n : ℕ) (lanes : List ℕ) (coeffs : List Float) (len : ℕ) (ws : List Word) (cs : List Float) (h : Held lanes coeffs len ws cs) (table : List ℕ) (numbers : List Float) (k : ℕ) (R : Rows)
@@ -151,16 +154,10 @@ module _ (n : ℕ) (lanes : List ℕ) (coeffs : List Float) (len : ℕ) (ws : Li
             lanes-long = ap (λ (x : Admitting). length (x .lanes)) a;
             coeffs-long = ap (λ (x : Admitting). length (x .coeffs)) a;
             entered = λ vs f. absurd (no-value (TableFull 3 room) vs (sym p ∙ f));
-            turned = λ q f. (answer ∙ ap Refused (same-refusal (TableFull 3 room) q (sym p ∙ f)), ap (λ (x : Admitting). x .lanes) a, ap (λ (x : Admitting). x .coeffs) a);
+            turned = λ q f. (answer ∙ ap Refused (same-refused (TableFull 3 room) q (sym p ∙ f)), ap (λ (x : Admitting). x .lanes) a, ap (λ (x : Admitting). x .coeffs) a);
             by-entries = λ r f. absurd (no-entries (TableFull 3 room) r (sym answer ∙ f));
             by-refusal = λ q f. p ∙ ap refused (same-answer (TableFull 3 room) q (sym answer ∙ f));
           }
-        where
-          same-refusal : (q r : Refusal) → _≡_ {A = Read (List Word)} (refused q) (refused r) → q ≡ r
-          same-refusal q r e = cc
-
-          same-answer : (q r : Refusal) → Refused q ≡ Refused r → q ≡ r
-          same-answer q r e = cc
 
       call-enters : ltb room (len + flagged flags) ≡ false → AdmitCall lanes coeffs len ws cs order work kept after plain
       call-enters e =

@@ -38,7 +38,7 @@ use Rattle.evolution.specs.Evolutions.{Evolving, roomThen, evolveOver, evolve}
 use Rattle.evolution.proofs.CheckLaws.{TablesPassed, basis-accepted, tables-accepted}
 use Rattle.step_laws.specs.Steps.{Places, Outcome, outcomeOf, evolution}
 use Rattle.step_laws.specs.Passing.{Good, Held, EvolveCall}
-use Rattle.step_laws.proofs.CourseLaws.{no-value, same-value}
+use Rattle.step_laws.proofs.CourseLaws.{no-value, same-value, same-refused}
 use Rattle.step_laws.proofs.EvolvedLaws.{stages-leave}
 use Rattle.step_laws.proofs.HeldLaws.{held-words, held-numbers, inside-passes, finite-passes, need-none, apart-passes}
 
@@ -167,8 +167,7 @@ module _ (m : Model) (t : ModelTables) (ok : testModel m t ≡ Tests.Accepted) (
         to-turned : (q : Refusal) (b : Evolved) → y .answer ≡ b → outcomeOf m t protected dt places (y .out) b ≡ refused q → (x .answer ≡ Refused q) × (x .out ≡ out)
         to-turned q (Products k) i e = absurd (no-value q _ (sym e))
         to-turned q (Refused r) i e =
-            let same : r ≡ q = cc in
-            (a .answers ∙ i ∙ ap Refused same, a .kept r (a .answers ∙ i))
+            (a .answers ∙ i ∙ ap Refused (same-refused r q e), a .kept r (a .answers ∙ i))
 
     pub evolve-call : EvolveCall w out len after plain
     unfolding evolution

@@ -19,3 +19,4 @@ pub mod GrownLaws
 pub mod HeldLaws
 pub mod EvolveCall
 pub mod AdmitCall
+pub mod LeakCall

@@ -19,6 +19,12 @@ use Rattle.lent.specs.Read.{Read, got, refused}
 use Rattle.lent.specs.Words.{maxWords}
 use Rattle.truncate.specs.Admissions.{Admitting}
 use Rattle.truncate.specs.declared.kept.Kept.the-variants as Kept
+use Rattle.candidates.specs.Tables.{Rows}
+use Rattle.passes.specs.Leaks.{wordsOf, sumsOf}
+use Rattle.action.specs.Counts.{rowLanes}
+use Rattle.action.specs.declared.act.Acted.the-variants as Acted
+use Rattle.leakage.specs.Leakages as Leakage
+use Rattle.leakage.specs.Leakages.{Leaking}
 use Rattle.columns.specs.Repeats.{firstRepeat}
 use Rattle.taylor.specs.declared.evolve.Evolved.the-variants as Evolved
 use Rattle.evolution.specs.Lent.{Work, zeroed}
@@ -74,3 +80,24 @@ pub record AdmitCall (lanes : List ℕ) (coeffs : List Float) (len : ℕ) (ws : 
   pub turned : (q : Refusal) → plain ≡ refused q → (after .answer ≡ Kept.Refused q) × (after .lanes ≡ lanes) × (after .coeffs ≡ coeffs)
   pub by-entries : (r : ℕ) → after .answer ≡ Kept.Entries r → (us : List Word) × ((plain ≡ got us) × (r ≡ len + length us))
   pub by-refusal : (q : Refusal) → after .answer ≡ Kept.Refused q → plain ≡ refused q
+
+-- places for a leakage over a register of n qubits, beside count protected words; a basis without words asks for none
+pub record LeakPlaces (n len count : ℕ) (w : Leakage.Work) : Type 0 where
+  pub h-long : 0 < len → rowLanes * n ≤ length (w .hIndex)
+  pub j-long : 0 < len → rowLanes * n ≤ length (w .jIndex)
+  pub mask-long : 0 < len → rowLanes ≤ length (w .mask)
+  pub order-long : len ≤ length (w .order)
+  pub heads-long : len ≤ length (w .heads)
+  pub nexts-long : len ≤ length (w .nexts)
+  pub fixed-heads-long : 0 < len → count ≤ length (w .fixedHeads)
+  pub fixed-nexts-long : 0 < len → count ≤ length (w .fixedNexts)
+
+-- a leakage of lent tables that passes, beside that of plain lists
+pub record LeakCall (w : Leakage.Work) (outWords : List ℕ) (outValues : List Float) (after : Leaking) (plain : Read Rows) : Type 0 where
+  pub work-zero : after .work ≡ Leakage.zeroed w
+  pub words-long : length (after .out .outWords) ≡ length outWords
+  pub values-long : length (after .out .outValues) ≡ length outValues
+  pub listed : (R : Rows) → plain ≡ got R → (after .out .answer ≡ Acted.Listed (length R)) × Held (after .out .outWords) (after .out .outValues) (length R) (wordsOf R) (sumsOf R) × (length R ≤ Leakage.candidatePlaces w)
+  pub turned : (q : Refusal) → plain ≡ refused q → (after .out .answer ≡ Acted.Refused q) × (after .out .outWords ≡ outWords) × (after .out .outValues ≡ outValues)
+  pub by-listed : (k : ℕ) → after .out .answer ≡ Acted.Listed k → (R : Rows) × ((plain ≡ got R) × (k ≡ length R))
+  pub by-refusal : (q : Refusal) → after .out .answer ≡ Acted.Refused q → plain ≡ refused q
