@@ -77,7 +77,7 @@ all-admitted len limit list h =
     (λ p i z. omega (arith, n, l, c, h, flagged-gap (chosen (byMagnitude (sumsOf list)) (replicate (length (sumsOf list)) 0) (limit - len)) p (omega (arith, i, w, n, l)) z))
 
 module _ (m : Model) (t : ModelTables) (protected : List Word) (dt : Float) (places : Places) (limit : ℕ) (tau : Float) (ws : List Word) (cs : List Float) where
-  list-few : (list : Rows) → leakage m t protected dt places limit tau ws cs ≡ got list → length list ≤ limit - length ws
+  pub list-few : (list : Rows) → leakage m t protected dt places limit tau ws cs ≡ got list → length list ≤ limit - length ws
   unfolding leakage candidatesOf
   list-few list e =
       let a = through (candidatesOf m t ws cs protected (places .touched) (places .candidates) (limit - length ws)) _ list e in

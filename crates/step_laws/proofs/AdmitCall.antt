@@ -5,7 +5,7 @@
 -- the words that enter plain lists, each with a zero. Assumes nothing.
 use mathlib.Core.Path.{_≡_, refl, sym, ap, ap₂, subst, _∙_}
 use mathlib.Core.Bool.{Bool, true, false, cond}
-use mathlib.Core.List.{List, [], _∷_, _++_, append-assoc}
+use mathlib.Core.List.{List, _++_, append-assoc}
 use Prim.Native.Nat.{ℕ, _+_, _*_, _/_, _≤_}
 use native.Mathlib.Omega.{arith}
 use borrow.Author.Tests.{le-ltb, eq-eqb, ltb-false}
@@ -19,7 +19,7 @@ use Rattle.refusal.specs.declared.Answer.the-variants as Tests
 use Rattle.word.specs.Word.{maxQubits}
 use Rattle.word.specs.Flat.{words, flatLanes, wordLanes}
 use Rattle.word.specs.declared.word.Word.{Word}
-use Rattle.word.proofs.FlatLaws.{words-take, Whole, whole-words, whole-take}
+use Rattle.word.proofs.FlatLaws.{words-take, whole-words, whole-take}
 use Rattle.number.specs.Floats.{float0}
 use Rattle.keep.specs.Retained.{pick, flagged}
 use Rattle.keep.specs.Admitted.{appendedLanes, appendedZeros, picked}
@@ -36,14 +36,9 @@ use Rattle.truncate_laws.proofs.AcceptedCalls.{entries-same}
 use Rattle.candidates.specs.Tables.{Rows}
 use Rattle.passes.specs.Leaks.{wordsOf, sumsOf}
 use Rattle.step_laws.specs.Steps.{Places, admitted}
-use Rattle.step_laws.specs.Passing.{AreFinite, Inside, Held, AdmitCall}
+use Rattle.step_laws.specs.Passing.{Fit, Held, AdmitCall}
 use Rattle.step_laws.proofs.CourseLaws.{no-value, same-value, same-refused}
-use Rattle.step_laws.proofs.HeldLaws.{held-words, held-numbers, inside-passes, finite-passes}
-
-lanes-count : (ws : List Word) → Whole ws → length (flatLanes ws) ≡ wordLanes * length ws
-unfolding Whole flatLanes
-lanes-count [] h = refl
-lanes-count (w ∷ ws) h = omega (arith, length-append (w .x ++ w .z) (flatLanes ws), length-append (w .x) (w .z), h .0 .0, h .0 .1, lanes-count ws (h .1))
+use Rattle.step_laws.proofs.HeldLaws.{held-words, held-numbers, inside-passes, finite-passes, lanes-count}
 
 no-entries : (q : Refusal) (r : ℕ) → Refused q ≡ Entries r → ⊥
 no-entries q r e = let z : _≡_ {A = ℕ} 0 1 = cc in omega arith
@@ -77,15 +72,15 @@ module _ (n : ℕ) (lanes : List ℕ) (coeffs : List Float) (len : ℕ) (ws : Li
         numbers-are = take-length values ∙ hl .numbers-are;
       }
 
-  module _ (register : n ≤ maxQubits) (few : length ws ≤ maxWords) (list-few : k ≤ maxWords) (limit-low : limit ≤ maxWords) (inside : Inside n ws) (finite : AreFinite cs) (list-inside : Inside n (wordsOf R)) (list-finite : AreFinite (sumsOf R))
+  module _ (register : n ≤ maxQubits) (fit : Fit n ws cs) (list-fit : Fit n (wordsOf R) (sumsOf R)) (limit-low : limit ≤ maxWords)
       (order-long : k ≤ length order) (work-long : k ≤ length work) (kept-long : k ≤ length kept) where
     pub admit-accepted : admitTests len lanes coeffs list values order work kept n limit ≡ Tests.Accepted
     unfolding admitTests
     admit-accepted =
         rw (
           le-ltb maxQubits n register,
-          le-ltb maxWords len (omega (arith, few, held-words lanes coeffs len ws cs h)),
-          le-ltb maxWords (length list / wordLanes) (omega (arith, list-long, list-few)),
+          le-ltb maxWords len (omega (arith, fit .few, held-words lanes coeffs len ws cs h)),
+          le-ltb maxWords (length list / wordLanes) (omega (arith, list-long, list-fit .few, held-words table numbers k (wordsOf R) (sumsOf R) hl)),
           le-ltb maxWords limit limit-low,
           le-ltb (length lanes / wordLanes) len (omega (arith, h .lanes-long)),
           le-ltb (length coeffs) len (h .numbers-long),
@@ -95,10 +90,10 @@ module _ (n : ℕ) (lanes : List ℕ) (coeffs : List Float) (len : ℕ) (ws : Li
           le-ltb (length work) (length values) (omega (arith, values-long, work-long)),
           le-ltb (length kept) (length values) (omega (arith, values-long, kept-long)),
         )
-        (inside-passes lanes coeffs len ws cs h n _ inside
-        ∙ inside-passes list values (length values) (wordsOf R) (sumsOf R) list-held n _ list-inside
-        ∙ finite-passes lanes coeffs len ws cs h 0 _ finite
-        ∙ finite-passes list values (length values) (wordsOf R) (sumsOf R) list-held len Tests.Accepted list-finite)
+        (inside-passes lanes coeffs len ws cs h n _ (fit .inside)
+        ∙ inside-passes list values (length values) (wordsOf R) (sumsOf R) list-held n _ (list-fit .inside)
+        ∙ finite-passes lanes coeffs len ws cs h 0 _ (fit .finite)
+        ∙ finite-passes list values (length values) (wordsOf R) (sumsOf R) list-held len Tests.Accepted (list-fit .finite))
 
     module _ (m : Model) (t : ModelTables) (protected : List Word) (dt : Float) (places : Places) (basis : places .basis ≡ basisPlaces len lanes coeffs list values order work kept) where
       abbrev after : Admitting

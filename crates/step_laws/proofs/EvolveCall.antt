@@ -114,7 +114,7 @@ module _ (m : Model) (t : ModelTables) (ok : testModel m t ≡ Tests.Accepted) (
     (lent : TablesPassed (m .qubits) len (length (w .generator .hIndex)) (length (w .generator .jIndex)) (length (w .generator .mask)) (length (w .generator .heads)) (length (w .generator .nexts)) (length (w .offsets)) (length (w .v)) (length (w .b)) (length (w .product)) (length out)) where
   basis-ok : basisTests m t lanes coeffs len ≡ Tests.Accepted
   basis-ok =
-      sym (basis-accepted m t lanes coeffs len ok (omega (arith, good .words .few, held-words lanes coeffs len ws cs h)) (omega (arith, h .lanes-long)) (h .numbers-long))
+      sym (basis-accepted m t lanes coeffs len ok (omega (arith, good .fit .few, held-words lanes coeffs len ws cs h)) (omega (arith, h .lanes-long)) (h .numbers-long))
 
   tables-ok : workTests (m .qubits) len (length (w .generator .hIndex)) (length (w .generator .jIndex)) (length (w .generator .mask)) (length (w .generator .heads)) (length (w .generator .nexts)) (length (w .offsets)) (length (w .v)) (length (w .b)) (length (w .product)) (length out) ≡ Tests.Accepted
   tables-ok =
@@ -123,11 +123,11 @@ module _ (m : Model) (t : ModelTables) (ok : testModel m t ≡ Tests.Accepted) (
   numbers-ok : numberTests len lanes (m .qubits) coeffs dt dropTol ≡ Tests.Accepted
   unfolding numberTests
   numbers-ok =
-      inside-passes lanes coeffs len ws cs h (m .qubits) _ (good .words .inside) ∙ finite-passes lanes coeffs len ws cs h 0 _ (good .finite) ∙ rw (dt-finite, tol-finite)
+      inside-passes lanes coeffs len ws cs h (m .qubits) _ (good .fit .inside) ∙ finite-passes lanes coeffs len ws cs h 0 _ (good .fit .finite) ∙ rw (dt-finite, tol-finite)
 
   pub evolve-accepted : evolveTests m t lanes coeffs len dt dropTol w out ≡ Tests.Accepted
   unfolding evolveTests
-  evolve-accepted = rw (basis-ok, tables-ok, numbers-ok, h .words-are) (apart-passes ws (good .words .apart))
+  evolve-accepted = rw (basis-ok, tables-ok, numbers-ok, h .words-are) (apart-passes ws (good .apart))
 
   module _ (protected : List Word) (places : Places) (touched : places .touched ≡ sumPlaces (w .generator .workWords) (w .generator .workSums)) (entries : places .entries ≡ csrPlaces (w .generator) (w .columns) (w .values)) where
     abbrev after : Evolving

@@ -45,10 +45,10 @@ use Rattle.passes.specs.Leaks.{outside, leaked, takenBy, ended, largest, passSi
 use Rattle.passes.proofs.RoomLaws.{largest-rising}
 use Rattle.leakage_laws.proofs.KeepLaws.{ended-finite}
 use Rattle.step_laws.specs.Steps.{Places, Outcome, withZeros, leakage, hop, evolution}
-use Rattle.step_laws.specs.Passing.{Inside, AreFinite, GoodWords, Good}
+use Rattle.step_laws.specs.Passing.{Inside, AreFinite, Fit, Good, GoodWords}
 use Rattle.step_laws.proofs.CourseLaws.{same-value, through}
 use Rattle.step_laws.proofs.EvolvedLaws.{zeros-each, zero-finite, zeros-long, evolution-finite}
-use Rattle.step_laws.proofs.AdmissionLaws.{not-refused, all-enter}
+use Rattle.step_laws.proofs.AdmissionLaws.{not-refused, list-few, all-enter}
 use Rattle.step_laws.proofs.InsideLaws.{action-inside}
 
 -- ---- of rows, what is picked and what is above a threshold
@@ -249,6 +249,14 @@ module _ (m : Model) (t : ModelTables) (ok : testModel m t ≡ Accepted) (protec
             apart = λ e. grown-apart ws (wordsOf R) e (λ k h. rising-apart R rising k (omega (arith, nw))) (λ k h. every-at New (wordsOf R) k identity words h .1);
           }
 
+  -- as admission asks of a list
+  pub list-fit : limit ≤ maxWords → (list : Rows) → leakage m t protected dt places limit tau ws cs ≡ got list → Fit (m .qubits) (wordsOf list) (sumsOf list)
+  list-fit low list e =
+      let l = leakage-lists list e in
+      let nw : length (wordsOf list) ≡ length list = length-map list (λ r. r .word) in
+      let ns : length (sumsOf list) ≡ length list = length-map list (λ r. r .sum) in
+      record { few = omega (arith, low, nw, list-few m t protected dt places limit tau ws cs list e); inside = l .inside; each = ns ∙ sym nw; finite = l .finite }
+
   -- a basis that passes, with the words that enter
   pub hop-good : limit ≤ maxWords → GoodWords (m .qubits) ws → (entered : List Word) → hop m t protected dt places limit tau ws cs ≡ got entered → GoodWords (m .qubits) (ws ++ entered)
   hop-good low g entered e =
@@ -278,16 +286,20 @@ zeros-behind ws us cs e =
     let z : length (ws ++ us) - length cs ≡ length us = omega (arith, length-append ws us, e) in
     ap (λ (k : ℕ). cs ++ replicate k float0) z
 
-pub zeros-good : (n : ℕ) (ws us : List Word) (cs : List Float) → Good n ws cs → GoodWords n (ws ++ us) → Good n (ws ++ us) (withZeros cs (ws ++ us))
-zeros-good n ws us cs g w = record {
-  words = w;
-  each = zeros-long cs (ws ++ us) (omega (arith, g .each, length-append ws us));
-  finite = zeros-each (λ x. isFinite x ≡ true) zero-finite cs (ws ++ us) (g .finite);
+pub zeros-good : (n : ℕ) (ws us : List Word) (cs : List Float) → Fit n ws cs → GoodWords n (ws ++ us) → Good n (ws ++ us) (withZeros cs (ws ++ us))
+zeros-good n ws us cs f g = record {
+  fit = record {
+    few = g .few;
+    inside = g .inside;
+    each = zeros-long cs (ws ++ us) (omega (arith, f .each, length-append ws us));
+    finite = zeros-each (λ x. isFinite x ≡ true) zero-finite cs (ws ++ us) (f .finite);
+  };
+  apart = g .apart;
 }
 
 -- those evolved
-pub evolved-good : (m : Model) (t : ModelTables) (protected : List Word) (dt : Float) (places : Places) (n : ℕ) (dropTol : Float) (ws : List Word) (cs : List Float) (o : Outcome) → Good n ws cs
-    → evolution m t protected dt places dropTol ws cs ≡ got o → Good n ws (o .numbers)
-evolved-good m t protected dt places n dropTol ws cs o g e =
-    let v = evolution-finite m t protected dt places dropTol ws cs o (g .finite) e in
-    record { words = g .words; each = v .long ∙ g .each; finite = v .each }
+pub evolved-fit : (m : Model) (t : ModelTables) (protected : List Word) (dt : Float) (places : Places) (n : ℕ) (dropTol : Float) (ws : List Word) (cs : List Float) (o : Outcome) → Fit n ws cs
+    → evolution m t protected dt places dropTol ws cs ≡ got o → Fit n ws (o .numbers)
+evolved-fit m t protected dt places n dropTol ws cs o f e =
+    let v = evolution-finite m t protected dt places dropTol ws cs o (f .finite) e in
+    record { few = f .few; inside = f .inside; each = v .long ∙ f .each; finite = v .each }

@@ -18,12 +18,9 @@ use Rattle.refusal.specs.declared.Answer.the-variants as Tests
 use Rattle.word.specs.Flat.{words, layWord, wordLanes}
 use Rattle.word.specs.declared.word.Word.{Word}
 use Rattle.word.proofs.FlatLaws.{words-high}
-use Rattle.lent.specs.Between.{AllInside}
 use Rattle.lent.specs.Laid.{laid}
 use Rattle.lent.specs.Read.{Read, got, refused, refuseIf}
-use Rattle.lent.specs.Tests.{firstTo}
-use Rattle.lent.specs.Words.{maxWords, outsideAt, insideTo}
-use Rattle.lent.proofs.Firsts.{first-none}
+use Rattle.lent.specs.Words.{maxWords}
 use Rattle.lent.proofs.LaidLaws.{laid-length}
 use Rattle.model.specs.Stored.{ModelTables}
 use Rattle.model.specs.Tested.{testModel}
@@ -43,10 +40,10 @@ use Rattle.leakage_laws.specs.Calls.{stayAfter}
 use Rattle.leakage_laws.proofs.CourseLaws.{course-passes}
 use Rattle.leakage_laws.proofs.CallLaws.{leakage-lists}
 use Rattle.step_laws.specs.Steps.{Places, leakage}
-use Rattle.step_laws.specs.Passing.{AreFinite, Inside, Held, LeakPlaces, LeakCall}
+use Rattle.step_laws.specs.Passing.{Fit, Held, GoodProtected, LeakPlaces, LeakCall}
 use Rattle.step_laws.proofs.CourseLaws.{no-value, same-value, same-refused, through}
 use Rattle.step_laws.proofs.AdmissionLaws.{not-refused, above-few}
-use Rattle.step_laws.proofs.HeldLaws.{held-words, held-numbers, inside-passes, finite-passes, need-none}
+use Rattle.step_laws.proofs.HeldLaws.{held-words, held-numbers, inside-passes, finite-passes, protected-passes, need-none}
 
 -- ---- never more candidates than places
 not-over : {A : Type 0} (places count : ℕ) (q : Refusal) (after : Read A) (a : A) → refuseIf (ltb places count) q after ≡ got a → count ≤ places
@@ -93,7 +90,7 @@ same-answer q r e = cc
 
 -- ---- the tests
 module _ (m : Model) (t : ModelTables) (ok : testModel m t ≡ Tests.Accepted) (lanes : List ℕ) (coeffs : List Float) (len : ℕ) (ws : List Word) (cs : List Float) (h : Held lanes coeffs len ws cs)
-    (few : length ws ≤ maxWords) (inside : Inside (m .qubits) ws) (finite : AreFinite cs) (protected : List ℕ) (whole : length protected ≡ length protected / wordLanes * wordLanes) (protected-few : length protected / wordLanes ≤ maxWords) (protected-inside : AllInside protected (m .qubits))
+    (fit : Fit (m .qubits) ws cs) (protected : List ℕ) (good : GoodProtected (m .qubits) protected)
     (l : Limits) (limits-ok : limitTests l ≡ Tests.Accepted) (tau-ok : tauTests len l ≡ Tests.Accepted) (w : Work) (lent : LeakPlaces (m .qubits) len (length protected / wordLanes) w) where
   abbrev b : Basis
   b = basisOf lanes coeffs len protected
@@ -113,24 +110,21 @@ module _ (m : Model) (t : ModelTables) (ok : testModel m t ≡ Tests.Accepted) (
       )
 
   entries-ok : entryTests (m .qubits) b ≡ Tests.Accepted
-  unfolding entryTests insideTo
+  unfolding entryTests
   entries-ok =
-      let f = first-none (length protected / wordLanes) (outsideAt protected (m .qubits)) protected-inside in
-      inside-passes lanes coeffs len ws cs h (m .qubits) _ inside
-      ∙ rw (le-ltb (firstTo (length protected / wordLanes) (outsideAt protected (m .qubits))) (length protected / wordLanes) (omega (arith, f)))
-      (finite-passes lanes coeffs len ws cs h 0 Tests.Accepted finite)
+      inside-passes lanes coeffs len ws cs h (m .qubits) _ (fit .inside) ∙ protected-passes (m .qubits) protected _ good ∙ finite-passes lanes coeffs len ws cs h 0 Tests.Accepted (fit .finite)
 
   pub leak-accepted : leakTests m t b l w ≡ Tests.Accepted
   unfolding leakTests
   leak-accepted =
       rw (
         ok,
-        le-ltb maxWords len (omega (arith, few, held-words lanes coeffs len ws cs h)),
-        le-ltb maxWords (length protected / wordLanes) protected-few,
+        le-ltb maxWords len (omega (arith, fit .few, held-words lanes coeffs len ws cs h)),
+        le-ltb maxWords (length protected / wordLanes) (good .few),
         limits-ok,
         le-ltb (length lanes / wordLanes) len (omega (arith, h .lanes-long)),
         le-ltb (length coeffs) len (h .numbers-long),
-        eq-eqb (length protected) (length protected / wordLanes * wordLanes) whole,
+        eq-eqb (length protected) (length protected / wordLanes * wordLanes) (good .whole),
         tables-ok,
         entries-ok,
       ) tau-ok

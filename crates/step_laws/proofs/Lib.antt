@@ -20,3 +20,4 @@ pub mod HeldLaws
 pub mod EvolveCall
 pub mod AdmitCall
 pub mod LeakCall
+pub mod EndCall
