@@ -5,14 +5,14 @@
 -- tests passes them again with the words that enter. Assumes nothing.
 use mathlib.Core.Path.{_≡_, refl, sym, ap, ap₂, subst, _∙_}
 use mathlib.Core.Bool.{Bool, true, false, not, cond, _||_, _&&_}
-use mathlib.Core.List.{List, [], _∷_, _++_}
+use mathlib.Core.List.{List, [], _∷_, _++_, append-assoc}
 use Prim.Native.Nat.{ℕ, zero, suc, _+_, _-_, _≤_, _<_}
 use native.Mathlib.Omega.{arith}
 use native.Mathlib.Decide.{decLt}
 use denote.Floats.{passes as holds}
 use lib.Dec.{eqb, ltb}
 use lib.Ieee.{Float, nan}
-use lib.ListN.{length, getD, take, drop, replicate, length-append, length-map, List·getD-append, List·getD-eq-default}
+use lib.ListN.{length, getD, take, drop, replicate, replicate-append-replicate, length-append, length-map, List·getD-append, List·getD-eq-default}
 use lib.Seq.{take-append-le, take-append-add, getD-append-add}
 use Rattle.refusal.specs.declared.Refusal.the-variants.{TableFull}
 use Rattle.refusal.specs.declared.Answer.the-variants.{Accepted}
@@ -285,6 +285,14 @@ pub zeros-behind : (ws us : List Word) (cs : List Float) → length cs ≡ lengt
 zeros-behind ws us cs e =
     let z : length (ws ++ us) - length cs ≡ length us = omega (arith, length-append ws us, e) in
     ap (λ (k : ℕ). cs ++ replicate k float0) z
+
+-- and again for those of a second hop
+pub zeros-again : (cs : List Float) (us vs : List Word) → length cs ≤ length us → length us ≤ length vs → withZeros (withZeros cs us) vs ≡ withZeros cs vs
+zeros-again cs us vs h k =
+    let a : ℕ = length us - length cs in
+    let b : ℕ = length vs - length (withZeros cs us) in
+    let z : a + b ≡ length vs - length cs = omega (arith, zeros-long cs us h, h, k) in
+    append-assoc cs (replicate a float0) (replicate b float0) ∙ ap (λ (l : List Float). cs ++ l) (replicate-append-replicate a b float0 ∙ ap (λ (n : ℕ). replicate n float0) z)
 
 pub zeros-good : (n : ℕ) (ws us : List Word) (cs : List Float) → Fit n ws cs → GoodWords n (ws ++ us) → Good n (ws ++ us) (withZeros cs (ws ++ us))
 zeros-good n ws us cs f g = record {
