@@ -8,3 +8,4 @@ pub mod RowLaws
 pub mod WordOrderLaws
 pub mod PositionLaws
 pub mod StandLaws
+pub mod ThoseLaws

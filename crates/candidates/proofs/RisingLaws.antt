@@ -14,7 +14,7 @@ use Rattle.candidates.specs.Tables.{Rows, putRows}
 use Rattle.candidates.proofs.PutLaws.{Strict, strict}
 
 module _ {W S : Type 0} (lt : W → W → Bool) (plus : S → S → S) (start : S) (o : Strict lt) where
-  after-trans : (u v : W) (t : List (Row W S)) → lt u v ≡ true → AllAfter lt v t → AllAfter lt u t
+  pub after-trans : (u v : W) (t : List (Row W S)) → lt u v ≡ true → AllAfter lt v t → AllAfter lt u t
   unfolding AllAfter
   after-trans u v [] h a = tt
   after-trans u v (r ∷ t) h a = (o .trans u v (r .word) h (a .0), after-trans u v t h (a .1))
@@ -29,7 +29,7 @@ module _ {W S : Type 0} (lt : W → W → Bool) (plus : S → S → S) (start : 
       go false true i = (h, (a .0, a .1))
       go false false i = (a .0, a .1)
 
-  rising-put : (w : W) (v : S) (t : List (Row W S)) → Rising lt t → Rising lt (putOver lt plus start w v t)
+  pub rising-put : (w : W) (v : S) (t : List (Row W S)) → Rising lt t → Rising lt (putOver lt plus start w v t)
   unfolding AllAfter Rising putOver
   rising-put w v [] h = (tt, tt)
   rising-put w v (r ∷ t) h = go (lt (r .word) w) refl (lt w (r .word)) refl (rising-put w v t (h .1))
