@@ -9,3 +9,6 @@ pub mod WordOrderLaws
 pub mod PositionLaws
 pub mod StandLaws
 pub mod ThoseLaws
+pub mod BesideLaws
+pub mod BadLaws
+pub mod PivotLaws

@@ -11,6 +11,7 @@ use Rattle.word.specs.declared.word.Word.{Word}
 use Rattle.number.specs.Floats.{floats}
 use Rattle.candidates.specs.Sums.{Row, row, putOver, putAll, AllAfter, Rising}
 use Rattle.candidates.specs.Tables.{Rows, putRows}
+use Rattle.candidates.specs.Between.{latest, inWordOrder}
 use Rattle.candidates.proofs.PutLaws.{Strict, strict}
 
 module _ {W S : Type 0} (lt : W → W → Bool) (plus : S → S → S) (start : S) (o : Strict lt) where
@@ -47,3 +48,8 @@ module _ {W S : Type 0} (lt : W → W → Bool) (plus : S → S → S) (start : 
 
 pub rising-rows : (l t : Rows) → Rising before t → Rising before (putRows l t)
 rising-rows l t h = rising-all before (floats .plus) (floats .nought) strict (λ (r : Row Word Float). r .word) (λ (r : Row Word Float). r .sum) l t h
+
+-- rows in word order
+pub order-rising : (U : Rows) → Rising before (inWordOrder U)
+unfolding inWordOrder Rising
+order-rising U = rising-all before latest (floats .nought) strict (λ (r : Row Word Float). r .word) (λ (r : Row Word Float). r .sum) U [] tt

@@ -10,7 +10,7 @@ use Prim.Native.Nat.{ℕ, zero, suc, _+_, _≤_, _<_}
 use native.Mathlib.Numerals.{add-one}
 use native.Mathlib.Omega.{arith}
 use lib.ListN.{length, getD, set, take, drop, length-append, length-set}
-use lib.Seq.{take-suc, take-suc-set, drop-set-lt, drop-drop, getD-drop}
+use lib.Seq.{take-all, take-suc, take-suc-set, drop-set-lt, drop-drop, getD-drop}
 use Rattle.candidates.specs.Sums.{Row, row, putOver, putAll, AllAfter, Rising}
 use Rattle.candidates.specs.Between.{those}
 use Rattle.candidates.proofs.PutLaws.{Strict, asym}
@@ -51,6 +51,30 @@ module _ {A : Type 0} (p : A → Bool) where
         append-none : (m : List A) → m ++ [] ≡ m
         append-none [] = refl
         append-none (a ∷ m) = ap (λ (t : List A). a ∷ t) (append-none m)
+
+-- ---- counted
+module _ {A : Type 0} (p : A → Bool) (l : List A) where
+  -- so many of the first i
+  pub record Counting (count i : ℕ) : Type 0 where
+    pub few : count ≤ i
+    pub counted : count ≡ length (those p (take i l))
+
+  pub counting-start : Counting 0 0
+  unfolding those
+  counting-start = record { few = omega arith; counted = refl }
+
+  module _ (count i : ℕ) (c : Counting count i) where
+    module _ (d : A) (h : i < length l) where
+      pub counting-takes : p (getD l i d) ≡ true → Counting (count + 1) (i + 1)
+      counting-takes e =
+          let k = ap length (those-takes p l i d h e) ∙ length-append (those p (take i l)) (getD l i d ∷ []) in
+          record { few = omega (arith, c .few); counted = omega (arith, c .counted, k) }
+
+      pub counting-passes : p (getD l i d) ≡ false → Counting count (i + 1)
+      counting-passes e = let k = ap length (those-passes p l i d h e) in record { few = omega (arith, c .few); counted = omega (arith, c .counted, k) }
+
+    pub counting-done : length l ≤ i → count ≡ length (those p l)
+    counting-done h = c .counted ∙ ap (λ (t : List A). length (those p t)) (take-all i l h)
 
 -- ---- moved to the front
 module _ {A : Type 0} (p : A → Bool) where

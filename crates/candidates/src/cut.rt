@@ -16,6 +16,23 @@ use crate::pivot::find_pivot;
 use crate::pivot::pivot_by_order;
 use word::flat::word_at;
 
+// By an order of all rows.
+fn keep_by_order(
+    words: &mut [u64],
+    sums: &mut [f64],
+    room: usize,
+    order: &mut [u64],
+    work: &mut [u64],
+) -> usize
+    requires { ⌜ (length (now words) ≡ wordLanes * length (now sums)) × (length (now order) ≡ length (now sums)) × (length (now work) ≡ length (now sums)) × (0 < room) × (room ≤ length (now sums)) × AreFinite (now sums) × (length (inWordOrder (rows (wordsIn (now words)) (now sums))) ≡ length (now sums)) ⌝ }
+    ensures { λ r. ⌜ CutTo room (wordsIn (now (words .entry))) (now (sums .entry)) r (now (words .exit)) (now (sums .exit)) ⌝ }
+{
+    let q = pivot_by_order(words, sums, room, order, work);
+    let w = word_at(words, q);
+    let y = sums[q];
+    retain_beside(words, sums, w, y)
+}
+
 // Keeps the `room` largest, ties to the lower word: how many stay.
 pub fn keep_largest(
     words: &mut [u64],
@@ -34,8 +51,5 @@ pub fn keep_largest(
     if taken == room {
         return retain_beside(words, sums, v, x);
     }
-    let p = pivot_by_order(words, sums, room, order, work);
-    let w = word_at(words, p);
-    let y = sums[p];
-    retain_beside(words, sums, w, y)
+    keep_by_order(words, sums, room, order, work)
 }
