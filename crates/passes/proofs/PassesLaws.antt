@@ -9,7 +9,7 @@ use native.Mathlib.Omega.{arith}
 use native.Mathlib.Decide.{decLt}
 use lib.Ieee.{Float, nan}
 use lib.ListN.{length, getD, take, drop, replicate, length-drop, drop-of-length-le}
-use lib.Seq.{take-all, take-at, drop-drop, getD-take, length-take-le}
+use lib.Seq.{take-all, take-at, drop-drop, getD-take, length-take-le, length-front}
 use Rattle.refusal.specs.declared.Refusal.{Refusal}
 use Rattle.word.specs.Flat.{wordLanes, words}
 use Rattle.word.specs.Word.{identity}
@@ -127,6 +127,10 @@ unfolding inWordOrder putAll
 none-stand room m lanes sums heads nexts hl hs e hh hn =
     record { lanes-long = hl; sums-long = hs; heads-long = hh; nexts-long = hn; inside = omega arith; slots = rw e (none-slotted m); once = refl }
 
+-- what is put in the first places of a table, as many as a step holds, leaves its length
+pub front-kept : (r : Taken) (n : ℕ) → r ≡ Held n → (d e : List ℕ) → length e ≡ length (take n d) → length (e ++ drop n d) ≡ length d
+front-kept r n held d e h = length-front d e n h
+
 -- the candidates at positions in word order
 map-same : (f g : ℕ → Row Word Float) (l : List ℕ) → All (λ p. f p ≡ g p) l → map f l ≡ map g l
 unfolding All
@@ -144,6 +148,11 @@ module _ (room : ℕ) (course : Read Rows) (lanes : List ℕ) (sums : List Float
     -- what ordering asks for
     pub run-long : (n ≤ room) × (wordLanes * n ≤ length lanes) × (n ≤ length heads) × (n ≤ length nexts)
     run-long = (k .inside, omega (arith, k .inside, k .lanes-long), omega (arith, k .inside, k .heads-long), omega (arith, k .inside, k .nexts-long))
+
+    pub run-asks : (wordLanes * length (take n heads) ≡ length (take (n * wordLanes) lanes)) × (wordLanes * length (take n nexts) ≡ length (take (n * wordLanes) lanes))
+    run-asks =
+        let w = length-take-le (n * wordLanes) lanes (omega (arith, run-long .1)) in
+        (omega (arith, w, length-take-le n heads (run-long .2)), omega (arith, w, length-take-le n nexts (run-long .3)))
 
     module _ (o rest : List ℕ) (is : o ≡ byWord (words (take (n * wordLanes) lanes))) where
       abbrev ws : List Word
