@@ -17,7 +17,9 @@ returns c =
 list-above-requires : tie.Need-list-above-requires
 list-above-requires c κs =
     let s = c .before .before .before .before .before .before .before .before .before .before in
-    (s .pre, omega (arith, c .before .before .before .before .count-above .ensures, c .before .before .before .smaller .ensures, c .before .before .if1 .left), omega (arith, c .before .before .before .before .count-above .ensures, c .before .before .before .smaller .ensures, c .before .before .if1 .left))
+    let n = c .before .before .before .before .count-above .ensures in
+    let p = c .before .before .before .smaller .ensures in
+    (s .pre, omega (arith, n, p, c .before .before .if1 .left), omega (arith, n, p, c .before .before .if1 .left))
 
 returns-2 : tie.Need-returns-2
 returns-2 c =
