@@ -3,7 +3,6 @@
 
 // Raw and diagonal of each column of the generator: one action for each basis word. The model is tested
 // and indexed once, before, and the slots of the basis are laid.
-ghost use mathlib.Core.Path.{_≡_};
 ghost use lib.ListN.{take};
 ghost use Rattle.word.specs.Flat.{words as wordsIn};
 ghost use Rattle.model.specs.Between.{modelTables};

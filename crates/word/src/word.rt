@@ -3,9 +3,8 @@
 
 // The packed Pauli word, its letters, and the order of words.
 ghost use mathlib.Core.Path.{_≡_};
-ghost use Prim.Native.Nat.{ℕ, _+_, _*_, _≤_, _<_, _-_, _/_, _^_};
+ghost use Prim.Native.Nat.{ℕ, _+_, _*_, _<_, _-_, _/_, _^_};
 ghost use lib.Dec.{eqb};
-ghost use lib.ListN.{length};
 ghost use Rattle.word.specs.Word.{maxQubits, bit, letterAt, identity, pack, unpack};
 ghost use Rattle.word.specs.Register.{reaches, share};
 ghost use Rattle.word.specs.Order.{compareThen, compareLanes, compare, same};
