@@ -40,11 +40,11 @@ same-length-7 c = c .before .before .before .before .before .before .before .bef
 
 returns : tie.Need-returns
 returns c = (
-      rw (← (c .before .before .before .before .before .before .before .before .before .before .before .before .before .before .before .before .before .before .before .before .before .before .before .before .before .before .before .before .before .before .before .before .before .before .action-places .ensures), ← (c .before .before .before .before .before .before .before .before .before .before .before .before .before .before .before .before .before .before .before .before .before .before .before .before .before .before .before .before .before .before .before .before .before .row-places .ensures)) (c .before .before .before .before .before .before .before .before .before .before .before .before .before .before .before .before .before .before .before .before .before .before .before .before .before .run-passes .ensures),
-      c .before .before .before .before .before .before .before .before .before .clear-lanes .ensures ∙ ap (λ (n : ℕ). replicate n 0) (c .before .before .before .before .before .before .before .before .before .before .before .before .before .before .before .before .before .before .before .before .before .before .before .before .before .run-passes .kept .1 .1 .1 .1 .1 .1 .1 .1 .1 .0),
-      c .before .before .before .before .clear-rows .ensures .0 ∙ ap (λ (n : ℕ). replicate n 0) (c .before .before .before .before .before .before .before .before .before .before .before .before .before .before .before .before .before .before .before .before .before .before .before .before .before .run-passes .kept .1 .1 .1 .1 .1 .1 .1 .1 .1 .1 .0),
-      c .before .before .before .before .clear-rows .ensures .1 ∙ ap (λ (n : ℕ). replicate n float0) (c .before .before .before .before .before .before .before .before .before .before .before .before .before .before .before .before .before .before .before .before .before .before .before .before .before .run-passes .kept .1 .1 .1 .1 .1 .1 .1 .1 .1 .1 .1 .0),
-    )
+  rw (← (c .before .before .before .before .before .before .before .before .before .before .before .before .before .before .before .before .before .before .before .before .before .before .before .before .before .before .before .before .before .before .before .before .before .before .action-places .ensures), ← (c .before .before .before .before .before .before .before .before .before .before .before .before .before .before .before .before .before .before .before .before .before .before .before .before .before .before .before .before .before .before .before .before .before .row-places .ensures)) (c .before .before .before .before .before .before .before .before .before .before .before .before .before .before .before .before .before .before .before .before .before .before .before .before .before .run-passes .ensures),
+  c .before .before .before .before .before .before .before .before .before .clear-lanes .ensures ∙ ap (λ (n : ℕ). replicate n 0) (c .before .before .before .before .before .before .before .before .before .before .before .before .before .before .before .before .before .before .before .before .before .before .before .before .before .run-passes .kept .1 .1 .1 .1 .1 .1 .1 .1 .1 .0),
+  c .before .before .before .before .clear-rows .ensures .0 ∙ ap (λ (n : ℕ). replicate n 0) (c .before .before .before .before .before .before .before .before .before .before .before .before .before .before .before .before .before .before .before .before .before .before .before .before .before .run-passes .kept .1 .1 .1 .1 .1 .1 .1 .1 .1 .1 .0),
+  c .before .before .before .before .clear-rows .ensures .1 ∙ ap (λ (n : ℕ). replicate n float0) (c .before .before .before .before .before .before .before .before .before .before .before .before .before .before .before .before .before .before .before .before .before .before .before .before .before .run-passes .kept .1 .1 .1 .1 .1 .1 .1 .1 .1 .1 .1 .0),
+)
 
 pub run-and-clear-spec : {M : Type 1} → statement M
 run-and-clear-spec =
