@@ -175,7 +175,7 @@ class Leakage(unittest.TestCase):
 
     def leak(self, coeffs, max_basis, tau_add, protected=()):
         lengths = call("leakage_sizes", _library.LeakageLengths, 2, 2, len(protected), 4, 4)
-        work = lent(lengths, work_sums=np.float64, cand_sums=np.float64, next_sums=np.float64)
+        work = lent(lengths, work_sums=np.float64, cand_sums=np.float64)
         out = np.zeros(4 * WORD_LANES, np.uint64), np.zeros(4)
         given = lanes("XX", "YY"), np.array(coeffs), 2, lanes(*protected)
         limits = _library.Limits(max_basis, 0, 0, 1, tau_add)
