@@ -36,7 +36,7 @@ use Rattle.step_laws.proofs.RankLaws.{flagged-gap}
 use Rattle.step_laws.proofs.PlaceLaws.{pick-all}
 
 -- what was not refused
-not-refused : {A : Type 0} (b : Bool) (q : Refusal) (after : Read A) (a : A) → refuseIf b q after ≡ got a → after ≡ got a
+pub not-refused : {A : Type 0} (b : Bool) (q : Refusal) (after : Read A) (a : A) → refuseIf b q after ≡ got a → after ≡ got a
 not-refused true q after a e = absurd (no-value q a e)
 not-refused false q after a e = e
 
