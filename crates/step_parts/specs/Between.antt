@@ -18,6 +18,7 @@ use Rattle.number.specs.Floats.{float0, isFinite}
 use Rattle.model.specs.Stored.{ModelTables}
 use Rattle.model.specs.Tested.{testModel}
 use Rattle.model.specs.declared.stored.Model.{Model}
+use Rattle.expm.specs.Selects.{maxProducts}
 use Rattle.lent.specs.Read.{Read, got, refused}
 use Rattle.lent.specs.Words.{maxWords}
 use Rattle.lent.specs.Between.{AllInside}
@@ -164,6 +165,7 @@ pub record Outcomes (course : Read Outcome) (len k : ℕ) (evolved′ : List Flo
   pub outcome : Outcome
   pub is : course ≡ got outcome
   pub products : k ≡ outcome .products
+  pub few : k ≤ maxProducts
   pub numbers : take len evolved′ ≡ outcome .numbers
   pub finite : AllFinite (take len evolved′)
 
