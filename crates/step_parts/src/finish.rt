@@ -3,10 +3,14 @@
 
 // The end of a step: prune and cap of the grown basis, and what they keep handed over.
 ghost use mathlib.Core.Path.{_≡_};
+ghost use mathlib.Core.Bool.{not, _||_};
 ghost use Prim.Native.Nat.{ℕ, _*_, _≤_};
+ghost use lib.Dec.{ltb};
+ghost use lib.Ieee.{le};
 ghost use lib.ListN.{length, replicate};
 ghost use Rattle.word.specs.Flat.{words as wordsIn, wordLanes};
-ghost use Rattle.step_parts.specs.Ends.{kept, acts, wordsAfter, numbersAfter};
+ghost use Rattle.number.specs.Floats.{float0};
+ghost use Rattle.step_parts.specs.Ends.{kept, acts as actsOn, wordsAfter, numbersAfter};
 ghost use Rattle.step_parts.specs.Between.{EndReady, Truncates, grown};
 use crate::copy::copy_basis;
 use lent::clear::clear_lanes;
@@ -66,6 +70,16 @@ fn truncate_grown(
     entries
 }
 
+// Whether prune or cap acts on a basis of so many.
+fn acts(drop_tol: f64, max_basis: usize, len: usize) -> bool
+    ensures { λ r. ⌜ r ≡ (not (le «drop_tol» float0) || ltb «max_basis» len) ⌝ }
+{
+    if drop_tol <= 0.0 {
+        return max_basis < len;
+    }
+    true
+}
+
 // And what they keep over the lent basis: how many.
 pub fn finish(
     n: usize,
@@ -83,7 +97,7 @@ pub fn finish(
     place_order: &mut [u64],
 ) -> usize
     requires { ⌜ EndReady n (now protected) «drop_tol» «max_basis» len (now «grown_words») (now evolved) (now order) (now heads) (now nexts) (now «place_order») × (wordLanes * len ≤ length (now words)) × (len ≤ length (now coeffs)) ⌝ }
-    ensures { λ r. ⌜ ((products : ℕ) → (r ≡ length (kept (wordsIn (now (protected .entry))) «drop_tol» «max_basis» (grown len (now («grown_words» .entry)) (now (evolved .entry)) products) .words)) × (now (words .exit) ≡ wordsAfter (acts «drop_tol» «max_basis» (grown len (now («grown_words» .entry)) (now (evolved .entry)) products)) (kept (wordsIn (now (protected .entry))) «drop_tol» «max_basis» (grown len (now («grown_words» .entry)) (now (evolved .entry)) products)) (now (words .entry))) × (now (coeffs .exit) ≡ numbersAfter (acts «drop_tol» «max_basis» (grown len (now («grown_words» .entry)) (now (evolved .entry)) products)) (kept (wordsIn (now (protected .entry))) «drop_tol» «max_basis» (grown len (now («grown_words» .entry)) (now (evolved .entry)) products)) (now (coeffs .entry)))) × (now (order .exit) ≡ replicate (length (now (order .entry))) 0) × (now (heads .exit) ≡ replicate (length (now (heads .entry))) 0) × (now (nexts .exit) ≡ replicate (length (now (nexts .entry))) 0) × (now («place_order» .exit) ≡ replicate (length (now («place_order» .entry))) 0) ⌝ }
+    ensures { λ r. ⌜ ((products : ℕ) → (r ≡ length (kept (wordsIn (now (protected .entry))) «drop_tol» «max_basis» (grown len (now («grown_words» .entry)) (now (evolved .entry)) products) .words)) × (now (words .exit) ≡ wordsAfter (actsOn «drop_tol» «max_basis» (grown len (now («grown_words» .entry)) (now (evolved .entry)) products)) (kept (wordsIn (now (protected .entry))) «drop_tol» «max_basis» (grown len (now («grown_words» .entry)) (now (evolved .entry)) products)) (now (words .entry))) × (now (coeffs .exit) ≡ numbersAfter (actsOn «drop_tol» «max_basis» (grown len (now («grown_words» .entry)) (now (evolved .entry)) products)) (kept (wordsIn (now (protected .entry))) «drop_tol» «max_basis» (grown len (now («grown_words» .entry)) (now (evolved .entry)) products)) (now (coeffs .entry)))) × (now (order .exit) ≡ replicate (length (now (order .entry))) 0) × (now (heads .exit) ≡ replicate (length (now (heads .entry))) 0) × (now (nexts .exit) ≡ replicate (length (now (nexts .entry))) 0) × (now («place_order» .exit) ≡ replicate (length (now («place_order» .entry))) 0) ⌝ }
 {
     let entries = truncate_grown(
         n,
@@ -99,10 +113,12 @@ pub fn finish(
         place_order,
     );
     copy_basis(grown_words, evolved, entries, words, coeffs);
-    if drop_tol <= 0.0 && len <= max_basis {
+    let acted = acts(drop_tol, max_basis, len);
+    if !acted {
         return entries;
     }
-    clear_lanes(&mut words[entries * WORD_LANES..]);
+    let end = entries * WORD_LANES;
+    clear_lanes(&mut words[end..]);
     clear_numbers(&mut coeffs[entries..]);
     entries
 }
