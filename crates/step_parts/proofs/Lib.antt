@@ -5,3 +5,6 @@
 pub mod CheckLaws
 pub mod CopyLaws
 pub mod EvolveLaws
+pub mod TruncateLaws
+pub mod FinishLaws
+pub mod ReadyLaws
