@@ -8,7 +8,7 @@ use mathlib.Core.Bool.{Bool, true, false, cond}
 use mathlib.Core.List.{List, [], _∷_, _++_, append-nil}
 use Prim.Native.Nat.{ℕ, suc, _*_, _≤_}
 use native.Mathlib.Omega.{arith}
-use borrow.Author.Tests.{le-ltb, eqb-true}
+use borrow.Author.Tests.{eqb-true}
 use lib.Dec.{eqb}
 use lib.Ieee.{Float}
 use lib.ListN.{length, take, drop, drop-of-length-le, length-append, length-drop}
@@ -27,8 +27,7 @@ use Rattle.model.specs.Tested.{testModel}
 use Rattle.model.specs.declared.stored.Model.{Model}
 use Rattle.action.specs.Acts.{sumPlaces}
 use Rattle.columns.specs.Columns.{generatorRoom}
-use Rattle.columns.specs.Repeats.{firstRepeat}
-use Rattle.generator.specs.Lent.{basisOf, distinct}
+use Rattle.generator.specs.Lent.{basisOf}
 use Rattle.generator.specs.Generators.{csrPlaces}
 use Rattle.taylor.specs.Stages.{Evolution, evolved, stopped, stages}
 use Rattle.taylor.specs.Evolves.{Evolves, answerAfter, outAfter, evolveWith, evolveBy}
@@ -39,9 +38,9 @@ use Rattle.evolution.specs.Evolutions.{Evolving, roomThen, evolveOver, evolve}
 use Rattle.evolution.proofs.CheckLaws.{TablesPassed, basis-accepted, tables-accepted}
 use Rattle.step_laws.specs.Steps.{Places, Outcome, outcomeOf, evolution}
 use Rattle.step_laws.specs.Passing.{Good, Held, EvolveCall}
-use Rattle.step_laws.proofs.CourseLaws.{no-value, same-value}
+use Rattle.step_laws.proofs.CourseLaws.{no-value, same-value, same-refused}
 use Rattle.step_laws.proofs.EvolvedLaws.{stages-leave}
-use Rattle.step_laws.proofs.HeldLaws.{held-words, held-numbers, inside-passes, finite-passes, need-none}
+use Rattle.step_laws.proofs.HeldLaws.{held-words, held-numbers, inside-passes, finite-passes, need-none, apart-passes}
 
 -- ---- an evolution that writes into a table, beside one that writes over its numbers
 record Alike (len : ℕ) (out : List Float) (x y : Evolves) : Type 0 where
@@ -115,7 +114,7 @@ module _ (m : Model) (t : ModelTables) (ok : testModel m t ≡ Tests.Accepted) (
     (lent : TablesPassed (m .qubits) len (length (w .generator .hIndex)) (length (w .generator .jIndex)) (length (w .generator .mask)) (length (w .generator .heads)) (length (w .generator .nexts)) (length (w .offsets)) (length (w .v)) (length (w .b)) (length (w .product)) (length out)) where
   basis-ok : basisTests m t lanes coeffs len ≡ Tests.Accepted
   basis-ok =
-      sym (basis-accepted m t lanes coeffs len ok (omega (arith, good .words .few, held-words lanes coeffs len ws cs h)) (omega (arith, h .lanes-long)) (h .numbers-long))
+      sym (basis-accepted m t lanes coeffs len ok (omega (arith, good .fit .few, held-words lanes coeffs len ws cs h)) (omega (arith, h .lanes-long)) (h .numbers-long))
 
   tables-ok : workTests (m .qubits) len (length (w .generator .hIndex)) (length (w .generator .jIndex)) (length (w .generator .mask)) (length (w .generator .heads)) (length (w .generator .nexts)) (length (w .offsets)) (length (w .v)) (length (w .b)) (length (w .product)) (length out) ≡ Tests.Accepted
   tables-ok =
@@ -124,15 +123,11 @@ module _ (m : Model) (t : ModelTables) (ok : testModel m t ≡ Tests.Accepted) (
   numbers-ok : numberTests len lanes (m .qubits) coeffs dt dropTol ≡ Tests.Accepted
   unfolding numberTests
   numbers-ok =
-      inside-passes lanes coeffs len ws cs h (m .qubits) _ (good .words .inside) ∙ finite-passes lanes coeffs len ws cs h 0 _ (good .finite) ∙ rw (dt-finite, tol-finite)
-
-  distinct-ok : distinct (basisOf lanes len) ≡ Tests.Accepted
-  unfolding distinct
-  distinct-ok = rw (h .words-are, le-ltb (firstRepeat ws) (length ws) (omega (arith, good .words .apart)))
+      inside-passes lanes coeffs len ws cs h (m .qubits) _ (good .fit .inside) ∙ finite-passes lanes coeffs len ws cs h 0 _ (good .fit .finite) ∙ rw (dt-finite, tol-finite)
 
   pub evolve-accepted : evolveTests m t lanes coeffs len dt dropTol w out ≡ Tests.Accepted
   unfolding evolveTests
-  evolve-accepted = rw (basis-ok, tables-ok, numbers-ok) distinct-ok
+  evolve-accepted = rw (basis-ok, tables-ok, numbers-ok, h .words-are) (apart-passes ws (good .apart))
 
   module _ (protected : List Word) (places : Places) (touched : places .touched ≡ sumPlaces (w .generator .workWords) (w .generator .workSums)) (entries : places .entries ≡ csrPlaces (w .generator) (w .columns) (w .values)) where
     abbrev after : Evolving
@@ -172,8 +167,7 @@ module _ (m : Model) (t : ModelTables) (ok : testModel m t ≡ Tests.Accepted) (
         to-turned : (q : Refusal) (b : Evolved) → y .answer ≡ b → outcomeOf m t protected dt places (y .out) b ≡ refused q → (x .answer ≡ Refused q) × (x .out ≡ out)
         to-turned q (Products k) i e = absurd (no-value q _ (sym e))
         to-turned q (Refused r) i e =
-            let same : r ≡ q = cc in
-            (a .answers ∙ i ∙ ap Refused same, a .kept r (a .answers ∙ i))
+            (a .answers ∙ i ∙ ap Refused (same-refused r q e), a .kept r (a .answers ∙ i))
 
     pub evolve-call : EvolveCall w out len after plain
     unfolding evolution

@@ -5,14 +5,14 @@
 -- tests passes them again with the words that enter. Assumes nothing.
 use mathlib.Core.Path.{_≡_, refl, sym, ap, ap₂, subst, _∙_}
 use mathlib.Core.Bool.{Bool, true, false, not, cond, _||_, _&&_}
-use mathlib.Core.List.{List, [], _∷_, _++_}
+use mathlib.Core.List.{List, [], _∷_, _++_, append-assoc}
 use Prim.Native.Nat.{ℕ, zero, suc, _+_, _-_, _≤_, _<_}
 use native.Mathlib.Omega.{arith}
 use native.Mathlib.Decide.{decLt}
 use denote.Floats.{passes as holds}
 use lib.Dec.{eqb, ltb}
 use lib.Ieee.{Float, nan}
-use lib.ListN.{length, getD, take, drop, length-append, length-map, List·getD-append, List·getD-eq-default}
+use lib.ListN.{length, getD, take, drop, replicate, replicate-append-replicate, length-append, length-map, List·getD-append, List·getD-eq-default}
 use lib.Seq.{take-append-le, take-append-add, getD-append-add}
 use Rattle.refusal.specs.declared.Refusal.the-variants.{TableFull}
 use Rattle.refusal.specs.declared.Answer.the-variants.{Accepted}
@@ -22,7 +22,7 @@ use Rattle.word.specs.Register.{reaches}
 use Rattle.word.specs.declared.word.Word.{Word}
 use Rattle.word.proofs.OrderLaws.{before-self, same-eq}
 use Rattle.word.proofs.WordLaws.{letter-identity}
-use Rattle.number.specs.Floats.{floats, isFinite}
+use Rattle.number.specs.Floats.{floats, float0, isFinite}
 use Rattle.order.specs.Places.{isAmong}
 use Rattle.keep.specs.Retained.{pick}
 use Rattle.lent.specs.Every.{Every}
@@ -44,10 +44,11 @@ use Rattle.limits.specs.Defaults.{isAbove}
 use Rattle.passes.specs.Leaks.{outside, leaked, takenBy, ended, largest, passSize, passes, leaksAt, candidatesOf, above, wordsOf, sumsOf}
 use Rattle.passes.proofs.RoomLaws.{largest-rising}
 use Rattle.leakage_laws.proofs.KeepLaws.{ended-finite}
-use Rattle.step_laws.specs.Steps.{Places, leakage, hop}
-use Rattle.step_laws.specs.Passing.{Inside, AreFinite, GoodWords}
+use Rattle.step_laws.specs.Steps.{Places, Outcome, withZeros, leakage, hop, evolution}
+use Rattle.step_laws.specs.Passing.{Inside, AreFinite, Fit, Good, GoodWords}
 use Rattle.step_laws.proofs.CourseLaws.{same-value, through}
-use Rattle.step_laws.proofs.AdmissionLaws.{not-refused, all-enter}
+use Rattle.step_laws.proofs.EvolvedLaws.{zeros-each, zero-finite, zeros-long, evolution-finite}
+use Rattle.step_laws.proofs.AdmissionLaws.{not-refused, list-few, all-enter}
 use Rattle.step_laws.proofs.InsideLaws.{action-inside}
 
 -- ---- of rows, what is picked and what is above a threshold
@@ -248,6 +249,14 @@ module _ (m : Model) (t : ModelTables) (ok : testModel m t ≡ Accepted) (protec
             apart = λ e. grown-apart ws (wordsOf R) e (λ k h. rising-apart R rising k (omega (arith, nw))) (λ k h. every-at New (wordsOf R) k identity words h .1);
           }
 
+  -- as admission asks of a list
+  pub list-fit : limit ≤ maxWords → (list : Rows) → leakage m t protected dt places limit tau ws cs ≡ got list → Fit (m .qubits) (wordsOf list) (sumsOf list)
+  list-fit low list e =
+      let l = leakage-lists list e in
+      let nw : length (wordsOf list) ≡ length list = length-map list (λ r. r .word) in
+      let ns : length (sumsOf list) ≡ length list = length-map list (λ r. r .sum) in
+      record { few = omega (arith, low, nw, list-few m t protected dt places limit tau ws cs list e); inside = l .inside; each = ns ∙ sym nw; finite = l .finite }
+
   -- a basis that passes, with the words that enter
   pub hop-good : limit ≤ maxWords → GoodWords (m .qubits) ws → (entered : List Word) → hop m t protected dt places limit tau ws cs ≡ got entered → GoodWords (m .qubits) (ws ++ entered)
   hop-good low g entered e =
@@ -269,3 +278,36 @@ module _ (m : Model) (t : ModelTables) (ok : testModel m t ≡ Accepted) (protec
           go (no j) =
               let z : length us + (i - length us) ≡ i = omega arith in
               ap (λ (p : ℕ). reaches (getD (us ++ vs) p identity) n) (sym z) ∙ ap (λ (w : Word). reaches w n) (getD-append-add us vs (i - length us) identity) ∙ k (i - length us) (omega (arith, l, length-append us vs))
+
+-- ---- the numbers beside the words
+-- those given, with a zero for each word that entered
+pub zeros-behind : (ws us : List Word) (cs : List Float) → length cs ≡ length ws → withZeros cs (ws ++ us) ≡ cs ++ replicate (length us) float0
+zeros-behind ws us cs e =
+    let z : length (ws ++ us) - length cs ≡ length us = omega (arith, length-append ws us, e) in
+    ap (λ (k : ℕ). cs ++ replicate k float0) z
+
+-- and again for those of a second hop
+pub zeros-again : (cs : List Float) (us vs : List Word) → length cs ≤ length us → length us ≤ length vs → withZeros (withZeros cs us) vs ≡ withZeros cs vs
+zeros-again cs us vs h k =
+    let a : ℕ = length us - length cs in
+    let b : ℕ = length vs - length (withZeros cs us) in
+    let z : a + b ≡ length vs - length cs = omega (arith, zeros-long cs us h, h, k) in
+    append-assoc cs (replicate a float0) (replicate b float0) ∙ ap (λ (l : List Float). cs ++ l) (replicate-append-replicate a b float0 ∙ ap (λ (n : ℕ). replicate n float0) z)
+
+pub zeros-good : (n : ℕ) (ws us : List Word) (cs : List Float) → Fit n ws cs → GoodWords n (ws ++ us) → Good n (ws ++ us) (withZeros cs (ws ++ us))
+zeros-good n ws us cs f g = record {
+  fit = record {
+    few = g .few;
+    inside = g .inside;
+    each = zeros-long cs (ws ++ us) (omega (arith, f .each, length-append ws us));
+    finite = zeros-each (λ x. isFinite x ≡ true) zero-finite cs (ws ++ us) (f .finite);
+  };
+  apart = g .apart;
+}
+
+-- those evolved
+pub evolved-fit : (m : Model) (t : ModelTables) (protected : List Word) (dt : Float) (places : Places) (n : ℕ) (dropTol : Float) (ws : List Word) (cs : List Float) (o : Outcome) → Fit n ws cs
+    → evolution m t protected dt places dropTol ws cs ≡ got o → Fit n ws (o .numbers)
+evolved-fit m t protected dt places n dropTol ws cs o f e =
+    let v = evolution-finite m t protected dt places dropTol ws cs o (f .finite) e in
+    record { few = f .few; inside = f .inside; each = v .long ∙ f .each; finite = v .each }

@@ -18,3 +18,6 @@ pub mod InsideLaws
 pub mod GrownLaws
 pub mod HeldLaws
 pub mod EvolveCall
+pub mod AdmitCall
+pub mod LeakCall
+pub mod EndCall
