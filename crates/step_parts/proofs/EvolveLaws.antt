@@ -4,20 +4,17 @@
 -- A grown basis passes the tests of an evolution, and the call does to it what the step says of plain lists. Assumes nothing.
 use mathlib.Core.Path.{_≡_, refl, sym, ap, subst, _∙_}
 use mathlib.Core.List.{List, []}
-use Prim.Native.Nat.{ℕ, _≤_, min}
+use Prim.Native.Nat.{ℕ, _≤_}
 use native.Mathlib.Omega.{arith}
 use borrow.Author.Tests.{ltb-false}
 use lib.Dec.{ltb}
 use lib.Ieee.{Float}
 use lib.ListN.{length, take}
-use lib.Seq.{length-take-le}
-use Rattle.refusal.specs.declared.Refusal.{Refusal}
 use Rattle.refusal.specs.declared.Answer.the-variants as Tests
 use Rattle.word.specs.Flat.{words}
 use Rattle.word.specs.declared.word.Word.{Word}
-use Rattle.word.proofs.FlatLaws.{words-high}
 use Rattle.expm.specs.Selects.{maxProducts}
-use Rattle.lent.specs.Read.{Read, got}
+use Rattle.lent.specs.Read.{Read}
 use Rattle.lent.proofs.Firsts.{first-inside}
 use Rattle.lent.proofs.Passed.{passed}
 use Rattle.model.specs.Stored.{ModelTables}
@@ -37,21 +34,19 @@ use Rattle.evolution_laws.specs.Products.{Took, none, stages}
 use Rattle.evolution_laws.proofs.SameMatrix.{evolves-generator, products-taken}
 use Rattle.step_laws.specs.Steps.{Places, Outcome, evolution}
 use Rattle.step_laws.specs.Kept.{AllFinite}
-use Rattle.step_laws.specs.Passing.{GoodWords, Good, Held, EvolveCall}
+use Rattle.step_laws.specs.Passing.{Good, Held, EvolveCall}
 use Rattle.step_laws.proofs.EvolveCall.{evolve-call}
 use Rattle.step_laws.proofs.EvolvedLaws.{evolution-leaves}
+use Rattle.step_laws.proofs.HeldLaws.{held-words, held-numbers}
 use Rattle.step_parts.specs.Lent.{touchedPlaces, entryPlaces}
-use Rattle.step_parts.specs.Between.{FiniteStep, Apart, EvolveLong, Holds, EvolvePlaces, Evolves}
+use Rattle.step_parts.specs.Between.{FiniteStep, EvolveLong, Holds, EvolvePlaces, Evolves}
 
 -- ---- words that differ
-distinct-first : (ws : List Word) → distinct ws ≡ Tests.Accepted → firstRepeat ws ≡ length ws
+pub distinct-first : (ws : List Word) → distinct ws ≡ Tests.Accepted → firstRepeat ws ≡ length ws
 unfolding distinct firstRepeat
 distinct-first ws e =
     let p = passed (ltb (firstRepeat ws) (length ws)) _ Tests.Accepted e in
     omega (arith, ltb-false (firstRepeat ws) (length ws) (p .0), first-inside (length ws) (repeatsAt ws))
-
-pub apart-good : (n : ℕ) (ws : List Word) → Apart n ws → GoodWords n ws
-apart-good n ws a = record { few = a .few; inside = a .inside; apart = distinct-first ws (a .differ) }
 
 -- ---- no more products than the ceiling
 took-few : (count : ℕ) (dt norm dropTol : Float) (k : ℕ) → Took count dt norm dropTol k → k ≤ maxProducts
@@ -76,9 +71,13 @@ module _ (m : Model) (t : ModelTables) (ok : testModel m t ≡ Tests.Accepted) (
 
   good : Good (m .qubits) ws cs
   good = record {
-    words = apart-good (m .qubits) ws (holds .apart);
-    each = length-take-le len start (held .numbers-long) ∙ sym (length-take-le len (words lanes) (omega (arith, held .lanes-long, words-high lanes)));
-    finite = λ k h. holds .start-finite k h .finite;
+    fit = record {
+      few = holds .apart .few;
+      inside = holds .apart .inside;
+      each = held-numbers lanes start len ws cs held ∙ sym (held-words lanes start len ws cs held);
+      finite = λ k h. holds .start-finite k h .finite;
+    };
+    apart = distinct-first ws (holds .apart .differ);
   }
 
   lent : TablesPassed (m .qubits) len (length (w .generator .hIndex)) (length (w .generator .jIndex)) (length (w .generator .mask)) (length (w .generator .heads)) (length (w .generator .nexts)) (length (w .offsets)) (length (w .v)) (length (w .b)) (length (w .product)) (length out)

@@ -58,14 +58,17 @@ returns c =
     let few = k .ensures .0 0 .fewer in
     let lanes-long : wordLanes * k .result ≤ length (k .last .1 .1 .1 .1 .1 .0) = omega (arith, few, p .0 .grown-long, k .kept .1 .1 .1 .1 .1 .0) in
     let told : (products : ℕ) → c .before .acts .result ≡ actsOn (a .drop-tol) (a .max-basis) (grown (a .len) (a .grown-words .now) (a .evolved .now) products) =
-    λ products. c .before .acts .ensures ∙ acts-are (a .drop-tol) (a .max-basis) (a .len) (a .grown-words .now) (a .evolved .now) (p .0 .grown-long) products in
-    ((λ products. (k .ensures .0 products .count,
-    words-stay _ (a .len) (k .result) (k .last .1 .1 .1 .1 .1 .0) (k .last .1 .1 .1 .1 .1 .1 .0) (k .ensures .0 products) _ (sym (told products) ∙ not-true (c .before .acts .result) (c .if1 .taken)) lanes-long (a .words .now) (b .last .1 .1 .1 .0) (b .ensures .0),
-    numbers-stay _ (a .len) (k .result) (k .last .1 .1 .1 .1 .1 .0) (k .last .1 .1 .1 .1 .1 .1 .0) (k .ensures .0 products) _ (sym (told products) ∙ not-true (c .before .acts .result) (c .if1 .taken)) (a .coeffs .now) (b .last .1 .1 .1 .1 .0) (b .ensures .1))),
-    k .ensures .1,
-    k .ensures .2,
-    k .ensures .3,
-    k .ensures .4)
+    λ products. c .before .acts .ensures ∙ acts-are (a .drop-tol) (a .max-basis) (a .len) (a .grown-words .now) (a .evolved .now) (p .0 .grown-long) products in (
+      (λ products. (
+        k .ensures .0 products .count,
+        words-stay _ (a .len) (k .result) (k .last .1 .1 .1 .1 .1 .0) (k .last .1 .1 .1 .1 .1 .1 .0) (k .ensures .0 products) _ (sym (told products) ∙ not-true (c .before .acts .result) (c .if1 .taken)) lanes-long (a .words .now) (b .last .1 .1 .1 .0) (b .ensures .0),
+        numbers-stay _ (a .len) (k .result) (k .last .1 .1 .1 .1 .1 .0) (k .last .1 .1 .1 .1 .1 .1 .0) (k .ensures .0 products) _ (sym (told products) ∙ not-true (c .before .acts .result) (c .if1 .taken)) (a .coeffs .now) (b .last .1 .1 .1 .1 .0) (b .ensures .1),
+      )),
+      k .ensures .1,
+      k .ensures .2,
+      k .ensures .3,
+      k .ensures .4,
+    )
 
 mul-end : tie.Need-mul-end
 mul-end c =
@@ -95,13 +98,6 @@ part-clear-lanes-start c =
     let i : wordLanes * k .result ≤ length (c .before .before .before .before .before .before .copy-basis .last .1 .1 .1 .0) = omega (arith, h, c .before .before .before .before .before .before .copy-basis .kept .1 .1 .1 .0) in
     search (h, i, c .before .before .before .before .before .before .before .before .before .before .before .before .before .before .before .before .before .before .before .before .before .before .before .before .before .before .before .before .before .before .before .before .before .before .before .before .before .before .before .good .1 .1 .1 .1 .1 .0, needs)
 
-part-clear-lanes-end : tie.Need-part-clear-lanes-end
-part-clear-lanes-end c =
-    let k = c .before .before .before .before .before .before .before .before .before .before .before .before .before .before .before .before .before .before .before .before .before .before .before .truncate-grown in
-    let h : wordLanes * k .result ≤ length (c .before .before .before .before .before .before .before .before .before .before .before .before .before .before .before .before .before .before .before .before .before .before .before .before .before .before .before .before .before .before .before .before .before .before .before .before .before .before .before .args .words .now) = omega (arith, k .ensures .0 0 .fewer, c .before .before .before .before .before .before .before .before .before .before .before .before .before .before .before .before .before .before .before .before .before .before .before .before .before .before .before .before .before .before .before .before .before .before .before .before .before .before .before .pre .1) in
-    let i : wordLanes * k .result ≤ length (c .before .before .before .before .before .before .copy-basis .last .1 .1 .1 .0) = omega (arith, h, c .before .before .before .before .before .before .copy-basis .kept .1 .1 .1 .0) in
-    search (h, i, c .before .before .before .before .before .before .before .before .before .before .before .before .before .before .before .before .before .before .before .before .before .before .before .before .before .before .before .before .before .before .before .before .before .before .before .before .before .before .before .good .1 .1 .1 .1 .1 .0, needs)
-
 mul-clear-numbers : tie.Need-mul-clear-numbers
 mul-clear-numbers c =
     let k = c .before .before .before .before .before .before .before .before .before .before .before .before .before .before .before .before .before .before .before .before .before .before .before .before .before .before .before .truncate-grown in
@@ -112,23 +108,14 @@ mul-clear-numbers c =
 sub-clear-numbers : tie.Need-sub-clear-numbers
 sub-clear-numbers c =
     let k = c .before .before .before .before .before .before .before .before .before .before .before .before .before .before .before .before .before .before .before .before .before .before .before .before .before .before .before .truncate-grown in
-    let h : k .result ≤ length (c .before .before .before .before .before .before .before .before .before .before .before .before .before .before .before .before .before .before .before .before .before .before .before .before .before .before .before .before .before .before .before .before .before .before .before .before .before .before .before .before .before .before .before .args .coeffs .now) = omega (arith, k .ensures .0 0 .fewer, c .before .before .before .before .before .before .before .before .before .before .before .before .before .before .before .before .before .before .before .before .before .before .before .before .before .before .before .before .before .before .before .before .before .before .before .before .before .before .before .before .before .before .before .pre .2) in
-    let i : k .result ≤ length (c .before .before .before .before .before .before .before .before .before .before .copy-basis .last .1 .1 .1 .1 .0) = omega (arith, h, c .before .before .before .before .before .before .before .before .before .before .copy-basis .kept .1 .1 .1 .1 .0) in
-    search (h, i, c .before .before .before .before .before .before .before .before .before .before .before .before .before .before .before .before .before .before .before .before .before .before .before .before .before .before .before .before .before .before .before .before .before .before .before .before .before .before .before .before .before .before .before .good .1 .1 .1 .1 .1 .1 .0, needs)
+    let i : k .result ≤ length (c .before .before .before .before .before .before .before .before .before .before .copy-basis .last .1 .1 .1 .1 .0) = omega (arith, k .ensures .0 0 .fewer, c .before .before .before .before .before .before .before .before .before .before .before .before .before .before .before .before .before .before .before .before .before .before .before .before .before .before .before .before .before .before .before .before .before .before .before .before .before .before .before .before .before .before .before .pre .2, c .before .before .before .before .before .before .before .before .before .before .copy-basis .kept .1 .1 .1 .1 .0) in
+    search (i, needs)
 
 part-clear-numbers-start : tie.Need-part-clear-numbers-start
 part-clear-numbers-start c =
     let k = c .before .before .before .before .before .before .before .before .before .before .before .before .before .before .before .before .before .before .before .before .before .before .before .before .before .before .before .truncate-grown in
-    let h : k .result ≤ length (c .before .before .before .before .before .before .before .before .before .before .before .before .before .before .before .before .before .before .before .before .before .before .before .before .before .before .before .before .before .before .before .before .before .before .before .before .before .before .before .before .before .before .before .args .coeffs .now) = omega (arith, k .ensures .0 0 .fewer, c .before .before .before .before .before .before .before .before .before .before .before .before .before .before .before .before .before .before .before .before .before .before .before .before .before .before .before .before .before .before .before .before .before .before .before .before .before .before .before .before .before .before .before .pre .2) in
-    let i : k .result ≤ length (c .before .before .before .before .before .before .before .before .before .before .copy-basis .last .1 .1 .1 .1 .0) = omega (arith, h, c .before .before .before .before .before .before .before .before .before .before .copy-basis .kept .1 .1 .1 .1 .0) in
-    search (h, i, c .before .before .before .before .before .before .before .before .before .before .before .before .before .before .before .before .before .before .before .before .before .before .before .before .before .before .before .before .before .before .before .before .before .before .before .before .before .before .before .before .before .before .before .good .1 .1 .1 .1 .1 .1 .0, needs)
-
-part-clear-numbers-end : tie.Need-part-clear-numbers-end
-part-clear-numbers-end c =
-    let k = c .before .before .before .before .before .before .before .before .before .before .before .before .before .before .before .before .before .before .before .before .before .before .before .before .before .before .before .truncate-grown in
-    let h : k .result ≤ length (c .before .before .before .before .before .before .before .before .before .before .before .before .before .before .before .before .before .before .before .before .before .before .before .before .before .before .before .before .before .before .before .before .before .before .before .before .before .before .before .before .before .before .before .args .coeffs .now) = omega (arith, k .ensures .0 0 .fewer, c .before .before .before .before .before .before .before .before .before .before .before .before .before .before .before .before .before .before .before .before .before .before .before .before .before .before .before .before .before .before .before .before .before .before .before .before .before .before .before .before .before .before .before .pre .2) in
-    let i : k .result ≤ length (c .before .before .before .before .before .before .before .before .before .before .copy-basis .last .1 .1 .1 .1 .0) = omega (arith, h, c .before .before .before .before .before .before .before .before .before .before .copy-basis .kept .1 .1 .1 .1 .0) in
-    search (h, i, c .before .before .before .before .before .before .before .before .before .before .before .before .before .before .before .before .before .before .before .before .before .before .before .before .before .before .before .before .before .before .before .before .before .before .before .before .before .before .before .before .before .before .before .good .1 .1 .1 .1 .1 .1 .0, needs)
+    let i : k .result ≤ length (c .before .before .before .before .before .before .before .before .before .before .copy-basis .last .1 .1 .1 .1 .0) = omega (arith, k .ensures .0 0 .fewer, c .before .before .before .before .before .before .before .before .before .before .before .before .before .before .before .before .before .before .before .before .before .before .before .before .before .before .before .before .before .before .before .before .before .before .before .before .before .before .before .before .before .before .before .pre .2, c .before .before .before .before .before .before .before .before .before .before .copy-basis .kept .1 .1 .1 .1 .0) in
+    search (i, needs)
 
 same-length-11 : tie.Need-same-length-11
 same-length-11 c = c .before .before .before .before .before .before .before .before .before .before .before .before .before .before .before .before .before .before .before .before .before .before .before .before .before .before .before .before .before .before .before .truncate-grown .kept .1 .1 .1 .1 .1 .0
@@ -157,14 +144,17 @@ returns-2 c =
     let few = k .ensures .0 0 .fewer in
     let lanes-long : wordLanes * k .result ≤ length (k .last .1 .1 .1 .1 .1 .0) = omega (arith, few, p .0 .grown-long, k .kept .1 .1 .1 .1 .1 .0) in
     let told : (products : ℕ) → c .before .before .before .before .before .before .before .before .before .acts .result ≡ actsOn (a .drop-tol) (a .max-basis) (grown (a .len) (a .grown-words .now) (a .evolved .now) products) =
-    λ products. c .before .before .before .before .before .before .before .before .before .acts .ensures ∙ acts-are (a .drop-tol) (a .max-basis) (a .len) (a .grown-words .now) (a .evolved .now) (p .0 .grown-long) products in
-    ((λ products. (k .ensures .0 products .count,
-    words-clear _ (a .len) (k .result) (k .last .1 .1 .1 .1 .1 .0) (k .last .1 .1 .1 .1 .1 .1 .0) (k .ensures .0 products) _ (sym (told products) ∙ not-false (c .before .before .before .before .before .before .before .before .before .acts .result) (c .before .before .before .before .before .before .before .before .if1 .left)) lanes-long (a .words .now) (b .last .1 .1 .1 .0) _ (omega (arith, few, p .1)) (b .ensures .0) (c .before .before .before .before .before .before .clear-lanes .ensures),
-    numbers-clear _ (a .len) (k .result) (k .last .1 .1 .1 .1 .1 .0) (k .last .1 .1 .1 .1 .1 .1 .0) (k .ensures .0 products) _ (sym (told products) ∙ not-false (c .before .before .before .before .before .before .before .before .before .acts .result) (c .before .before .before .before .before .before .before .before .if1 .left)) (omega (arith, few, p .0 .evolved-long, k .kept .1 .1 .1 .1 .1 .1 .0)) (a .coeffs .now) (b .last .1 .1 .1 .1 .0) _ (omega (arith, few, p .2)) (b .ensures .1) (c .before .before .clear-numbers .ensures))),
-    k .ensures .1,
-    k .ensures .2,
-    k .ensures .3,
-    k .ensures .4)
+    λ products. c .before .before .before .before .before .before .before .before .before .acts .ensures ∙ acts-are (a .drop-tol) (a .max-basis) (a .len) (a .grown-words .now) (a .evolved .now) (p .0 .grown-long) products in (
+      (λ products. (
+        k .ensures .0 products .count,
+        words-clear _ (a .len) (k .result) (k .last .1 .1 .1 .1 .1 .0) (k .last .1 .1 .1 .1 .1 .1 .0) (k .ensures .0 products) _ (sym (told products) ∙ not-false (c .before .before .before .before .before .before .before .before .before .acts .result) (c .before .before .before .before .before .before .before .before .if1 .left)) lanes-long (a .words .now) (b .last .1 .1 .1 .0) _ (omega (arith, few, p .1)) (b .ensures .0) (c .before .before .before .before .before .before .clear-lanes .ensures),
+        numbers-clear _ (a .len) (k .result) (k .last .1 .1 .1 .1 .1 .0) (k .last .1 .1 .1 .1 .1 .1 .0) (k .ensures .0 products) _ (sym (told products) ∙ not-false (c .before .before .before .before .before .before .before .before .before .acts .result) (c .before .before .before .before .before .before .before .before .if1 .left)) (omega (arith, few, p .0 .evolved-long, k .kept .1 .1 .1 .1 .1 .1 .0)) (a .coeffs .now) (b .last .1 .1 .1 .1 .0) _ (omega (arith, few, p .2)) (b .ensures .1) (c .before .before .clear-numbers .ensures),
+      )),
+      k .ensures .1,
+      k .ensures .2,
+      k .ensures .3,
+      k .ensures .4,
+    )
 
 pub finish-spec : {M : Type 1} → statement M
 finish-spec =
@@ -186,12 +176,12 @@ finish-spec =
     mul-clear-lanes
     sub-clear-lanes
     part-clear-lanes-start
-    part-clear-lanes-end
+    (λ c. search needs)
     (λ c κs. search needs)
     mul-clear-numbers
     sub-clear-numbers
     part-clear-numbers-start
-    part-clear-numbers-end
+    (λ c. search needs)
     (λ c κs. search needs)
     (λ c. search needs)
     (λ c. search needs)
