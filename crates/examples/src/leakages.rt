@@ -46,17 +46,12 @@ fn leak(
     let mut work_words = [0u64; WORD_LANES * 4];
     let mut work_sums = [0f64; 8];
     let mut order = [0u64; 2];
-    let mut heads = [0u64; 4];
-    let mut nexts = [0u64; 2];
-    let mut fixed_heads = [0u64; 2];
-    let mut fixed_nexts = [0u64; 1];
+    let mut heads = [0u64; 6];
+    let mut nexts = [0u64; 3];
     let mut cand_words = [0u64; WORD_LANES * 4];
     let mut cand_sums = [0f64; 4];
-    let mut next_words = [0u64; WORD_LANES * 4];
-    let mut next_sums = [0f64; 4];
     let mut place_order = [0u64; 4];
     let mut place_work = [0u64; 4];
-    let mut place_kept = [0u64; 4];
     pebblelinen::leakages::pebblelinen_leakage_with_prune(
         model,
         &h_words,
@@ -78,15 +73,10 @@ fn leak(
         &mut order,
         &mut heads,
         &mut nexts,
-        &mut fixed_heads,
-        &mut fixed_nexts,
         &mut cand_words,
         &mut cand_sums,
-        &mut next_words,
-        &mut next_sums,
         &mut place_order,
         &mut place_work,
-        &mut place_kept,
         out_words,
         out_values,
     )

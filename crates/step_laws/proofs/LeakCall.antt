@@ -6,7 +6,7 @@
 use mathlib.Core.Path.{_≡_, refl, sym, ap, subst, _∙_}
 use mathlib.Core.Bool.{Bool, true, false, cond}
 use mathlib.Core.List.{List, [], _∷_}
-use Prim.Native.Nat.{ℕ, zero, suc, _-_, _*_, _/_, _≤_}
+use Prim.Native.Nat.{ℕ, zero, suc, _+_, _-_, _*_, _/_, _≤_}
 use native.Mathlib.Omega.{arith}
 use borrow.Author.Tests.{le-ltb, eq-eqb, ltb-false}
 use lib.Dec.{ltb}
@@ -103,10 +103,8 @@ module _ (m : Model) (t : ModelTables) (ok : testModel m t ≡ Tests.Accepted) (
         le-ltb (length (w .jIndex)) _ (need-none len (rowLanes * m .qubits) (length (w .jIndex)) (lent .j-long)),
         le-ltb (length (w .mask)) _ (need-none len rowLanes (length (w .mask)) (lent .mask-long)),
         le-ltb (length (w .order)) len (lent .order-long),
-        le-ltb (length (w .heads)) len (lent .heads-long),
-        le-ltb (length (w .nexts)) len (lent .nexts-long),
-        le-ltb (length (w .fixedHeads)) _ (need-none len (length protected / wordLanes) (length (w .fixedHeads)) (lent .fixed-heads-long)),
-        le-ltb (length (w .fixedNexts)) _ (need-none len (length protected / wordLanes) (length (w .fixedNexts)) (lent .fixed-nexts-long)),
+        le-ltb (length (w .heads)) _ (need-none len (len + length protected / wordLanes) (length (w .heads)) (lent .heads-long)),
+        le-ltb (length (w .nexts)) _ (need-none len (len + length protected / wordLanes) (length (w .nexts)) (lent .nexts-long)),
       )
 
   entries-ok : entryTests (m .qubits) b ≡ Tests.Accepted

@@ -101,10 +101,8 @@ pub record LeakPlaces (n len count : ℕ) (w : Leakage.Work) : Type 0 where
   pub j-long : 0 < len → rowLanes * n ≤ length (w .jIndex)
   pub mask-long : 0 < len → rowLanes ≤ length (w .mask)
   pub order-long : len ≤ length (w .order)
-  pub heads-long : len ≤ length (w .heads)
-  pub nexts-long : len ≤ length (w .nexts)
-  pub fixed-heads-long : 0 < len → count ≤ length (w .fixedHeads)
-  pub fixed-nexts-long : 0 < len → count ≤ length (w .fixedNexts)
+  pub heads-long : 0 < len → len + count ≤ length (w .heads)
+  pub nexts-long : 0 < len → len + count ≤ length (w .nexts)
 
 -- a leakage of lent tables that passes, beside that of plain lists
 pub record LeakCall (w : Leakage.Work) (outWords : List ℕ) (outValues : List Float) (after : Leaking) (plain : Read Rows) : Type 0 where
