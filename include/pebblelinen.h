@@ -546,21 +546,16 @@ typedef struct {
     size_t order;
     size_t heads;
     size_t nexts;
-    size_t fixed_heads;
-    size_t fixed_nexts;
     size_t cand_words;
     size_t cand_sums;
-    size_t next_words;
-    size_t next_sums;
     size_t place_order;
     size_t place_work;
-    size_t place_kept;
 } pebblelinen_leakage_lengths;
 
 /* Lengths that are enough for a register of so many qubits, a basis of so many entries, so many
  * protected words, actions that touch at most so many words (`touched` of
  * pebblelinen_count_action_terms over the basis), and so many candidates at a time. Longer tables will
- * do; more slots (heads, fixed_heads, place_order) may be faster. */
+ * do; more slots (heads, place_order) may be faster. */
 pebblelinen_leakage_lengths pebblelinen_leakage_sizes(
     size_t qubits, size_t entries, size_t protected_words, size_t touched, size_t candidates);
 
@@ -575,13 +570,13 @@ pebblelinen_leakage_lengths pebblelinen_leakage_sizes(
  *   protected_words      whole words, 8 lanes each
  *   limits               see above
  *   h_index, j_index     64 lanes for each qubit; mask: 64 lanes; none of either for an empty basis
- *   order, nexts         a place for each entry; heads: at least as many, twice as many is good
- *   fixed_nexts          a place for each protected word; fixed_heads: at least as many; none of either
- *                        for an empty basis
+ *   order                a place for each entry
+ *   nexts                a place for each entry and each protected word; heads: at least as many, twice
+ *                        as many is good; none of either for an empty basis
  *   table 1              words touched by one action: work_words (8 lanes a place), work_sums (2
  *                        numbers)
- *   table 2              candidates held at a time, before the room rule: cand_words and next_words (8
- *                        lanes a place), cand_sums, next_sums, place_order, place_work, place_kept
+ *   table 2              candidates held at a time, before the room rule: cand_words (8 lanes a place),
+ *                        cand_sums, place_order, place_work
  *   out_words            the listed words, 8 lanes each; out_values: their sums
  *
  * The places of table 1 and of table 2 are those of the shortest of their slices. The count is that of
@@ -592,8 +587,7 @@ pebblelinen_leakage_lengths pebblelinen_leakage_sizes(
  *    8  (count): more than 65,536 entries, then protected words; then (limit) for max_basis and for an
  *       admit_basis that is given
  *    9  (len, places lent) for words, then for coeffs; (lanes of whole words, lanes) where the last
- *       protected word is cut off; then (needed, lent) for h_index, j_index, mask, order, heads, nexts,
- *       fixed_heads, fixed_nexts
+ *       protected word is cut off; then (needed, lent) for h_index, j_index, mask, order, heads, nexts
  *   11  (position): the first basis word with a letter at or above the register; then, with its place
  *       in the list, the first such protected word
  *    7  (position): the first coefficient that is infinite or NaN; then (len) for a tau_add that is
@@ -615,12 +609,10 @@ pebblelinen_listed pebblelinen_leakage_with_prune(
     limits, uint64_t *h_index, size_t h_index_len, uint64_t *j_index, size_t j_index_len, uint64_t
     *mask, size_t mask_len, uint64_t *work_words, size_t work_words_len, double *work_sums, size_t
     work_sums_len, uint64_t *order, size_t order_len, uint64_t *heads, size_t heads_len, uint64_t
-    *nexts, size_t nexts_len, uint64_t *fixed_heads, size_t fixed_heads_len, uint64_t *fixed_nexts,
-    size_t fixed_nexts_len, uint64_t *cand_words, size_t cand_words_len, double *cand_sums, size_t
-    cand_sums_len, uint64_t *next_words, size_t next_words_len, double *next_sums, size_t
-    next_sums_len, uint64_t *place_order, size_t place_order_len, uint64_t *place_work, size_t
-    place_work_len, uint64_t *place_kept, size_t place_kept_len, uint64_t *out_words, size_t
-    out_words_len, double *out_values, size_t out_values_len);
+    *nexts, size_t nexts_len, uint64_t *cand_words, size_t cand_words_len, double *cand_sums, size_t
+    cand_sums_len, uint64_t *place_order, size_t place_order_len, uint64_t *place_work, size_t
+    place_work_len, uint64_t *out_words, size_t out_words_len, double *out_values, size_t
+    out_values_len);
 
 /* ---- Generator ----
  *

@@ -102,7 +102,7 @@ def tables(lengths, types):
 
 def leakage_call(model, basis):
     lengths = _library.call("leakage_sizes", QUBITS, len(basis), 0, TOUCHED, CANDIDATES)
-    floats = dict.fromkeys("work_sums cand_sums next_sums".split(), np.float64)
+    floats = dict.fromkeys("work_sums cand_sums".split(), np.float64)
     return c_call(
         "leakage_with_prune",
         *model._lent(),

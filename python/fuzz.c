@@ -458,19 +458,18 @@ static void call_leakage(void) {
     Slice fixed_words = some_words(below(4), n, READ);
     pebblelinen_limits limits = {len + room, chance(30), below(40), chance(50), some_number()};
     pebblelinen_leakage_lengths sizes = pebblelinen_leakage_sizes(n, len, fixed_words.len / WORD, below(40), below(100));
-    size_t lengths[17];
+    size_t lengths[12];
     memcpy(lengths, &sizes, sizeof lengths);
-    Slice w[17];
+    Slice w[12];
     lend_tables(&t), lend(&words), lend(&coeffs), lend(&fixed_words);
-    for (size_t i = 0; i < 17; i++) w[i] = make(lengths[i], 8, WORK), lend(&w[i]);
+    for (size_t i = 0; i < 12; i++) w[i] = make(lengths[i], 8, WORK), lend(&w[i]);
     Slice out_words = make(WORD * room, 8, CHANGED), out_values = make(room, 8, CHANGED);
     lend(&out_words), lend(&out_values);
     damage((size_t *[]){MODEL_COUNTS(t), &len, &limits.max_basis, &limits.admit_basis}, 7,
            (double *[]){&limits.tau_add}, 1);
     check(pebblelinen_leakage_with_prune(MODEL(t), P(words), P(coeffs), len, P(fixed_words), limits, P(w[0]),
                                          P(w[1]), P(w[2]), P(w[3]), P(w[4]), P(w[5]), P(w[6]), P(w[7]), P(w[8]),
-                                         P(w[9]), P(w[10]), P(w[11]), P(w[12]), P(w[13]), P(w[14]), P(w[15]),
-                                         P(w[16]), P(out_words), P(out_values))
+                                         P(w[9]), P(w[10]), P(w[11]), P(out_words), P(out_values))
               .status);
 }
 

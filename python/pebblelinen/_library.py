@@ -169,15 +169,10 @@ class LeakageLengths(Structure):
     order: Size
     heads: Size
     nexts: Size
-    fixed_heads: Size
-    fixed_nexts: Size
     cand_words: Size
     cand_sums: Size
-    next_words: Size
-    next_sums: Size
     place_order: Size
     place_work: Size
-    place_kept: Size
 
 
 @_struct
@@ -305,7 +300,7 @@ _FUNCTIONS: dict[str, tuple[Any, list[Any]]] = {
     "leakage_sizes": (LeakageLengths, [c_size_t] * 5),
     "leakage_with_prune": (
         Listed,
-        [*_LENT_MODEL, *slices(2), c_size_t, *slices(1), Limits, *slices(17), *slices(2)],
+        [*_LENT_MODEL, *slices(2), c_size_t, *slices(1), Limits, *slices(12), *slices(2)],
     ),
     "generator_sizes": (GeneratorLengths, [c_size_t] * 4),
     "generator": (Listed, [*_LENT_MODEL, *slices(1), c_size_t, *slices(10), *slices(3)]),

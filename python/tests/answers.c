@@ -235,8 +235,8 @@ static pebblelinen_status call_leakage(size_t words, const size_t *len) {
     size_t room = words ? INDEX : 0;
     pebblelinen_listed found = pebblelinen_leakage_with_prune(
         MODEL, X, WORD * words, ONE, words, words, ALL(PROTECTED), LIMITS, LANES(0), LANES(1), LANES(2), SUMS, LANES(3),
-        LANES(4), LANES(5), LANES(6), LANES(7), lanes[11], room, numbers[1], room, lanes[12], room, numbers[2], room,
-        lanes[13], room, lanes[14], room, lanes[15], room, lanes[16], room, (double *)lanes[17], room);
+        LANES(4), LANES(5), lanes[11], room, numbers[1], room, lanes[13], room, lanes[14], room, lanes[16], room,
+        (double *)lanes[17], room);
     if (!words) holds("nothing leaks from no words", found.count == 0);
     return found.status;
 }
@@ -245,8 +245,7 @@ static pebblelinen_status leak_unprotected(size_t words, const size_t *len) {
     (void)len;
     return pebblelinen_leakage_with_prune(MODEL, X, WORD * words, ONE, words, words, NO_LANES, LIMITS, NO_LANES, NO_LANES,
                                           NO_LANES, NO_LANES, NO_NUMBERS, NO_LANES, NO_LANES, NO_LANES, NO_LANES,
-                                          NO_LANES, NO_LANES, NO_NUMBERS, NO_LANES, NO_NUMBERS, NO_LANES, NO_LANES,
-                                          NO_LANES, NO_LANES, NO_NUMBERS)
+                                          NO_NUMBERS, NO_LANES, NO_LANES, NO_LANES, NO_NUMBERS)
         .status;
 }
 
@@ -297,7 +296,7 @@ static void words_and_tables(void) {
     tables_of("Matrix Market", call_market, (size_t[]){INDEX, INDEX, MASK, 1, 1}, none, 5);
     expect("CSR over no words, without offsets", call_csr(0, none), 9, 1, 0);
     tables_of("evolution", call_evolve, (size_t[]){1, 1, INDEX, INDEX, MASK, 1, 1, 2, 1, 1, 1, 1}, none, 12);
-    tables_of("leakage", call_leakage, (size_t[]){INDEX, INDEX, MASK, 1, 1, 1, 1, 1}, none, 8);
+    tables_of("leakage", call_leakage, (size_t[]){INDEX, INDEX, MASK, 1, 2, 2}, none, 6);
     accepted("leakage over no words, nothing protected", leak_unprotected(0, none));
     tables_of("prune", call_prune, (size_t[]){1, 1, 1, 1}, none, 4);
     tables_of("cap", call_cap, (size_t[]){1, 1, 1, 1}, none, 4);

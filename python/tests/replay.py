@@ -339,13 +339,10 @@ def leakage(case: Case, matrix: bool = False) -> None:
         *lanes(INDEX, INDEX, MASK),
         *lanes(WORD_LANES * touched),
         *reals(2 * PLACES),
-        *lanes(ENTRIES, 2 * ENTRIES, ENTRIES),  # order, heads, nexts
-        *lanes(2 * PROTECTED, PROTECTED),  # fixed_heads, fixed_nexts
+        *lanes(ENTRIES, 2 * (ENTRIES + PROTECTED), ENTRIES + PROTECTED),  # order, heads, nexts
         *lanes(WORD_LANES * PLACES),  # candidates
         *reals(held),
-        *lanes(WORD_LANES * PLACES),  # candidates copied in word order
-        *reals(PLACES),
-        *lanes(PLACES, PLACES, PLACES),  # place_order, place_work, place_kept
+        *lanes(PLACES, PLACES),  # place_order, place_work
     ]
     out = [*lanes(WORD_LANES * listed_words), *reals(LIST)]
     # An absent tau_add meant 0 when the answers were recorded: it is given here.

@@ -79,7 +79,7 @@ WRITTEN = {
     "prune_basis": 4,
     "cap_basis": 4,
     "add_leakage_capped": 3,
-    "leakage_with_prune": 19,
+    "leakage_with_prune": 14,
     "generator": 13,
     "build_csr": 13,
     "expm_degree": 9,

@@ -8,3 +8,7 @@ pub mod RowLaws
 pub mod WordOrderLaws
 pub mod PositionLaws
 pub mod StandLaws
+pub mod ThoseLaws
+pub mod BesideLaws
+pub mod BadLaws
+pub mod PivotLaws

@@ -5,13 +5,11 @@
 use mathlib.Core.Path.{_≡_, refl, ap, sym, _∙_}
 use mathlib.Core.List.{List, [], _∷_, map}
 use mathlib.Core.Bool.{false}
-use Prim.Native.Nat.{ℕ, zero, suc, _+_, _*_, _≤_, _<_}
-use native.Mathlib.Numerals.{add-one}
+use Prim.Native.Nat.{ℕ, zero, suc, _≤_}
 use native.Mathlib.Omega.{arith}
 use lib.Ieee.{Float, nan}
-use lib.ListN.{length, getD, set, take, length-map, List·getD-map}
+use lib.ListN.{length, getD, take, length-map}
 use lib.Seq.{take-suc, take-all}
-use Rattle.word.specs.Flat.{wordLanes, words}
 use Rattle.word.specs.Order.{before}
 use Rattle.word.specs.Word.{identity}
 use Rattle.word.specs.declared.word.Word.{Word}
@@ -21,10 +19,10 @@ use Rattle.order.specs.Between.{All, wordBefore, byWord}
 use Rattle.order.proofs.OrderLaws.{Pairs, ordered-sorted}
 use Rattle.order.proofs.PlaceLaws.{word-order}
 use Rattle.candidates.specs.Sums.{Row, row, putOver, putAll}
-use Rattle.candidates.specs.Tables.{Rows, rows, candidateRows}
-use Rattle.candidates.specs.Between.{latest, inWordOrder}
+use Rattle.candidates.specs.Tables.{Rows, rows}
+use Rattle.candidates.specs.Between.{latest, inWordOrder, rowAt}
 use Rattle.candidates.proofs.PutLaws.{strict, InOrder, all-append, law}
-use Rattle.candidates.proofs.RowLaws.{noRow, rows-at, rows-long, rows-few, table-more}
+use Rattle.candidates.proofs.RowLaws.{noRow, rows-at, rows-long, rows-few}
 use Rattle.candidates.proofs.WordOrderLaws.{Each, Falls, order-own}
 
 abbrev wordOf : Row Word Float → Word
@@ -40,9 +38,8 @@ module _ (ws : List Word) (xs : List Float) where
   abbrev val : ℕ → Float
   val p = getD xs p nan
 
-  -- the row at a position
-  abbrev pub rowAt : ℕ → Row Word Float
-  rowAt p = row (getD ws p identity) (getD xs p nan)
+  abbrev at : ℕ → Row Word Float
+  at = rowAt ws xs
 
   abbrev layAt : List ℕ → Rows → Rows
   layAt = putAll before latest (floats .nought) key val
@@ -50,17 +47,17 @@ module _ (ws : List Word) (xs : List Float) where
   abbrev lay : Rows → Rows → Rows
   lay = putAll before latest (floats .nought) wordOf sumOf
 
-  at-rows : (l : List ℕ) (t : Rows) → layAt l t ≡ lay (map rowAt l) t
+  at-rows : (l : List ℕ) (t : Rows) → layAt l t ≡ lay (map at l) t
   unfolding putAll
   at-rows [] t = refl
   at-rows (p ∷ l) t = at-rows l (putOver before latest (floats .nought) (key p) (val p) t)
 
-  falls-one : (x : ℕ) (l : List ℕ) → All (λ y. wordBefore ws y x ≡ false) l → Each (λ (q : Row Word Float). before (q .word) (key x) ≡ false) (map rowAt l)
+  falls-one : (x : ℕ) (l : List ℕ) → All (λ y. wordBefore ws y x ≡ false) l → Each (λ (q : Row Word Float). before (q .word) (key x) ≡ false) (map at l)
   unfolding All Each wordBefore
   falls-one x [] a = tt
   falls-one x (y ∷ l) a = (a .0, falls-one x l (a .1))
 
-  falls-all : (l : List ℕ) → InOrder (wordBefore ws) l → Falls before (floats .nought) strict (map rowAt l)
+  falls-all : (l : List ℕ) → InOrder (wordBefore ws) l → Falls before (floats .nought) strict (map at l)
   unfolding Pairs Falls
   falls-all [] a = tt
   falls-all (x ∷ l) a = (falls-one x l (a .0), falls-all l (a .1))
@@ -78,7 +75,7 @@ module _ (ws : List Word) (xs : List Float) where
         ∙ sym (rw (take-suc (rows ws xs) m noRow (omega arith), e)
         (all-append before latest (floats .nought) strict wordOf sumOf (take m (rows ws xs)) (row (key m) (val m) ∷ []) t))
 
-    pub rows-by-word : (order : List ℕ) → order ≡ byWord ws → length (inWordOrder (rows ws xs)) ≡ length order → inWordOrder (rows ws xs) ≡ map rowAt order
+    pub rows-by-word : (order : List ℕ) → order ≡ byWord ws → length (inWordOrder (rows ws xs)) ≡ length order → inWordOrder (rows ws xs) ≡ map (rowAt ws xs) order
     unfolding inWordOrder wordBefore
     rows-by-word order e n =
         let sorted : InOrder (wordBefore ws) order = rw e (ordered-sorted (wordBefore ws) (word-order ws) (positions (length ws))) in
@@ -87,24 +84,5 @@ module _ (ws : List Word) (xs : List Float) where
         ∙ sym (in-turn (length ws) (omega arith) [])
         ∙ law before latest (floats .nought) strict key val (positions (length ws)) []
         ∙ ap (λ (l : List ℕ). layAt l []) (sym e) in
-        let own : lay (rows ws xs) [] ≡ lay (map rowAt order) [] = all ∙ at-rows order [] in
-        own ∙ order-own before (floats .nought) strict (map rowAt order) (falls-all order sorted) (sym (ap length own) ∙ n ∙ sym (length-map order rowAt))
-
--- ---- copying them
-module _ (ws : List Word) (xs : List Float) (order : List ℕ) where
-  pub copy-more : (out out′ : List ℕ) (sums sums′ : List Float) (k : ℕ) (w : Word) → k < length order → wordLanes * k + wordLanes ≤ length out → k < length sums → w ≡ getD ws (getD order k 0) identity
-      → (words out′ ≡ set (words out) k w) × (sums′ ≡ set sums k (getD xs (getD order k 0) nan)) → candidateRows k out sums ≡ take k (map (rowAt ws xs) order) → candidateRows (k + 1) out′ sums′ ≡ take (k + 1) (map (rowAt ws xs) order)
-  copy-more out out′ sums sums′ k w l a b is-w laid e =
-      let p : ℕ = getD order k 0 in
-      let L : Rows = map (rowAt ws xs) order in
-      let x : getD L k (rowAt ws xs 0) ≡ row w (getD xs p nan) = List·getD-map (rowAt ws xs) order k 0 ∙ rw is-w in
-      let n : k < length L = omega (arith, length-map order (rowAt ws xs)) in
-      ap (candidateRows (k + 1) out′) (laid .1) ∙ table-more k out out′ sums w (getD xs p nan) a b (laid .0) ∙ rw (add-one k, e, take-suc L k (rowAt ws xs 0) n, x)
-
-  pub copy-done : (out : List ℕ) (sums : List Float) (k : ℕ) → k ≤ length order → length order ≤ k → candidateRows k out sums ≡ take k (map (rowAt ws xs) order)
-      → length ws ≤ length xs → order ≡ byWord ws → length (inWordOrder (rows ws xs)) ≡ length order → candidateRows (length order) out sums ≡ inWordOrder (rows ws xs)
-  copy-done out sums k a b e h o n =
-      let z : k ≡ length order = omega arith in
-      let L : Rows = map (rowAt ws xs) order in
-      let m : length L ≡ length order = length-map order (rowAt ws xs) in
-      rw (← z) (e ∙ take-all k L (omega arith) ∙ sym (rows-by-word ws xs h order o n))
+        let own : lay (rows ws xs) [] ≡ lay (map at order) [] = all ∙ at-rows order [] in
+        own ∙ order-own before (floats .nought) strict (map at order) (falls-all order sorted) (sym (ap length own) ∙ n ∙ sym (length-map order at))

@@ -69,7 +69,7 @@ module _ {W : Type 0} (lt : W → W → Bool) (o : Strict lt) where
       go true e = o .trans u v w e k
       go false e = rw (o .total u v e h) k
 
-  most-trans : (u v w : W) → lt v u ≡ false → lt w v ≡ false → lt w u ≡ false
+  pub most-trans : (u v w : W) → lt v u ≡ false → lt w v ≡ false → lt w u ≡ false
   most-trans u v w h k = go (lt w u) refl
     where
       go : (s : Bool) → lt w u ≡ s → lt w u ≡ false

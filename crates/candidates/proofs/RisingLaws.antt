@@ -11,10 +11,11 @@ use Rattle.word.specs.declared.word.Word.{Word}
 use Rattle.number.specs.Floats.{floats}
 use Rattle.candidates.specs.Sums.{Row, row, putOver, putAll, AllAfter, Rising}
 use Rattle.candidates.specs.Tables.{Rows, putRows}
+use Rattle.candidates.specs.Between.{latest, inWordOrder}
 use Rattle.candidates.proofs.PutLaws.{Strict, strict}
 
 module _ {W S : Type 0} (lt : W → W → Bool) (plus : S → S → S) (start : S) (o : Strict lt) where
-  after-trans : (u v : W) (t : List (Row W S)) → lt u v ≡ true → AllAfter lt v t → AllAfter lt u t
+  pub after-trans : (u v : W) (t : List (Row W S)) → lt u v ≡ true → AllAfter lt v t → AllAfter lt u t
   unfolding AllAfter
   after-trans u v [] h a = tt
   after-trans u v (r ∷ t) h a = (o .trans u v (r .word) h (a .0), after-trans u v t h (a .1))
@@ -29,7 +30,7 @@ module _ {W S : Type 0} (lt : W → W → Bool) (plus : S → S → S) (start : 
       go false true i = (h, (a .0, a .1))
       go false false i = (a .0, a .1)
 
-  rising-put : (w : W) (v : S) (t : List (Row W S)) → Rising lt t → Rising lt (putOver lt plus start w v t)
+  pub rising-put : (w : W) (v : S) (t : List (Row W S)) → Rising lt t → Rising lt (putOver lt plus start w v t)
   unfolding AllAfter Rising putOver
   rising-put w v [] h = (tt, tt)
   rising-put w v (r ∷ t) h = go (lt (r .word) w) refl (lt w (r .word)) refl (rising-put w v t (h .1))
@@ -47,3 +48,8 @@ module _ {W S : Type 0} (lt : W → W → Bool) (plus : S → S → S) (start : 
 
 pub rising-rows : (l t : Rows) → Rising before t → Rising before (putRows l t)
 rising-rows l t h = rising-all before (floats .plus) (floats .nought) strict (λ (r : Row Word Float). r .word) (λ (r : Row Word Float). r .sum) l t h
+
+-- rows in word order
+pub order-rising : (U : Rows) → Rising before (inWordOrder U)
+unfolding inWordOrder Rising
+order-rising U = rising-all before latest (floats .nought) strict (λ (r : Row Word Float). r .word) (λ (r : Row Word Float). r .sum) U [] tt

@@ -85,13 +85,3 @@ table-more k lanes lanes′ sums w x h l e =
     let R : Rows = rows (words lanes) sums in
     let n : suc k ≤ length R = rows-long (words lanes) sums (suc k) (omega (arith, words-high lanes)) (omega arith) in
     rw (add-one k, e, rows-set (words lanes) sums k w x) (take-suc-set R k (row w x) (omega (arith, n)))
-
--- one row more is copied
-pub copied : (from to to′ : List ℕ) (sums copies copies′ : List Float) (i : ℕ) (w : Word) → wordLanes * i + wordLanes ≤ length from → i < length sums → wordLanes * i + wordLanes ≤ length to → i < length copies
-    → w ≡ getD (words from) i identity → (words to′ ≡ set (words to) i w) × (copies′ ≡ set copies i (getD sums i nan)) → candidateRows i to copies ≡ candidateRows i from sums
-    → candidateRows (i + 1) to′ copies′ ≡ candidateRows (i + 1) from sums
-copied from to to′ sums copies copies′ i w a b c d is-w laid e =
-    let F : Rows = rows (words from) sums in
-    let in-F : i < length F = omega (arith, rows-long (words from) sums (i + 1) (omega (arith, words-high from)) (omega arith)) in
-    let x : getD F i noRow ≡ row w (getD sums i nan) = rows-at (words from) sums i (omega (arith, words-high from)) b ∙ rw is-w in
-    ap (candidateRows (i + 1) to′) (laid .1) ∙ table-more i to to′ copies w (getD sums i nan) c d (laid .0) ∙ rw (add-one i, e, take-suc F i noRow in-F, x)

@@ -66,7 +66,7 @@ module _ {W S : Type 0} (lt : W → W → Bool) (start : S) (o : Strict lt) wher
   all-most (r ∷ U) T = omega (arith, all-most U (lay (r .word) (r .sum) T), lay-most (r .word) (r .sum) T)
 
   -- where no row is lost, none is by the first either
-  none-lost : (r : Row W S) (U T : List (Row W S)) → length (layAll (r ∷ U) T) ≡ suc (length U) + length T → length (lay (r .word) (r .sum) T) ≡ suc (length T)
+  pub none-lost : (r : Row W S) (U T : List (Row W S)) → length (layAll (r ∷ U) T) ≡ suc (length U) + length T → length (lay (r .word) (r .sum) T) ≡ suc (length T)
   unfolding putAll
   none-lost r U T e = omega (arith, e, all-most U (lay (r .word) (r .sum) T), lay-most (r .word) (r .sum) T)
 
@@ -240,7 +240,7 @@ module _ {W S : Type 0} (lt : W → W → Bool) (start : S) (o : Strict lt) wher
   rising-other r [] a = tt
   rising-other r (q ∷ U) a = ((λ e. true≢false (sym (a .0) ∙ ap (lt (r .word)) e ∙ o .never (r .word))), rising-other r U (a .1))
 
-  after-front : (r : Row W S) (U : List (Row W S)) → AllAfter lt (r .word) U → lay (r .word) (r .sum) U ≡ r ∷ U
+  pub after-front : (r : Row W S) (U : List (Row W S)) → AllAfter lt (r .word) U → lay (r .word) (r .sum) U ≡ r ∷ U
   unfolding AllAfter putOver
   after-front r [] a = refl
   after-front r (q ∷ U) a = go (lt (q .word) (r .word)) refl

@@ -2,7 +2,10 @@
 // SPDX-License-Identifier: Apache-2.0
 
 // The candidates of leakage: sums of real numbers beside their words, put where the word stands and found
-// by slots, and put into word order where order decides.
-pub mod ordered;
+// by slots. They stand in the order in which they came; where word order decides, their words are compared.
+pub mod bad;
+pub mod beside;
+pub mod cut;
+pub mod pivot;
 pub mod put;
 pub mod rows;

@@ -6,9 +6,7 @@ ghost use mathlib.Core.Path.{_≡_};
 ghost use Prim.Native.Nat.{_+_, _*_, _≤_, _<_};
 ghost use lib.ListN.{length, set};
 ghost use Rattle.word.specs.Flat.{wordLanes, words};
-ghost use Rattle.candidates.specs.Tables.{candidateRows};
 use word::flat::set_word;
-use word::flat::word_at;
 use word::word::Word;
 
 // Lays a row at k.
@@ -18,17 +16,4 @@ pub fn lay_row(out: &mut [u64], sums: &mut [f64], k: usize, w: Word, x: f64)
 {
     set_word(out, k, w);
     sums[k] = x;
-}
-
-// The first n rows of a table, copied.
-pub fn copy_rows(from: &[u64], sums: &[f64], n: usize, to: &mut [u64], copies: &mut [f64])
-    requires { ⌜ (wordLanes * n ≤ length (now from)) × (n ≤ length (now sums)) × (wordLanes * n ≤ length (now to)) × (n ≤ length (now copies)) ⌝ }
-    ensures { λ _. ⌜ candidateRows n (now (to .exit)) (now (copies .exit)) ≡ candidateRows n (now (from .entry)) (now (sums .entry)) ⌝ }
-{
-    let mut i = 0;
-    while i < n {
-        let w = word_at(from, i);
-        lay_row(to, copies, i, w, sums[i]);
-        i += 1;
-    }
 }

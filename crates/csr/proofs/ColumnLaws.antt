@@ -16,11 +16,11 @@ use Rattle.word.proofs.Sums.{any-none}
 use Rattle.word.proofs.CountLaws.{any-one}
 use Rattle.lent.specs.Tests.{firstTo}
 use Rattle.lent.proofs.Firsts.{NoneBefore, first-before, first-passes, first-here, first-none}
-use Rattle.csr.specs.Rows.{partOf}
+use Rattle.matrix_row.specs.Rows.{partOf}
 use Rattle.csr.specs.Lent.{rowStarts, badColumn}
-use Rattle.csr.specs.Walks.{leastAt, misplaced, badPlace}
-use Rattle.csr.specs.declared.rows.Row.{Row}
-use Rattle.csr.proofs.RowLaws.{part-length, part-at}
+use Rattle.matrix_row.specs.Walks.{leastAt, misplaced, badPlace}
+use Rattle.matrix_row.specs.declared.rows.Row.{Row}
+use Rattle.matrix_row.proofs.RowLaws.{part-length, part-at}
 use Rattle.csr.proofs.OffsetLaws.{Rising, never-falls, offset-inside}
 
 either-way : (a b : Bool) → (a || b) ≡ (b || (a && true))

@@ -19,11 +19,11 @@ use Rattle.number.specs.Floats.{float0}
 use Rattle.lent.specs.Tests.{firstTo, andThen}
 use Rattle.lent.proofs.Firsts.{NoneBefore, first-before}
 use Rattle.lent.specs.Numbers.{notFinite}
-use Rattle.csr.specs.Rows.{rowAt, partOf, rowOf}
-use Rattle.csr.specs.Products.{RowEntry, beside, rowEntries, rowSum, storedAt, product, lengthTests, tableTests, Multiplying, tested, finished, multiply}
-use Rattle.csr.specs.declared.rows.Row.{Row}
-use Rattle.csr.proofs.RowLaws.{row-is, part-length, part-at}
-use Rattle.csr.proofs.SumLaws.{beside-length, beside-at}
+use Rattle.matrix_row.specs.Rows.{rowAt, partOf, rowOf, RowEntry, beside, rowEntries, rowSum}
+use Rattle.csr.specs.Products.{storedAt, product, lengthTests, tableTests, Multiplying, tested, finished, multiply}
+use Rattle.matrix_row.specs.declared.rows.Row.{Row}
+use Rattle.matrix_row.proofs.RowLaws.{row-is, part-length, part-at}
+use Rattle.matrix_row.proofs.SumLaws.{beside-length, beside-at}
 use Rattle.csr.proofs.OffsetLaws.{Rising, rising, offset-inside}
 use Rattle.csr.proofs.CheckLaws.{accepts, lengths-then, Agree, lengths-agree, Sound, accepted-sound}
 use Rattle.word.proofs.CountLaws.{items-at}

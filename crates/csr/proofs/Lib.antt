@@ -2,11 +2,8 @@
 -- SPDX-License-Identifier: Apache-2.0
 
 -- Laws of this crate.
-pub mod RowLaws
 pub mod NumberLaws
 pub mod OffsetLaws
-pub mod PlaceLaws
-pub mod SumLaws
 pub mod CheckLaws
 pub mod WalkLaws
 pub mod ColumnLaws

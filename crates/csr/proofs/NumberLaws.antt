@@ -1,19 +1,18 @@
 -- SPDX-FileCopyrightText: 2026 The PPVM Authors
 -- SPDX-License-Identifier: Apache-2.0
 
--- Numbers in a product: which is +0.0, and that a sum is finite only if what was added is. Assumes nothing.
+-- Which number is +0.0. Assumes nothing.
 use mathlib.Core.Path.{_≡_, refl, sym, ap, _∙_}
-use mathlib.Core.Bool.{Bool, true, false, not, cond, Bool·beq, false≢true}
+use mathlib.Core.Bool.{Bool, true, false, not, false≢true}
 use Prim.Native.Nat.{ℕ, zero, suc}
 use borrow.Author.Tests.{eqb-true, eq-eqb}
 use lib.Dec.{T, eqb}
 use lib.IntN.{pos, negsuc}
-use lib.Ieee.{Float, nan, inf, fin, binary64, add, mul, eq, fits, isNan, ofBits, toBits, unlike}
+use lib.Ieee.{Float, nan, inf, fin, binary64, eq, fits, isNan, ofBits, toBits}
 use lib.Ieee.Bits.{ofBits-toBits}
-use Rattle.number.specs.Floats.{float0, isFinite}
+use Rattle.number.specs.Floats.{float0}
 use Rattle.csr.specs.Walks.{isClear}
 
--- ---- +0.0
 pub clear-is : (x : Float) → isClear x ≡ true → x ≡ float0
 unfolding isClear ofBits
 clear-is nan e = absurd (false≢true e)
@@ -53,30 +52,3 @@ not-zero-clear x e = go (isClear x) refl
     go : (b : Bool) → isClear x ≡ b → false ≡ b
     go true f = sym e ∙ ap (λ (y : Float). eq y float0) (clear-is x f)
     go false f = refl
-
--- ---- finite
-pub mul-finite : (v x : Float) → isFinite (mul binary64 v x) ≡ true → isFinite v ≡ true
-unfolding mul
-mul-finite nan x e = absurd (false≢true e)
-mul-finite (inf s) nan e = absurd (false≢true e)
-mul-finite (inf s) (inf t) e = absurd (false≢true e)
-mul-finite (inf s) (fin t n d) e = go (eqb n 0) e
-  where
-    go : (b : Bool) → isFinite (cond b nan (inf (unlike s t))) ≡ true → false ≡ true
-    go true e = e
-    go false e = e
-mul-finite (fin s m e) x h = refl
-
-pub add-finite : (x y : Float) → isFinite (add binary64 x y) ≡ true → (isFinite x ≡ true) × (isFinite y ≡ true)
-unfolding add
-add-finite nan y e = absurd (false≢true e)
-add-finite (inf s) nan e = absurd (false≢true e)
-add-finite (inf s) (inf t) e = absurd (false≢true (go (Bool·beq s t) e))
-  where
-    go : (b : Bool) → isFinite (cond b (inf s) nan) ≡ true → false ≡ true
-    go true e = e
-    go false e = e
-add-finite (inf s) (fin t n d) e = absurd (false≢true e)
-add-finite (fin s m e) nan h = absurd (false≢true h)
-add-finite (fin s m e) (inf t) h = absurd (false≢true h)
-add-finite (fin s m e) (fin t n d) h = (refl, refl)

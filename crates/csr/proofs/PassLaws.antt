@@ -19,14 +19,16 @@ use Rattle.lent.proofs.Firsts.{NoneBefore, first-inside, first-before, first-no
 use Rattle.lent.specs.Numbers.{notFinite}
 use Rattle.word.specs.Count.{upTo}
 use Rattle.word.proofs.CountLaws.{items-length, items-at}
-use Rattle.csr.specs.Rows.{partOf}
+use Rattle.matrix_row.specs.Rows.{partOf, beside, rowEntries}
 use Rattle.csr.specs.Lent.{badColumn}
-use Rattle.csr.specs.Products.{beside, rowEntries, storedAt, product}
-use Rattle.csr.specs.Walks.{badPlace, fullSum, notClear, Ready, rowPasses, fullAt, fullProduct, rowStops}
-use Rattle.csr.specs.declared.rows.Row.{Row}
-use Rattle.csr.proofs.RowLaws.{part-length, part-at}
-use Rattle.csr.proofs.NumberLaws.{clear-is, add-finite}
-use Rattle.csr.proofs.SumLaws.{values-finite, full-sum}
+use Rattle.csr.specs.Products.{storedAt, product}
+use Rattle.csr.specs.Walks.{notClear, Ready, rowPasses, fullAt, fullProduct, rowStops}
+use Rattle.matrix_row.specs.Walks.{badPlace, fullSum}
+use Rattle.matrix_row.specs.declared.rows.Row.{Row}
+use Rattle.matrix_row.proofs.RowLaws.{part-length, part-at}
+use Rattle.csr.proofs.NumberLaws.{clear-is}
+use Rattle.matrix_row.proofs.FiniteLaws.{add-finite}
+use Rattle.matrix_row.proofs.SumLaws.{values-finite, full-sum}
 use Rattle.csr.proofs.OffsetLaws.{Rising, rising, none-bad, offset-inside, by-rows}
 use Rattle.csr.proofs.ColumnLaws.{place-is}
 use Rattle.csr.proofs.CheckLaws.{Sound}

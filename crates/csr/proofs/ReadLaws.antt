@@ -18,8 +18,9 @@ use Rattle.refusal.specs.declared.Answer.the-variants.{Accepted, Refused}
 use Rattle.lent.specs.Tests.{andThen}
 use Rattle.lent.proofs.Passed.{both}
 use Rattle.csr.specs.Lent.{badOffset, rowsTests, placesTests}
-use Rattle.csr.specs.Rows.{rowAt, rowOf, rowTests, readAs, readRow}
-use Rattle.csr.specs.declared.rows.Row.{Row}
+use Rattle.csr.specs.Rows.{rowTests, readAs, readRow}
+use Rattle.matrix_row.specs.Rows.{rowAt, rowOf}
+use Rattle.matrix_row.specs.declared.rows.Row.{Row}
 use Rattle.csr.specs.declared.reader.RowRead.the-variants as Reads
 use Rattle.csr.proofs.OffsetLaws.{Rising, rising, offset-inside}
 use Rattle.csr.proofs.CheckLaws.{accepts, refused-then, passed-then, rows-then, rows-agree, places-then, entries-sound}

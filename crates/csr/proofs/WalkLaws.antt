@@ -17,12 +17,12 @@ use Rattle.lent.specs.Tests.{firstTo}
 use Rattle.lent.proofs.Firsts.{NoneBefore, none-start, none-more, first-here, first-none, first-inside}
 use Rattle.lent.proofs.WriteLaws.{written-more}
 use Rattle.word.proofs.CountLaws.{items-length, items-at}
-use Rattle.csr.specs.Rows.{rowAt, partOf, rowOf}
-use Rattle.csr.specs.Products.{rowEntries}
-use Rattle.csr.specs.Walks.{badPlace, fullSum, RowWalked, rowPasses, fullAt, fullProduct, rowStops, Walked}
-use Rattle.csr.specs.declared.rows.Row.{Row}
-use Rattle.csr.specs.declared.sums.RowSum.{RowSum}
-use Rattle.csr.proofs.RowLaws.{row-is, part-length}
+use Rattle.matrix_row.specs.Rows.{rowAt, partOf, rowOf, rowEntries}
+use Rattle.csr.specs.Walks.{rowPasses, fullAt, fullProduct, rowStops, Walked}
+use Rattle.matrix_row.specs.Walks.{badPlace, fullSum, RowWalked}
+use Rattle.matrix_row.specs.declared.rows.Row.{Row}
+use Rattle.matrix_row.specs.declared.sums.RowSum.{RowSum}
+use Rattle.matrix_row.proofs.RowLaws.{row-is, part-length}
 
 -- ---- tests joined
 or-right : (a : Bool) {b : Bool} → b ≡ true → (a || b) ≡ true

@@ -6,7 +6,7 @@ use Prim.Native.Nat.{ℕ}
 use mathlib.Core.Bool.{Bool, cond}
 use mathlib.Core.List.{List, [], _∷_, map}
 use lib.Dec.{ltb}
-use lib.Ieee.{Float, nan, binary64, add, mul, eq}
+use lib.Ieee.{Float, nan, binary64, add}
 use lib.ListN.{getD, length, replicate}
 use Rattle.refusal.specs.declared.Refusal.{Refusal}
 use Rattle.refusal.specs.declared.Refusal.the-variants.{SumNotFinite}
@@ -17,36 +17,7 @@ use Rattle.lent.specs.Tests.{inTurn, lent, firstTo, entries, equal}
 use Rattle.lent.specs.Numbers.{notFinite}
 use Rattle.word.specs.Count.{upTo}
 use Rattle.csr.specs.Lent.{rowsTests, placesTests}
-use Rattle.csr.specs.Rows.{rowAt, partOf, rowOf}
-
--- ---- the sum of a row
-pub record RowEntry : Type 0 where
-  pub column : ℕ
-  pub value : Float
-
--- columns beside their values
-unfoldable pub beside : List ℕ → List Float → List RowEntry
-beside [] vs = []
-beside (c ∷ cs) [] = []
-beside (c ∷ cs) (v ∷ vs) = record { column = c; value = v } ∷ beside cs vs
-
--- the entries of row r
-unfoldable pub rowEntries : List ℕ → List ℕ → List Float → ℕ → List RowEntry
-rowEntries offsets columns values r = beside (rowOf offsets columns r) (partOf (rowAt offsets (length columns) r) values)
-
-module _ (input : List Float) where
-  -- value × input added to a sum; nothing where the input is zero
-  unfoldable pub addEntry : Float → RowEntry → Float
-  addEntry s e = cond (eq (getD input (e .column) nan) float0) s (add binary64 s (mul binary64 (e .value) (getD input (e .column) nan)))
-
-  -- one entry after another
-  unfoldable pub addEntries : Float → List RowEntry → Float
-  addEntries s [] = s
-  addEntries s (e ∷ es) = addEntries (addEntry s e) es
-
-  -- from 0
-  abbrev pub rowSum : List RowEntry → Float
-  rowSum es = addEntries float0 es
+use Rattle.matrix_row.specs.Rows.{rowEntries, rowSum}
 
 -- ---- what a call answers, and the lent tables afterwards
 pub record Multiplying : Type 0 where

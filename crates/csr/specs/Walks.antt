@@ -5,51 +5,20 @@
 use Prim.Native.Nat.{ℕ, zero, suc, _+_}
 use mathlib.Core.Path.{_≡_}
 use mathlib.Core.Bool.{Bool, true, false, not, _&&_, _||_, cond}
-use mathlib.Core.List.{List, [], _∷_, _++_, map}
-use lib.Dec.{eqb, ltb, leb}
-use lib.Ieee.{Float, nan, inf, fin, binary64, add, mul}
+use mathlib.Core.List.{List, _++_, map}
+use lib.Dec.{eqb, leb}
+use lib.Ieee.{Float, nan, inf, fin, binary64, add}
 use lib.IntN.{pos, negsuc}
 use lib.ListN.{getD, length, take, drop}
-use Rattle.number.specs.Floats.{float0, isFinite}
+use Rattle.number.specs.Floats.{isFinite}
 use Rattle.lent.specs.Tests.{firstTo}
 use Rattle.lent.specs.Numbers.{notFinite}
 use Rattle.word.specs.Count.{upTo}
-use Rattle.csr.specs.Rows.{rowOf}
+use Rattle.matrix_row.specs.Rows.{rowOf, rowEntries}
+use Rattle.matrix_row.specs.Walks.{badPlace, fullSum}
 use Rattle.refusal.specs.declared.Answer.the-variants.{Accepted}
-use Rattle.csr.specs.Products.{RowEntry, beside, rowEntries, tableTests, product}
-use Rattle.csr.specs.declared.sums.RowSum.{RowSum}
+use Rattle.csr.specs.Products.{tableTests, product}
 
--- ---- a row
--- the least column that may stand at place k of a row: one above the column before it
-unfoldable pub leastAt : List ℕ → ℕ → ℕ
-leastAt cs zero = 0
-leastAt cs (suc k) = suc (getD cs k 0)
-
--- a column that does not rise, or is not below the count of rows
-unfoldable pub misplaced : ℕ → ℕ → ℕ → Bool
-misplaced least rows column = ltb column least || leb rows column
-
-unfoldable pub badPlace : ℕ → List ℕ → ℕ → Bool
-badPlace rows cs k = misplaced (leastAt cs k) rows (getD cs k 0)
-
--- every product added, those with a zero too
-module _ (input : List Float) where
-  unfoldable pub addProduct : Float → RowEntry → Float
-  addProduct s e = add binary64 s (mul binary64 (e .value) (getD input (e .column) nan))
-
-  unfoldable pub addProducts : Float → List RowEntry → Float
-  addProducts s [] = s
-  addProducts s (e ∷ es) = addProducts (addProduct s e) es
-
-  abbrev pub fullSum : List RowEntry → Float
-  fullSum es = addProducts float0 es
-
--- how many columns stand in their places, and the sum where it is all of them
-pub record RowWalked (input : List Float) (cs : List ℕ) (vs : List Float) (r : RowSum) : Type 0 where
-  pub stopped : r .passed ≡ firstTo (length cs) (badPlace (length input) cs)
-  pub summed : r .passed ≡ length cs → r .sum ≡ fullSum input (beside cs vs)
-
--- ---- all rows
 -- +0.0, which −0.0 is not
 unfoldable pub isClear : Float → Bool
 isClear nan = false

@@ -10,12 +10,12 @@ ghost use Rattle.refusal.specs.declared.Answer.the-variants.{Accepted};
 ghost use Rattle.lent.specs.Tests.{firstTo};
 ghost use Rattle.csr.specs.Lent.{offsetFails, badOffset, badColumn, rowsTests, placesTests};
 ghost use Rattle.csr.specs.Products.{lengthTests, tableTests};
-ghost use Rattle.csr.specs.Walks.{badPlace};
-use crate::rows::wide;
-use crate::sums::is_misplaced;
+ghost use Rattle.matrix_row.specs.Walks.{badPlace};
 use lent::numbers::first_not_finite;
 use lent::tests::mismatch;
 use lent::words::MAX_WORDS;
+use matrix_row::rows::wide;
+use matrix_row::sums::is_misplaced;
 use refusal::Answer;
 use refusal::Refusal;
 

@@ -4,11 +4,12 @@
 // A reader of rows, which refers to the lent offsets and columns and hands out a row's columns; and the call that
 // reads a row of a lent matrix through it.
 ghost use mathlib.Core.Path.{_≡_};
-ghost use Rattle.csr.specs.Rows.{rowOf, rowTests, readRow};
+ghost use Rattle.matrix_row.specs.Rows.{rowOf};
+ghost use Rattle.csr.specs.Rows.{rowTests, readRow};
 use crate::check::check_places;
 use crate::check::check_rows;
-use crate::rows::Row;
 use crate::rows::row_columns;
+use matrix_row::rows::Row;
 use refusal::Answer;
 use refusal::Refusal;
 

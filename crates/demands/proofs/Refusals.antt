@@ -18,13 +18,13 @@ use Rattle.refusal.specs.declared.Refusal.the-variants.{TooManyQubits, TableFul
 use Rattle.refusal.specs.declared.Answer.{Answer}
 use Rattle.refusal.specs.declared.Answer.the-variants as Tests
 use Rattle.refusal.specs.declared.Status.{Status}
-use Rattle.word.specs.Codes.{writeAnswer, writeFor, written}
+use Rattle.notation.specs.Codes.{writeAnswer, writeFor, written}
 use Rattle.word.specs.Register.{reaches}
 use Rattle.word.specs.Word.{maxQubits, identity}
 use Rattle.word.specs.Flat.{layWord}
 use Rattle.word.specs.declared.word.Word.{Word}
-use Rattle.word.specs.declared.word.ParsedWord.{ParsedWord}
-use Rattle.word.specs.declared.word.ParsedWord.the-variants as Read
+use Rattle.notation.specs.declared.texts.ParsedWord.{ParsedWord}
+use Rattle.notation.specs.declared.texts.ParsedWord.the-variants as Read
 use Rattle.number.specs.Floats.{floats, float0}
 use Rattle.gksl.specs.Model.{RealTerm, JumpOver}
 use Rattle.gksl.specs.Words.{pauli}

@@ -19,11 +19,11 @@ use Rattle.word.specs.Count.{sumTo}
 use Rattle.word.specs.Letter.{mulLetter, mulPhase}
 use Rattle.word.specs.Word.{letterAt, maxQubits, identity}
 use Rattle.word.specs.Product.{product}
-use Rattle.word.specs.Codes.{writeAnswer}
+use Rattle.notation.specs.Codes.{writeAnswer}
 use Rattle.word.specs.Flat.{words}
 use Rattle.word.specs.declared.word.Word.{Word}
-use Rattle.word.specs.declared.word.ParsedWord.{ParsedWord}
-use Rattle.word.specs.declared.word.ParsedWord.the-variants as Read
+use Rattle.notation.specs.declared.texts.ParsedWord.{ParsedWord}
+use Rattle.notation.specs.declared.texts.ParsedWord.the-variants as Read
 use Rattle.word.specs.declared.algebra.Phased.{Phased}
 use Rattle.number.specs.Whole.{whole}
 use Rattle.number.specs.Floats.{floats, float0, magnitude}

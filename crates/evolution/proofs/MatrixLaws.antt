@@ -29,7 +29,7 @@ use Rattle.columns.proofs.GeneratorLaws.{generator-fits}
 use Rattle.lent.specs.Laid.{laid}
 use Rattle.csr_build.specs.Rows.{rowsTo, offsetsOf}
 use Rattle.csr_build.proofs.SortLaws.{offsets-many}
-use Rattle.norm.specs.Columns.{largest}
+use Rattle.column_norm.specs.Columns.{largest}
 use Rattle.raw_norm.specs.Unshifted.{unshiftedNorm}
 use Rattle.raw_norm.specs.Between.{rawsFrom}
 use Rattle.raw_norm.proofs.RawLaws.{norm-is}

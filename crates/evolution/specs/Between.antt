@@ -21,7 +21,7 @@ use Rattle.slots.specs.Between.{Slotted}
 use Rattle.action.specs.declared.act.Acted.{Acted}
 use Rattle.action.specs.declared.act.Acted.the-variants as Acts
 use Rattle.columns.specs.Between.{BasisReady}
-use Rattle.norm.specs.Columns.{largest}
+use Rattle.column_norm.specs.Columns.{largest}
 use Rattle.raw_norm.specs.Unshifted.{unshiftedNorm}
 use Rattle.raw_norm.specs.Between.{rawsFrom}
 use Rattle.generator.specs.Lent as Generator

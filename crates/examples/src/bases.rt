@@ -2,10 +2,33 @@
 // SPDX-License-Identifier: Apache-2.0
 
 // A basis of four words of two qubits, capped, pruned and enlarged, and printed entry by entry.
-use crate::actions::print_list;
 use crate::print;
 use pebblelinen::bases::KeptEntries;
 use word::flat::WORD_LANES;
+use word::flat::word_at;
+
+fn print_entry(words: &[u64], i: usize, value: f64) {
+    if i < words.len() / WORD_LANES {
+        print::word(word_at(words, i), 2);
+        print::text(b" ");
+        print::value(value);
+    }
+}
+
+// The words of a list with their numbers, of the first count places.
+fn print_list(words: &[u64], values: &[f64], count: usize) {
+    let mut i = 0;
+    while i < values.len() {
+        if count <= i {
+            return;
+        }
+        if i != 0 {
+            print::text(b", ");
+        }
+        print_entry(words, i, values[i]);
+        i += 1;
+    }
+}
 
 // The entries that the basis has, or the refusal.
 fn print_kept(answer: KeptEntries, words: &[u64], coeffs: &[f64]) {
@@ -104,20 +127,7 @@ fn admitted(limit: usize) {
     print_kept(answer, &words, &coeffs);
 }
 
-// The lengths of work tables for four entries with six protected words, and five listed words.
-fn print_sizes() {
-    let sizes = pebblelinen::bases::pebblelinen_basis_sizes(4, 6, 5);
-    print::text(b"4 entries, 6 protected words and 5 listed ones: order and work of ");
-    print::number(sizes.order as u64);
-    print::text(b" places, fixed of ");
-    print::number(sizes.fixed as u64);
-    print::text(b", kept of ");
-    print::number(sizes.kept as u64);
-    print::end_line();
-}
-
 pub fn run() {
-    print_sizes();
     print::text(b"basis XI 3, YI -1, ZI 1, IX 0.5 capped at 2: ");
     capped(&[0u64; 0], 2);
     print::text(b"the same with IX protected: ");

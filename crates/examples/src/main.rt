@@ -1,22 +1,17 @@
 // SPDX-FileCopyrightText: 2026 The PPVM Authors
 // SPDX-License-Identifier: Apache-2.0
 
-// Runs the examples of document 01, a small model, a matrix, their actions, a basis, its leakage and a generator
-// through the exported functions and prints a line for each. Each section has its module.
-mod actions;
+// Runs the examples of document 01 that lend few tables through the exported functions and prints a line for each. Each
+// section has its module. What is lent many tables is asked of the built library, by a test of the Python package.
 mod bases;
-mod generators;
-mod leakages;
-mod matrices;
-mod models;
+mod degrees;
 mod print;
+mod sizes;
 mod words;
 
 fn main() {
     words::run();
-    models::run();
-    matrices::run();
+    sizes::run();
     bases::run();
-    leakages::run();
-    generators::run();
+    degrees::run();
 }

@@ -15,7 +15,7 @@ pub fn number(n: u64) {
     io::print_decimal(STDOUT_FILENO, n);
 }
 
-// The numbers that the examples list: 0, 0.5, 1, 2 and 3, with their sign.
+// The numbers that the examples list: 0, 0.5, 1 and 3, with their sign.
 pub fn value(x: f64) {
     let size = number::scalar::magnitude(x);
     if x < 0.0 {
@@ -27,8 +27,6 @@ pub fn value(x: f64) {
         text(b"0.5");
     } else if size == 1.0 {
         text(b"1");
-    } else if size == 2.0 {
-        text(b"2");
     } else if size == 3.0 {
         text(b"3");
     } else {

@@ -14,6 +14,5 @@ pub mod AdmitLaws
 pub mod PruneLaws
 pub mod OrderOnce
 pub mod UnflaggedLaws
-pub mod NthLaws
 pub mod SameFlags
 pub mod LargestLaws

@@ -4,7 +4,7 @@
 -- The tests of leakage, answer by answer; and what is known where they are passed. Assumes nothing.
 use mathlib.Core.Path.{_≡_}
 use mathlib.Core.Bool.{true, false}
-use Prim.Native.Nat.{ℕ, _*_, _/_, _≤_, _<_}
+use Prim.Native.Nat.{ℕ, _+_, _*_, _/_, _≤_, _<_}
 use borrow.Author.Tests.{lt-ltb, le-ltb}
 use lib.Dec.{eqb}
 use lib.ListN.{length}
@@ -25,9 +25,9 @@ use Rattle.limits.specs.declared.Limits.{Limits}
 use Rattle.leakage.specs.Leakages.{Basis, Work, workTests, entryTests, leakTests}
 
 -- ---- the tables whose lengths the input fixes
-module _ (rows row len slots h j k o he ne fh fn : ℕ) where
+module _ (rows row len slots h j k o he ne : ℕ) where
   abbrev chain : Answer
-  chain = lent rows h (lent rows j (lent row k (lent len o (lent len he (lent len ne (lent slots fh (lent slots fn Accepted)))))))
+  chain = lent rows h (lent rows j (lent row k (lent len o (lent slots he (lent slots ne Accepted)))))
 
   pub short-1 : h < rows → Refused (LengthMismatch rows h) ≡ chain
   short-1 l = rw (lt-ltb h rows l)
@@ -45,30 +45,22 @@ module _ (rows row len slots h j k o he ne fh fn : ℕ) where
         short-4 l = rw (le-ltb h rows l1, le-ltb j rows l2, le-ltb k row l3, lt-ltb o len l)
 
         module _ (l4 : len ≤ o) where
-          pub short-5 : he < len → Refused (LengthMismatch len he) ≡ chain
-          short-5 l = rw (le-ltb h rows l1, le-ltb j rows l2, le-ltb k row l3, le-ltb o len l4, lt-ltb he len l)
+          pub short-5 : he < slots → Refused (LengthMismatch slots he) ≡ chain
+          short-5 l = rw (le-ltb h rows l1, le-ltb j rows l2, le-ltb k row l3, le-ltb o len l4, lt-ltb he slots l)
 
-          module _ (l5 : len ≤ he) where
-            pub short-6 : ne < len → Refused (LengthMismatch len ne) ≡ chain
-            short-6 l = rw (le-ltb h rows l1, le-ltb j rows l2, le-ltb k row l3, le-ltb o len l4, le-ltb he len l5, lt-ltb ne len l)
+          module _ (l5 : slots ≤ he) where
+            pub short-6 : ne < slots → Refused (LengthMismatch slots ne) ≡ chain
+            short-6 l = rw (le-ltb h rows l1, le-ltb j rows l2, le-ltb k row l3, le-ltb o len l4, le-ltb he slots l5, lt-ltb ne slots l)
 
-            module _ (l6 : len ≤ ne) where
-              pub short-7 : fh < slots → Refused (LengthMismatch slots fh) ≡ chain
-              short-7 l = rw (le-ltb h rows l1, le-ltb j rows l2, le-ltb k row l3, le-ltb o len l4, le-ltb he len l5, le-ltb ne len l6, lt-ltb fh slots l)
+            module _ (l6 : slots ≤ ne) where
+              pub long-enough : Accepted ≡ chain
+              long-enough = rw (le-ltb h rows l1, le-ltb j rows l2, le-ltb k row l3, le-ltb o len l4, le-ltb he slots l5, le-ltb ne slots l6)
 
-              module _ (l7 : slots ≤ fh) where
-                pub short-8 : fn < slots → Refused (LengthMismatch slots fn) ≡ chain
-                short-8 l = rw (le-ltb h rows l1, le-ltb j rows l2, le-ltb k row l3, le-ltb o len l4, le-ltb he len l5, le-ltb ne len l6, le-ltb fh slots l7, lt-ltb fn slots l)
-
-                module _ (l8 : slots ≤ fn) where
-                  pub long-enough : Accepted ≡ chain
-                  long-enough = rw (le-ltb h rows l1, le-ltb j rows l2, le-ltb k row l3, le-ltb o len l4, le-ltb he len l5, le-ltb ne len l6, le-ltb fh slots l7, le-ltb fn slots l8)
-
-pub work-is : (n len count : ℕ) {rows row slots : ℕ} → rows ≡ whereAny len (rowLanes * n) → row ≡ whereAny len rowLanes → slots ≡ whereAny len count
-    → (h j k o he ne fh fn : ℕ) (w : Work) → length (w .hIndex) ≡ h → length (w .jIndex) ≡ j → length (w .mask) ≡ k → length (w .order) ≡ o → length (w .heads) ≡ he → length (w .nexts) ≡ ne → length (w .fixedHeads) ≡ fh → length (w .fixedNexts) ≡ fn
-    → chain rows row len slots h j k o he ne fh fn ≡ workTests n len count w
+pub work-is : (n len count : ℕ) {rows row slots : ℕ} → rows ≡ whereAny len (rowLanes * n) → row ≡ whereAny len rowLanes → slots ≡ whereAny len (len + count)
+    → (h j k o he ne : ℕ) (w : Work) → length (w .hIndex) ≡ h → length (w .jIndex) ≡ j → length (w .mask) ≡ k → length (w .order) ≡ o → length (w .heads) ≡ he → length (w .nexts) ≡ ne
+    → chain rows row len slots h j k o he ne ≡ workTests n len count w
 unfolding workTests
-work-is n len count rows-are row-is slots-are h j k o he ne fh fn w eh ej ek eo ehe ene efh efn = rw (rows-are, row-is, slots-are, eh, ej, ek, eo, ehe, ene, efh, efn)
+work-is n len count rows-are row-is slots-are h j k o he ne w eh ej ek eo ehe ene = rw (rows-are, row-is, slots-are, eh, ej, ek, eo, ehe, ene)
 
 -- ---- the whole
 module _ (m : Model) (t : ModelTables) (b : Basis) (l : Limits) (w : Work) where

@@ -5,7 +5,7 @@
 use mathlib.Core.Path.{_≡_}
 use mathlib.Core.Bool.{false}
 use mathlib.Core.List.{List}
-use Prim.Native.Nat.{ℕ, _*_, _/_, _≤_, _<_}
+use Prim.Native.Nat.{ℕ, _+_, _*_, _/_, _≤_, _<_}
 use native.Mathlib.Omega.{arith}
 use borrow.Author.Tests.{ltb-false}
 use lib.Dec.{ltb}
@@ -23,8 +23,8 @@ use Rattle.lent.proofs.Firsts.{first-before}
 use Rattle.lent.proofs.Passed.{passed, both, equal-passed, lent-passed, counted-passed}
 use Rattle.lent.specs.Words.{maxWords, outsideAt, insideTo}
 use Rattle.action.specs.Counts.{rowLanes}
-use Rattle.passes.specs.Between.{ActionRoom, Holding}
-use Rattle.leakage.specs.Between.{BasisLent, FixedLent}
+use Rattle.passes.specs.Between.{ActionRoom}
+use Rattle.leakage.specs.Between.{BasisLent}
 use Rattle.leakage.specs.Leakages.{Basis, Work, workTests, entryTests, leakTests, actionPlaces, rowPlaces}
 use Rattle.limits.specs.Defaults.{limitTests}
 use Rattle.limits.specs.declared.Limits.{Limits}
@@ -38,10 +38,8 @@ pub record Passed (m : Model) (t : ModelTables) (b : Basis) (w : Work) : Type 0 
   pub j-long : 0 < b .len → 64 * m .qubits ≤ length (w .jIndex)
   pub mask-long : 0 < b .len → 64 ≤ length (w .mask)
   pub order-long : b .len ≤ length (w .order)
-  pub heads-long : b .len ≤ length (w .heads)
-  pub nexts-long : b .len ≤ length (w .nexts)
-  pub fixed-heads-long : 0 < b .len → length (b .protected) / wordLanes ≤ length (w .fixedHeads)
-  pub fixed-nexts-long : whereAny (b .len) (length (b .protected) / wordLanes) ≤ length (w .fixedNexts)
+  pub heads-long : 0 < b .len → b .len + length (b .protected) / wordLanes ≤ length (w .heads)
+  pub nexts-long : whereAny (b .len) (b .len + length (b .protected) / wordLanes) ≤ length (w .nexts)
   pub inside : (k : ℕ) → k < b .len → outsideAt (b .lanes) (m .qubits) k ≡ false
 
 pub leak-passed : (m : Model) (t : ModelTables) (b : Basis) (l : Limits) (w : Work) → leakTests m t b l w ≡ Accepted → Passed m t b w
@@ -62,10 +60,8 @@ leak-passed m t b l w e =
     let w1 = lent-passed (whereAny (b .len) rows) (length (w .jIndex)) _ (w0 .1) in
     let w2 = lent-passed (whereAny (b .len) rowLanes) (length (w .mask)) _ (w1 .1) in
     let w3 = lent-passed (b .len) (length (w .order)) _ (w2 .1) in
-    let w4 = lent-passed (b .len) (length (w .heads)) _ (w3 .1) in
-    let w5 = lent-passed (b .len) (length (w .nexts)) _ (w4 .1) in
-    let w6 = lent-passed (whereAny (b .len) count) (length (w .fixedHeads)) _ (w5 .1) in
-    let w7 = lent-passed (whereAny (b .len) count) (length (w .fixedNexts)) _ (w6 .1) in
+    let w4 = lent-passed (whereAny (b .len) (b .len + count)) (length (w .heads)) _ (w3 .1) in
+    let w5 = lent-passed (whereAny (b .len) (b .len + count)) (length (w .nexts)) _ (w4 .1) in
     let e8 = both _ _ (e7 .1) in
     let f0 = passed (ltb first (b .len)) (WordOutsideRegister first) _ (e8 .0) in
     let h = ltb-false first (b .len) (f0 .0) in
@@ -78,20 +74,21 @@ leak-passed m t b l w e =
       j-long = λ a. need-some (b .len) rows (length (w .jIndex)) a (w1 .0);
       mask-long = λ a. need-some (b .len) rowLanes (length (w .mask)) a (w2 .0);
       order-long = w3 .0;
-      heads-long = w4 .0;
+      heads-long = λ a. need-some (b .len) (b .len + count) (length (w .heads)) a (w4 .0);
       nexts-long = w5 .0;
-      fixed-heads-long = λ a. need-some (b .len) count (length (w .fixedHeads)) a (w6 .0);
-      fixed-nexts-long = w7 .0;
       inside = λ k a. first-before (b .len) (outsideAt (b .lanes) (m .qubits)) k (omega arith);
     }
 
 -- ---- what is asked before the passes
 module _ (m : Model) (t : ModelTables) (b : Basis) (w : Work) (p : Passed m t b w) where
-  pub basis-lent : BasisLent (b .len) (b .lanes) (b .coeffs) (w .order) (w .heads) (w .nexts)
-  basis-lent = record { lanes-long = p .words-long; coeffs-long = p .coeffs-long; order-long = p .order-long; nexts-long = p .nexts-long; slots-enough = p .heads-long }
-
-  pub fixed-lent : 0 < b .len → FixedLent (b .protected) (w .fixedHeads) (w .fixedNexts)
-  fixed-lent h = record { whole = p .protected-whole; nexts-long = need-some (b .len) (length (b .protected) / wordLanes) (length (w .fixedNexts)) h (p .fixed-nexts-long); slots-enough = p .fixed-heads-long h }
+  pub basis-lent : 0 < b .len → BasisLent (b .len) (b .lanes) (b .coeffs) (b .protected) (w .order) (w .heads) (w .nexts)
+  basis-lent h = record {
+    lanes-long = p .words-long;
+    coeffs-long = p .coeffs-long;
+    order-long = p .order-long;
+    nexts-long = need-some (b .len) (b .len + length (b .protected) / wordLanes) (length (w .nexts)) h (p .nexts-long);
+    slots-enough = p .heads-long h;
+  }
 
 -- ---- the places of the tables of the passes
 module _ (workWords : List ℕ) (workSums : List Float) where
@@ -102,20 +99,8 @@ module _ (workWords : List ℕ) (workSums : List Float) where
     work-sums = omega (arith, e);
   }
 
-module _ (candWords : List ℕ) (candSums : List Float) (nextWords : List ℕ) (nextSums : List Float) (placeOrder placeWork placeKept : List ℕ) where
-  pub record CandidateRoom (r : ℕ) : Type 0 where
-    pub held : Holding r 0 candWords candSums
-    pub copied : Holding r 0 nextWords nextSums
-    pub order-long : r ≤ length placeOrder
-    pub work-long : r ≤ length placeWork
-    pub kept-long : r ≤ length placeKept
-
-  pub candidate-room : {r : ℕ} → r ≡ rowPlaces (length candWords) (length candSums) (length nextWords) (length nextSums) (length placeOrder) (length placeWork) (length placeKept) → CandidateRoom r
+module _ (candWords : List ℕ) (candSums : List Float) (placeOrder placeWork : List ℕ) where
+  pub candidate-room : {r : ℕ} → r ≡ rowPlaces (length candWords) (length candSums) (length placeOrder) (length placeWork)
+      → (wordLanes * r ≤ length candWords) × (r ≤ length candSums) × (r ≤ length placeOrder) × (r ≤ length placeWork)
   unfolding rowPlaces
-  candidate-room e = record {
-    held = record { lanes-long = omega (arith, e); sums-long = omega (arith, e); inside = omega arith };
-    copied = record { lanes-long = omega (arith, e); sums-long = omega (arith, e); inside = omega arith };
-    order-long = omega (arith, e);
-    work-long = omega (arith, e);
-    kept-long = omega (arith, e);
-  }
+  candidate-room e = (omega (arith, e), omega (arith, e), omega (arith, e), omega (arith, e))

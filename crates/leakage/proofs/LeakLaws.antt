@@ -5,7 +5,7 @@
 -- the passes left is the course of the call. Assumes nothing.
 use mathlib.Core.Path.{_≡_, refl, sym, ap, _∙_}
 use mathlib.Core.List.{List, [], _++_}
-use Prim.Native.Nat.{ℕ, zero, suc, _-_, _*_, _/_, _≤_, _<_}
+use Prim.Native.Nat.{ℕ, zero, suc, _+_, _-_, _*_, _/_, _≤_, _<_}
 use native.Mathlib.Omega.{arith}
 use lib.Ieee.{Float}
 use lib.ListN.{length, getD, take, drop, length-take}
@@ -80,11 +80,11 @@ module _ (m : Model) (t : ModelTables) (b : Basis) (w : Work) (p : Passed m t b 
       let l : k < b .len = omega (arith, lanes-long) in
       ap (λ (v : Word). reaches v (m .qubits)) (ap (λ (ws : List Word). getD ws k identity) words-are ∙ getD-take (b .len) (words (b .lanes)) k identity l) ∙ p .inside k l
 
-  module _ (order heads nexts fixedHeads fixedNexts : List ℕ) (laid : 0 < b .len → BasisLaid (b .len) (b .lanes) (b .coeffs) (b .protected) order heads nexts fixedHeads fixedNexts) where
-    pub basis-ready : 0 < b .len → {slots : ℕ} → slots ≡ whereAny (b .len) (length (b .protected) / wordLanes) → BasisReady (m .qubits) lanes coeffs heads (take (b .len) nexts) (b .protected) fixedHeads (take slots fixedNexts)
+  module _ (order heads nexts : List ℕ) (laid : 0 < b .len → BasisLaid (b .len) (b .lanes) (b .coeffs) (b .protected) order heads nexts) where
+    pub basis-ready : 0 < b .len → {places : ℕ} → places ≡ whereAny (b .len) (b .len + length (b .protected) / wordLanes) → BasisReady (m .qubits) lanes coeffs heads (take places nexts) (b .protected)
     basis-ready h e =
-        let f : length (b .protected) / wordLanes ≡ _ = sym (e ∙ need-is (b .len) (length (b .protected) / wordLanes) h) in
-        record { basis-slots = laid h .basis-slots; fixed-slots = rw f at (laid h .fixed-slots); each = omega (arith, lanes-long, coeffs-long); inside = all-inside }
+        let f : b .len + length (b .protected) / wordLanes ≡ _ = sym (e ∙ need-is (b .len) (b .len + length (b .protected) / wordLanes) h) in
+        record { slots = rw f at (laid h .slots); each = omega (arith, lanes-long, coeffs-long); inside = all-inside }
 
     pub order-below : 0 < b .len → AllBelow (length coeffs) (take (b .len) order)
     order-below h =
@@ -102,5 +102,5 @@ module _ (m : Model) (t : ModelTables) (b : Basis) (w : Work) (p : Passed m t b 
           let n : length (take (b .len) order) ≡ length coeffs = length-take-le (b .len) order (omega (arith, p .order-long, order-long)) ∙ sym coeffs-long in
           rw (n, ordered (b .len) order (b .coeffs) (λ h. laid h .order-is), er, words-are)
 
-      pub gathered : (candWords : List ℕ) (candSums : List Float) (r : Taken) → Took (candidatePlaces w) (course (take (b .len) order)) candWords candSums r → Took (candidatePlaces w) (leakCourse m t b l w) candWords candSums r
-      gathered candWords candSums r k = rw course-is k
+      pub gathered : (candWords : List ℕ) (candSums : List Float) (placeOrder : List ℕ) (r : Taken) → Took (candidatePlaces w) (course (take (b .len) order)) candWords candSums placeOrder r → Took (candidatePlaces w) (leakCourse m t b l w) candWords candSums placeOrder r
+      gathered candWords candSums placeOrder r k = rw course-is k

@@ -2,7 +2,7 @@
 -- SPDX-License-Identifier: Apache-2.0
 
 -- Leakage over a lent model, basis and protected list: refusals in their order, the answer, and every lent table afterwards.
-use Prim.Native.Nat.{ℕ, _-_, _*_, _/_, min, max}
+use Prim.Native.Nat.{ℕ, _+_, _-_, _*_, _/_, min, max}
 use mathlib.Core.Bool.{cond}
 use mathlib.Core.List.{List, [], _∷_}
 use lib.Dec.{ltb, eqb}
@@ -51,18 +51,13 @@ pub record Work : Type 0 where
   pub order : List ℕ
   pub heads : List ℕ
   pub nexts : List ℕ
-  pub fixedHeads : List ℕ
-  pub fixedNexts : List ℕ
   pub candWords : List ℕ
   pub candSums : List Float
-  pub nextWords : List ℕ
-  pub nextSums : List Float
   pub placeOrder : List ℕ
   pub placeWork : List ℕ
-  pub placeKept : List ℕ
 
-abbrev pub workOf : List ℕ → List ℕ → List ℕ → List ℕ → List Float → List ℕ → List ℕ → List ℕ → List ℕ → List ℕ → List ℕ → List Float → List ℕ → List Float → List ℕ → List ℕ → List ℕ → Work
-workOf hIndex jIndex mask workWords workSums order heads nexts fixedHeads fixedNexts candWords candSums nextWords nextSums placeOrder placeWork placeKept = record {
+abbrev pub workOf : List ℕ → List ℕ → List ℕ → List ℕ → List Float → List ℕ → List ℕ → List ℕ → List ℕ → List Float → List ℕ → List ℕ → Work
+workOf hIndex jIndex mask workWords workSums order heads nexts candWords candSums placeOrder placeWork = record {
   hIndex = hIndex;
   jIndex = jIndex;
   mask = mask;
@@ -71,15 +66,10 @@ workOf hIndex jIndex mask workWords workSums order heads nexts fixedHeads fixedN
   order = order;
   heads = heads;
   nexts = nexts;
-  fixedHeads = fixedHeads;
-  fixedNexts = fixedNexts;
   candWords = candWords;
   candSums = candSums;
-  nextWords = nextWords;
-  nextSums = nextSums;
   placeOrder = placeOrder;
   placeWork = placeWork;
-  placeKept = placeKept;
 }
 
 abbrev pub zeroed : Work → Work
@@ -92,15 +82,10 @@ zeroed w = record {
   order = replicate (length (w .order)) 0;
   heads = replicate (length (w .heads)) 0;
   nexts = replicate (length (w .nexts)) 0;
-  fixedHeads = replicate (length (w .fixedHeads)) 0;
-  fixedNexts = replicate (length (w .fixedNexts)) 0;
   candWords = replicate (length (w .candWords)) 0;
   candSums = replicate (length (w .candSums)) float0;
-  nextWords = replicate (length (w .nextWords)) 0;
-  nextSums = replicate (length (w .nextSums)) float0;
   placeOrder = replicate (length (w .placeOrder)) 0;
   placeWork = replicate (length (w .placeWork)) 0;
-  placeKept = replicate (length (w .placeKept)) 0;
 }
 
 -- the places of table 1, words touched by one action, and of table 2, candidates: those of the shortest table that holds them, by
@@ -108,19 +93,19 @@ zeroed w = record {
 unfoldable pub actionPlaces : (workWords workSums : ℕ) → ℕ
 actionPlaces workWords workSums = min (workWords / wordLanes) (workSums / 2)
 
-unfoldable pub rowPlaces : (candWords candSums nextWords nextSums placeOrder placeWork placeKept : ℕ) → ℕ
-rowPlaces candWords candSums nextWords nextSums placeOrder placeWork placeKept = min (min (min (candWords / wordLanes) candSums) (min (nextWords / wordLanes) nextSums)) (min (min placeOrder placeWork) placeKept)
+unfoldable pub rowPlaces : (candWords candSums placeOrder placeWork : ℕ) → ℕ
+rowPlaces candWords candSums placeOrder placeWork = min (min (candWords / wordLanes) candSums) (min placeOrder placeWork)
 
 abbrev pub sumPlaces : Work → ℕ
 sumPlaces w = actionPlaces (length (w .workWords)) (length (w .workSums))
 
 abbrev pub candidatePlaces : Work → ℕ
 candidatePlaces w =
-    rowPlaces (length (w .candWords)) (length (w .candSums)) (length (w .nextWords)) (length (w .nextSums)) (length (w .placeOrder)) (length (w .placeWork)) (length (w .placeKept))
+    rowPlaces (length (w .candWords)) (length (w .candSums)) (length (w .placeOrder)) (length (w .placeWork))
 
 -- ---- the tests
--- 9 for the tables whose lengths the input fixes: rows of an index, places for each basis word, and for each protected word; an empty
--- basis asks for no place
+-- 9 for the tables whose lengths the input fixes: rows of an index, places for each basis word, and slots for each basis word and each
+-- protected one; an empty basis asks for no place
 unfoldable pub workTests : ℕ → ℕ → ℕ → Work → Answer
 workTests n len count w =
     inTurn (
@@ -128,10 +113,8 @@ workTests n len count w =
     ∷ lent (whereAny len (rowLanes * n)) (length (w .jIndex))
     ∷ lent (whereAny len rowLanes) (length (w .mask))
     ∷ lent len (length (w .order))
-    ∷ lent len (length (w .heads))
-    ∷ lent len (length (w .nexts))
-    ∷ lent (whereAny len count) (length (w .fixedHeads))
-    ∷ lent (whereAny len count) (length (w .fixedNexts))
+    ∷ lent (whereAny len (len + count)) (length (w .heads))
+    ∷ lent (whereAny len (len + count)) (length (w .nexts))
     ∷ []) Tests.Accepted
 
 -- 11, 7

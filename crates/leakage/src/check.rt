@@ -7,6 +7,7 @@ ghost use Prim.Native.Nat.{_≤_};
 ghost use lib.ListN.{length};
 ghost use Rattle.word.specs.Word.{maxQubits};
 ghost use Rattle.model.specs.Between.{modelTables};
+ghost use Rattle.lent.specs.Words.{maxWords};
 ghost use Rattle.leakage.specs.Leakages.{workTests, leakTests, basisOf, Work};
 use action::words::ROW_LANES;
 use lent::tests::mismatch;
@@ -33,15 +34,13 @@ fn check_work(
     order: usize,
     heads: usize,
     nexts: usize,
-    fixed_heads: usize,
-    fixed_nexts: usize,
 ) -> Answer
-    requires { ⌜ n ≤ maxQubits ⌝ }
-    ensures { λ r. ⌜ ((w : Work) → (length (w .hIndex) ≡ «h_index») → (length (w .jIndex) ≡ «j_index») → (length (w .mask) ≡ mask) → (length (w .order) ≡ order) → (length (w .heads) ≡ heads) → (length (w .nexts) ≡ nexts) → (length (w .fixedHeads) ≡ «fixed_heads») → (length (w .fixedNexts) ≡ «fixed_nexts») → r ≡ workTests n len count w) ⌝ }
+    requires { ⌜ (n ≤ maxQubits) × (len ≤ maxWords) × (count ≤ maxWords) ⌝ }
+    ensures { λ r. ⌜ ((w : Work) → (length (w .hIndex) ≡ «h_index») → (length (w .jIndex) ≡ «j_index») → (length (w .mask) ≡ mask) → (length (w .order) ≡ order) → (length (w .heads) ≡ heads) → (length (w .nexts) ≡ nexts) → r ≡ workTests n len count w) ⌝ }
 {
     let rows = where_any(len, ROW_LANES * n);
     let row = where_any(len, ROW_LANES);
-    let slots = where_any(len, count);
+    let slots = where_any(len, len + count);
     if h_index < rows {
         return mismatch(rows, h_index);
     }
@@ -54,17 +53,11 @@ fn check_work(
     if order < len {
         return mismatch(len, order);
     }
-    if heads < len {
-        return mismatch(len, heads);
+    if heads < slots {
+        return mismatch(slots, heads);
     }
-    if nexts < len {
-        return mismatch(len, nexts);
-    }
-    if fixed_heads < slots {
-        return mismatch(slots, fixed_heads);
-    }
-    if fixed_nexts < slots {
-        return mismatch(slots, fixed_nexts);
+    if nexts < slots {
+        return mismatch(slots, nexts);
     }
     Answer::Accepted
 }
@@ -88,10 +81,8 @@ pub fn check_leakage(
     order: usize,
     heads: usize,
     nexts: usize,
-    fixed_heads: usize,
-    fixed_nexts: usize,
 ) -> Answer
-    ensures { λ r. ⌜ ((w : Work) → (length (w .hIndex) ≡ «h_index») → (length (w .jIndex) ≡ «j_index») → (length (w .mask) ≡ mask) → (length (w .order) ≡ order) → (length (w .heads) ≡ heads) → (length (w .nexts) ≡ nexts) → (length (w .fixedHeads) ≡ «fixed_heads») → (length (w .fixedNexts) ≡ «fixed_nexts») → r ≡ leakTests m (modelTables (now («h_words» .entry)) (now («h_coeffs» .entry)) (now (jumps .entry)) (now (rates .entry)) (now («t_words» .entry)) (now («t_numbers» .entry))) (basisOf (now (words .entry)) (now (coeffs .entry)) len (now (protected .entry))) limits w) ⌝ }
+    ensures { λ r. ⌜ ((w : Work) → (length (w .hIndex) ≡ «h_index») → (length (w .jIndex) ≡ «j_index») → (length (w .mask) ≡ mask) → (length (w .order) ≡ order) → (length (w .heads) ≡ heads) → (length (w .nexts) ≡ nexts) → r ≡ leakTests m (modelTables (now («h_words» .entry)) (now («h_coeffs» .entry)) (now (jumps .entry)) (now (rates .entry)) (now («t_words» .entry)) (now («t_numbers» .entry))) (basisOf (now (words .entry)) (now (coeffs .entry)) len (now (protected .entry))) limits w) ⌝ }
 {
     let model = test_model(m, h_words, h_coeffs, jumps, rates, t_words, t_numbers);
     let Answer::Accepted = model else {
@@ -120,19 +111,7 @@ pub fn check_leakage(
         return mismatch(lanes, protected.len());
     }
     let n = m.qubits;
-    let work = check_work(
-        n,
-        len,
-        count,
-        h_index,
-        j_index,
-        mask,
-        order,
-        heads,
-        nexts,
-        fixed_heads,
-        fixed_nexts,
-    );
+    let work = check_work(n, len, count, h_index, j_index, mask, order, heads, nexts);
     let Answer::Accepted = work else {
         return work;
     };

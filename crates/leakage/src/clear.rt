@@ -23,12 +23,11 @@ pub fn clear_three(a: &mut [u64], b: &mut [u64], c: &mut [u64])
     clear_lanes(c);
 }
 
-pub fn clear_five(a: &mut [u64], b: &mut [u64], c: &mut [u64], d: &mut [u64], e: &mut [u64])
-    ensures { λ _. ⌜ (now (a .exit) ≡ replicate (length (now (a .entry))) 0) × (now (b .exit) ≡ replicate (length (now (b .entry))) 0) × (now (c .exit) ≡ replicate (length (now (c .entry))) 0) × (now (d .exit) ≡ replicate (length (now (d .entry))) 0) × (now (e .exit) ≡ replicate (length (now (e .entry))) 0) ⌝ }
+pub fn clear_four(a: &mut [u64], b: &mut [u64], c: &mut [u64], d: &mut [u64])
+    ensures { λ _. ⌜ (now (a .exit) ≡ replicate (length (now (a .entry))) 0) × (now (b .exit) ≡ replicate (length (now (b .entry))) 0) × (now (c .exit) ≡ replicate (length (now (c .entry))) 0) × (now (d .exit) ≡ replicate (length (now (d .entry))) 0) ⌝ }
 {
     clear_lanes(a);
     clear_lanes(b);
     clear_lanes(c);
     clear_lanes(d);
-    clear_lanes(e);
 }

@@ -6,13 +6,13 @@ ghost use mathlib.Core.Path.{_≡_};
 ghost use Rattle.model.specs.Between.{modelTables};
 ghost use Rattle.leakage.specs.Leakages.{workOf, basisOf, leak};
 use crate::check::check_leakage;
-use crate::clear::clear_five;
+use crate::clear::clear_four;
 use crate::clear::clear_rows;
+use crate::clear::clear_three;
 use crate::lay::lay_basis;
 use crate::listing::list_candidates;
 use crate::run::run_and_clear;
 use action::act::Acted;
-use lent::clear::clear_lanes;
 use lent::tests::where_any;
 use limits::Limits;
 use limits::word_room;
@@ -42,19 +42,14 @@ pub fn leakage_with_prune(
     order: &mut [u64],
     heads: &mut [u64],
     nexts: &mut [u64],
-    fixed_heads: &mut [u64],
-    fixed_nexts: &mut [u64],
     cand_words: &mut [u64],
     cand_sums: &mut [f64],
-    next_words: &mut [u64],
-    next_sums: &mut [f64],
     place_order: &mut [u64],
     place_work: &mut [u64],
-    place_kept: &mut [u64],
     out_words: &mut [u64],
     out_values: &mut [f64],
 ) -> Acted
-    ensures { λ r. ⌜ record { out = record { answer = r; outWords = now («out_words» .exit); outValues = now («out_values» .exit) }; work = workOf (now («h_index» .exit)) (now («j_index» .exit)) (now (mask .exit)) (now («work_words» .exit)) (now («work_sums» .exit)) (now (order .exit)) (now (heads .exit)) (now (nexts .exit)) (now («fixed_heads» .exit)) (now («fixed_nexts» .exit)) (now («cand_words» .exit)) (now («cand_sums» .exit)) (now («next_words» .exit)) (now («next_sums» .exit)) (now («place_order» .exit)) (now («place_work» .exit)) (now («place_kept» .exit)) } ≡ leak (now («out_words» .entry)) (now («out_values» .entry)) (workOf (now («h_index» .entry)) (now («j_index» .entry)) (now (mask .entry)) (now («work_words» .entry)) (now («work_sums» .entry)) (now (order .entry)) (now (heads .entry)) (now (nexts .entry)) (now («fixed_heads» .entry)) (now («fixed_nexts» .entry)) (now («cand_words» .entry)) (now («cand_sums» .entry)) (now («next_words» .entry)) (now («next_sums» .entry)) (now («place_order» .entry)) (now («place_work» .entry)) (now («place_kept» .entry))) m (modelTables (now («h_words» .entry)) (now («h_coeffs» .entry)) (now (jumps .entry)) (now (rates .entry)) (now («t_words» .entry)) (now («t_numbers» .entry))) (basisOf (now (words .entry)) (now (coeffs .entry)) len (now (protected .entry))) limits ⌝ }
+    ensures { λ r. ⌜ record { out = record { answer = r; outWords = now («out_words» .exit); outValues = now («out_values» .exit) }; work = workOf (now («h_index» .exit)) (now («j_index» .exit)) (now (mask .exit)) (now («work_words» .exit)) (now («work_sums» .exit)) (now (order .exit)) (now (heads .exit)) (now (nexts .exit)) (now («cand_words» .exit)) (now («cand_sums» .exit)) (now («place_order» .exit)) (now («place_work» .exit)) } ≡ leak (now («out_words» .entry)) (now («out_values» .entry)) (workOf (now («h_index» .entry)) (now («j_index» .entry)) (now (mask .entry)) (now («work_words» .entry)) (now («work_sums» .entry)) (now (order .entry)) (now (heads .entry)) (now (nexts .entry)) (now («cand_words» .entry)) (now («cand_sums» .entry)) (now («place_order» .entry)) (now («place_work» .entry))) m (modelTables (now («h_words» .entry)) (now («h_coeffs» .entry)) (now (jumps .entry)) (now (rates .entry)) (now («t_words» .entry)) (now («t_numbers» .entry))) (basisOf (now (words .entry)) (now (coeffs .entry)) len (now (protected .entry))) limits ⌝ }
 {
     let answer = check_leakage(
         m,
@@ -75,26 +70,14 @@ pub fn leakage_with_prune(
         order.len(),
         heads.len(),
         nexts.len(),
-        fixed_heads.len(),
-        fixed_nexts.len(),
     );
     if let Answer::Refused(refusal) = answer {
         return Acted::Refused(refusal);
     }
     let room = word_room(limits, len);
-    let count = where_any(len, protected.len() / WORD_LANES);
+    let both = where_any(len, len + protected.len() / WORD_LANES);
     index_model(h_index, j_index, m, h_words, jumps, rates, t_words, len);
-    lay_basis(
-        words,
-        coeffs,
-        len,
-        protected,
-        order,
-        heads,
-        nexts,
-        fixed_heads,
-        fixed_nexts,
-    );
+    lay_basis(words, coeffs, len, protected, order, heads, nexts);
     let taken = run_and_clear(
         m,
         h_words,
@@ -111,24 +94,26 @@ pub fn leakage_with_prune(
         &words[..len * WORD_LANES],
         &coeffs[..len],
         heads,
-        &nexts[..len],
+        &nexts[..both],
         protected,
-        fixed_heads,
-        &fixed_nexts[..count],
         &order[..len],
         cand_words,
         cand_sums,
         room,
-        next_words,
-        next_sums,
         place_order,
         place_work,
-        place_kept,
     );
-    let listed = list_candidates(taken, cand_words, cand_sums, limits, out_words, out_values);
-    clear_lanes(h_index);
-    clear_lanes(j_index);
-    clear_five(order, heads, nexts, fixed_heads, fixed_nexts);
+    let listed = list_candidates(
+        taken,
+        cand_words,
+        cand_sums,
+        place_order,
+        limits,
+        out_words,
+        out_values,
+    );
+    clear_four(h_index, j_index, place_order, place_work);
+    clear_three(order, heads, nexts);
     clear_rows(cand_words, cand_sums);
     listed
 }

@@ -18,18 +18,12 @@ pub fn action_places(work_words: usize, work_sums: usize) -> usize
 pub fn row_places(
     cand_words: usize,
     cand_sums: usize,
-    next_words: usize,
-    next_sums: usize,
     place_order: usize,
     place_work: usize,
-    place_kept: usize,
 ) -> usize
-    ensures { λ r. ⌜ r ≡ rowPlaces «cand_words» «cand_sums» «next_words» «next_sums» «place_order» «place_work» «place_kept» ⌝ }
+    ensures { λ r. ⌜ r ≡ rowPlaces «cand_words» «cand_sums» «place_order» «place_work» ⌝ }
 {
-    let held = smaller(cand_words / WORD_LANES, cand_sums);
-    let copied = smaller(next_words / WORD_LANES, next_sums);
-    let rows = smaller(held, copied);
-    let ordered = smaller(place_order, place_work);
-    let places = smaller(ordered, place_kept);
+    let rows = smaller(cand_words / WORD_LANES, cand_sums);
+    let places = smaller(place_order, place_work);
     smaller(rows, places)
 }

@@ -1,20 +1,19 @@
 // SPDX-FileCopyrightText: 2026 The PPVM Authors
 // SPDX-License-Identifier: Apache-2.0
 
-// The passes, and then zero in every table that they write but the candidates.
+// The passes, and then zero in the tables of one action; the candidates and their order are left for the list.
 ghost use mathlib.Core.Path.{_≡_};
 ghost use mathlib.Core.List.{[]};
 ghost use Prim.Native.Nat.{_<_};
-ghost use lib.ListN.{length};
+ghost use lib.ListN.{length, replicate};
 ghost use Rattle.word.specs.Flat.{words as wordsIn};
+ghost use Rattle.number.specs.Floats.{float0};
 ghost use Rattle.order.specs.Between.{AllBelow};
 ghost use Rattle.model.specs.Between.{modelTables};
 ghost use Rattle.passes.specs.Between.{ModelReady, BasisReady, Took};
-ghost use Rattle.leakage.specs.Between.{passWork, zeroedPass};
 ghost use Rattle.passes.specs.Leaks.{passes, passCount, touchedAt, leaksAt};
 ghost use Rattle.leakage.specs.Leakages.{actionPlaces, rowPlaces};
 use crate::clear::clear_rows;
-use crate::clear::clear_three;
 use crate::places::action_places;
 use crate::places::row_places;
 use lent::clear::clear_lanes;
@@ -40,31 +39,23 @@ pub fn run_and_clear(
     heads: &[u64],
     nexts: &[u64],
     protected: &[u64],
-    fixed_heads: &[u64],
-    fixed_nexts: &[u64],
     positions: &[u64],
     cand_words: &mut [u64],
     cand_sums: &mut [f64],
     room: usize,
-    next_words: &mut [u64],
-    next_sums: &mut [f64],
     place_order: &mut [u64],
     place_work: &mut [u64],
-    place_kept: &mut [u64],
 ) -> Taken
     requires { ⌜ (0 < length (now positions) → ModelReady m (modelTables (now «h_words») (now «h_coeffs») (now jumps) (now rates) (now «t_words») (now «t_numbers»)) (now «h_index») (now «j_index») (now mask)) ⌝ }
-    requires { ⌜ (0 < length (now positions) → BasisReady (m .qubits) (now basis) (now coeffs) (now heads) (now nexts) (now protected) (now «fixed_heads») (now «fixed_nexts») × AllBelow (length (now coeffs)) (now positions)) ⌝ }
-    ensures { λ r. ⌜ Took (rowPlaces (length (now («cand_words» .entry))) (length (now («cand_sums» .entry))) (length (now («next_words» .entry))) (length (now («next_sums» .entry))) (length (now («place_order» .entry))) (length (now («place_work» .entry))) (length (now («place_kept» .entry)))) (passes (touchedAt m (modelTables (now («h_words» .entry)) (now («h_coeffs» .entry)) (now (jumps .entry)) (now (rates .entry)) (now («t_words» .entry)) (now («t_numbers» .entry))) (wordsIn (now (basis .entry))) (now (coeffs .entry)) (wordsIn (now (protected .entry)))) (leaksAt m (modelTables (now («h_words» .entry)) (now («h_coeffs» .entry)) (now (jumps .entry)) (now (rates .entry)) (now («t_words» .entry)) (now («t_numbers» .entry))) (wordsIn (now (basis .entry))) (now (coeffs .entry)) (wordsIn (now (protected .entry)))) (actionPlaces (length (now («work_words» .entry))) (length (now («work_sums» .entry)))) (rowPlaces (length (now («cand_words» .entry))) (length (now («cand_sums» .entry))) (length (now («next_words» .entry))) (length (now («next_sums» .entry))) (length (now («place_order» .entry))) (length (now («place_work» .entry))) (length (now («place_kept» .entry)))) room (passCount (length (now (positions .entry)))) (now (positions .entry)) []) (now («cand_words» .exit)) (now («cand_sums» .exit)) r × (passWork (now (mask .exit)) (now («work_words» .exit)) (now («work_sums» .exit)) (now («next_words» .exit)) (now («next_sums» .exit)) (now («place_order» .exit)) (now («place_work» .exit)) (now («place_kept» .exit)) ≡ zeroedPass (passWork (now (mask .entry)) (now («work_words» .entry)) (now («work_sums» .entry)) (now («next_words» .entry)) (now («next_sums» .entry)) (now («place_order» .entry)) (now («place_work» .entry)) (now («place_kept» .entry)))) ⌝ }
+    requires { ⌜ (0 < length (now positions) → BasisReady (m .qubits) (now basis) (now coeffs) (now heads) (now nexts) (now protected) × AllBelow (length (now coeffs)) (now positions)) ⌝ }
+    ensures { λ r. ⌜ Took (rowPlaces (length (now («cand_words» .entry))) (length (now («cand_sums» .entry))) (length (now («place_order» .entry))) (length (now («place_work» .entry)))) (passes (touchedAt m (modelTables (now («h_words» .entry)) (now («h_coeffs» .entry)) (now (jumps .entry)) (now (rates .entry)) (now («t_words» .entry)) (now («t_numbers» .entry))) (wordsIn (now (basis .entry))) (now (coeffs .entry)) (wordsIn (now (protected .entry)))) (leaksAt m (modelTables (now («h_words» .entry)) (now («h_coeffs» .entry)) (now (jumps .entry)) (now (rates .entry)) (now («t_words» .entry)) (now («t_numbers» .entry))) (wordsIn (now (basis .entry))) (now (coeffs .entry)) (wordsIn (now (protected .entry)))) (actionPlaces (length (now («work_words» .entry))) (length (now («work_sums» .entry)))) (rowPlaces (length (now («cand_words» .entry))) (length (now («cand_sums» .entry))) (length (now («place_order» .entry))) (length (now («place_work» .entry)))) room (passCount (length (now (positions .entry)))) (now (positions .entry)) []) (now («cand_words» .exit)) (now («cand_sums» .exit)) (now («place_order» .exit)) r × (now (mask .exit) ≡ replicate (length (now (mask .entry))) 0) × (now («work_words» .exit) ≡ replicate (length (now («work_words» .entry))) 0) × (now («work_sums» .exit) ≡ replicate (length (now («work_sums» .entry))) float0) ⌝ }
 {
     let sum_room = action_places(work_words.len(), work_sums.len());
     let candidate_room = row_places(
         cand_words.len(),
         cand_sums.len(),
-        next_words.len(),
-        next_sums.len(),
         place_order.len(),
         place_work.len(),
-        place_kept.len(),
     );
     let taken = run_passes(
         m,
@@ -85,8 +76,6 @@ pub fn run_and_clear(
         heads,
         nexts,
         protected,
-        fixed_heads,
-        fixed_nexts,
         positions,
         cand_words,
         cand_sums,
@@ -94,13 +83,8 @@ pub fn run_and_clear(
         room,
         place_order,
         place_work,
-        place_kept,
-        next_words,
-        next_sums,
     );
     clear_lanes(mask);
     clear_rows(work_words, work_sums);
-    clear_rows(next_words, next_sums);
-    clear_three(place_order, place_work, place_kept);
     taken
 }

@@ -13,10 +13,10 @@ use Rattle.refusal.specs.declared.Refusal.{Refusal}
 use Rattle.refusal.specs.declared.Refusal.the-variants.{NegativeRate, EmptyLincomb, NumberOutOfRange, CountAboveLimit}
 use Rattle.refusal.specs.declared.Answer.{Answer}
 use Rattle.refusal.specs.declared.Answer.the-variants.{Accepted, Refused}
-use Rattle.word.specs.Text.{parse}
+use Rattle.notation.specs.Text.{parse}
 use Rattle.word.specs.declared.word.Lanes.{Lanes}
-use Rattle.word.specs.declared.word.ParsedWord.{ParsedWord}
-use Rattle.word.specs.declared.word.ParsedWord.the-variants as Texts
+use Rattle.notation.specs.declared.texts.ParsedWord.{ParsedWord}
+use Rattle.notation.specs.declared.texts.ParsedWord.the-variants as Texts
 use Rattle.number.specs.Floats.{float0, inRange}
 use Rattle.model_build.specs.Given.{GivenReal, GivenTerm, GivenJump, readParsed, readReal, readTerm, readOperator, readJump}
 use Rattle.model_build.specs.Built.{parts, termItems}

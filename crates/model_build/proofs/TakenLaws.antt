@@ -16,10 +16,10 @@ use lib.ListN.{getD, length, take, drop, set, length-set}
 use Rattle.refusal.specs.declared.Refusal.{Refusal}
 use Rattle.refusal.specs.declared.Refusal.the-variants.{NegativeRate, EmptyLincomb, NumberOutOfRange, CountAboveLimit}
 use Rattle.word.specs.Flat.{layWord}
-use Rattle.word.specs.Text.{parse}
+use Rattle.notation.specs.Text.{parse}
 use Rattle.word.specs.declared.word.Word.{Word}
-use Rattle.word.specs.declared.word.ParsedWord.{ParsedWord}
-use Rattle.word.specs.declared.word.ParsedWord.the-variants as Texts
+use Rattle.notation.specs.declared.texts.ParsedWord.{ParsedWord}
+use Rattle.notation.specs.declared.texts.ParsedWord.the-variants as Texts
 use Rattle.number.specs.Floats.{floats, float0, inRange}
 use Rattle.gksl.specs.Model.{RealTerm, JumpOver}
 use Rattle.gksl.specs.Words.{pauli}

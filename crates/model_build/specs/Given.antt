@@ -10,10 +10,10 @@ use lib.Ieee.{Float, lt}
 use lib.ListN.{length}
 use Rattle.refusal.specs.declared.Refusal.the-variants.{NegativeRate, EmptyLincomb, NumberOutOfRange, CountAboveLimit}
 use Rattle.word.specs.Word.{unpack}
-use Rattle.word.specs.Text.{parse}
+use Rattle.notation.specs.Text.{parse}
 use Rattle.word.specs.declared.word.Word.{Word}
-use Rattle.word.specs.declared.word.ParsedWord.{ParsedWord}
-use Rattle.word.specs.declared.word.ParsedWord.the-variants.{Parsed, Refused}
+use Rattle.notation.specs.declared.texts.ParsedWord.{ParsedWord}
+use Rattle.notation.specs.declared.texts.ParsedWord.the-variants.{Parsed, Refused}
 use Rattle.number.specs.Numbers.{Cx}
 use Rattle.number.specs.Floats.{floats, float0, inRange}
 use Rattle.gksl.specs.Model.{RealTerm, JumpOver}

@@ -8,11 +8,11 @@ use mathlib.Core.List.{List, map}
 use lib.Ieee.{Float}
 use lib.ListN.{length, set}
 use Rattle.word.specs.Word.{identity, unpack}
-use Rattle.word.specs.Text.{parse}
+use Rattle.notation.specs.Text.{parse}
 use Rattle.word.specs.Flat.{layWord, wordLanes}
 use Rattle.word.specs.declared.word.Word.{Word}
-use Rattle.word.specs.declared.word.ParsedWord.{ParsedWord}
-use Rattle.word.specs.declared.word.ParsedWord.the-variants.{Parsed, Refused}
+use Rattle.notation.specs.declared.texts.ParsedWord.{ParsedWord}
+use Rattle.notation.specs.declared.texts.ParsedWord.the-variants.{Parsed, Refused}
 use Rattle.number.specs.Floats.{floats}
 use Rattle.gksl.specs.Model.{RealTerm, JumpOver}
 use Rattle.gksl.specs.Words.{pauli}

@@ -11,11 +11,11 @@ ghost use Rattle.model_build.specs.Given.{readParsed, readReal, readTerm
 ghost use Rattle.model_build.specs.Built.{parts, realItems, termItems, jumpItems, partsFit};
 ghost use Rattle.sums.specs.Numbers.{complexes};
 ghost use Rattle.model_build.specs.Items.{answerOf, readTerms};
+use notation::texts::ParsedWord;
+use notation::texts::parse_pauli_string;
 use number::scalar::in_range;
 use refusal::Answer;
 use refusal::Refusal;
-use word::word::ParsedWord;
-use word::word::parse_pauli_string;
 ghost use Rattle.lent.specs.Read.{each};
 ghost use Rattle.lent.specs.Laid.{total};
 

@@ -6,11 +6,11 @@ ghost use mathlib.Core.Path.{_≡_};
 ghost use mathlib.Core.List.{map};
 ghost use Rattle.model_build.specs.Built.{parts, realItems};
 ghost use Rattle.model_build.specs.Taken.{wordTaken, realTaken, RealsRoom, LaysReals};
+use notation::texts::ParsedWord;
+use notation::texts::parse_pauli_string;
 use word::flat::set_word;
-use word::word::ParsedWord;
 use word::word::Word;
 use word::word::identity_word;
-use word::word::parse_pauli_string;
 use word::word::unpacked;
 
 // The word of a text that was tested.

@@ -12,12 +12,12 @@ use lib.Ieee.{lt}
 use lib.ListN.{length, length-map}
 use Rattle.refusal.specs.declared.Refusal.the-variants.{NegativeRate, NumberOutOfRange}
 use Rattle.word.specs.Register.{reaches}
-use Rattle.word.specs.Text.{parse}
+use Rattle.notation.specs.Text.{parse}
 use Rattle.word.specs.Word.{Sound, unpack}
 use Rattle.word.specs.declared.word.Word.{Word}
-use Rattle.word.specs.declared.word.ParsedWord.{ParsedWord}
-use Rattle.word.specs.declared.word.ParsedWord.the-variants as Texts
-use Rattle.word.proofs.RoundTrips.{text-read}
+use Rattle.notation.specs.declared.texts.ParsedWord.{ParsedWord}
+use Rattle.notation.specs.declared.texts.ParsedWord.the-variants as Texts
+use Rattle.notation.proofs.RoundTrips.{text-read}
 use Rattle.word.proofs.Sums.{or-left, or-right}
 use Rattle.number.specs.Floats.{floats, float0, inRange}
 use Rattle.gksl.specs.Model.{RealTerm, JumpOver}

@@ -21,7 +21,7 @@ use Rattle.model.specs.Stored.{ModelTables}
 use Rattle.model.specs.Tested.{testModel}
 use Rattle.model.specs.declared.stored.Model.{Model}
 use Rattle.action.specs.Counts.{most}
-use Rattle.norm.specs.Columns.{meanOf, largestFrom, muOf, normOf}
+use Rattle.column_norm.specs.Columns.{meanOf, largestFrom, muOf, normOf}
 use Rattle.norm.specs.Norms.{Work, zeroed, normTests, finiteTests, normTested, normAnswer, partition, degreeAnswer, norming, selecting}
 use Rattle.norm.specs.declared.norm.Normed.the-variants.{Norm}
 use Rattle.norm.specs.declared.degree.Selected.the-variants.{Partition}

@@ -26,7 +26,7 @@ use Rattle.model.specs.declared.stored.Model.{Model}
 use Rattle.lent.proofs.Passed.{refused-not}
 use Rattle.lent.specs.Words.{outsideAt}
 use Rattle.action.specs.Counts.{most, touchedBy}
-use Rattle.norm.specs.Columns.{rawBy, diagBy}
+use Rattle.column_norm.specs.Columns.{rawBy, diagBy}
 use Rattle.norm.specs.Between.{Fills}
 
 -- ---- the first len words of a lent basis

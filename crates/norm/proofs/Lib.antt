@@ -3,9 +3,6 @@
 
 -- Laws of this crate.
 pub mod AnswerLaws
-pub mod BasisLaws
 pub mod CheckLaws
-pub mod ColumnLaws
 pub mod EmptyLaws
 pub mod FillLaws
-pub mod NormLaws

@@ -5,32 +5,26 @@
 use Prim.Native.Nat.{ℕ, _*_, _≤_, _<_}
 use mathlib.Core.Path.{_≡_}
 use mathlib.Core.Bool.{false, cond}
-use mathlib.Core.List.{List, [], _∷_, map}
+use mathlib.Core.List.{List, map}
 use lib.Dec.{ltb}
 use lib.Ieee.{Float}
 use lib.ListN.{length, take}
 use Rattle.refusal.specs.declared.Refusal.the-variants.{TableFull}
 use Rattle.refusal.specs.declared.Answer.{Answer}
 use Rattle.refusal.specs.declared.Answer.the-variants.{Accepted, Refused}
-use Rattle.word.specs.Flat.{words, wordLanes}
+use Rattle.word.specs.Flat.{wordLanes}
 use Rattle.word.specs.declared.word.Word.{Word}
-use Rattle.slots.specs.Between.{Slotted}
 use Rattle.model.specs.Stored.{ModelTables}
 use Rattle.model.specs.Tested.{testModel}
 use Rattle.model.specs.declared.stored.Model.{Model}
 use Rattle.rules_by_index.specs.Near.{ModelIndexed}
 use Rattle.action.specs.Counts.{most, touchedBy}
 use Rattle.lent.specs.Words.{maxWords, outsideAt}
-use Rattle.norm.specs.Columns.{meanOf, largest, columnNorm, rawBy, diagBy}
+use Rattle.column_norm.specs.Columns.{meanOf, largest, rawBy, diagBy}
+use Rattle.column_norm.specs.Between.{BasisSlots, columnNorms}
 use Rattle.norm.specs.declared.norm.Normed.{Normed}
 use Rattle.norm.specs.declared.norm.Normed.the-variants.{Norm, Refused}
 use Rattle.refusal.specs.declared.Answer.the-variants as Tests
-
--- the slots of the first so many words
-pub record BasisSlots (lanes : List ℕ) (len : ℕ) (heads nexts : List ℕ) : Type 0 where
-  pub lanes-long : wordLanes * len ≤ length lanes
-  pub nexts-long : len ≤ length nexts
-  pub slots : Slotted (take len (words lanes)) heads (take len nexts)
 
 -- a tested model, its index and a mask where there is a word to act on, places for the words of one action, and for each of so many
 -- basis words, slotted, a raw and a diagonal
@@ -58,13 +52,7 @@ pub record Fills (room : ℕ) (m : Model) (t : ModelTables) (ps : List Word) (le
   pub raws-are : r ≡ Accepted → take len raws ≡ map (rawBy m t ps) ps
   pub diags-are : r ≡ Accepted → take len diags ≡ map (diagBy m t) ps
 
--- the column norms of raws and diagonals side by side
-unfoldable pub columnNorms : Float → List Float → List Float → List Float
-columnNorms mu [] ds = []
-columnNorms mu (r ∷ rs) [] = []
-columnNorms mu (r ∷ rs) (d ∷ ds) = columnNorm mu r d ∷ columnNorms mu rs ds
-
--- the same from raws and diagonals side by side
+-- mean and largest norm, from raws and diagonals side by side
 abbrev pub normFrom : Answer → List Float → List Float → Normed
 normFrom (Tests.Refused r) raws diags = Refused r
 normFrom Tests.Accepted raws diags = Norm (meanOf diags) (largest (columnNorms (meanOf diags) raws diags))

@@ -25,7 +25,7 @@ use Rattle.lent.specs.Numbers.{finiteThreshold}
 use Rattle.model.specs.declared.stored.Model.{Model}
 use Rattle.action.specs.Acts.{sumPlaces}
 use Rattle.action.specs.Counts.{rowLanes, most, touchedBy}
-use Rattle.norm.specs.Columns.{muOf, normOf}
+use Rattle.column_norm.specs.Columns.{muOf, normOf}
 use Rattle.norm.specs.declared.norm.Normed.{Normed}
 use Rattle.norm.specs.declared.norm.Normed.the-variants.{Norm, Refused}
 use Rattle.norm.specs.declared.degree.Selected.{Selected}

@@ -3,84 +3,19 @@
 
 // Raw and diagonal of each column of the generator: one action for each basis word. The model is tested
 // and indexed once, before, and the slots of the basis are laid.
-ghost use mathlib.Core.Path.{_≡_};
-ghost use Prim.Native.Nat.{_*_, _≤_};
-ghost use lib.ListN.{length, take};
-ghost use Rattle.word.specs.Flat.{words as wordsIn, wordLanes};
-ghost use Rattle.sums.specs.Sums.{sumRows};
+ghost use lib.ListN.{take};
+ghost use Rattle.word.specs.Flat.{words as wordsIn};
 ghost use Rattle.model.specs.Between.{modelTables};
-ghost use Rattle.norm.specs.Between.{BasisSlots, ColumnRoom, Fills};
-ghost use Rattle.action.specs.Acts.{listed};
-ghost use Rattle.norm.specs.Columns.{rawOf, diagOf};
-use crate::basis::in_basis;
+ghost use Rattle.norm.specs.Between.{ColumnRoom, Fills};
+use column_norm::column::diagonal_of;
+use column_norm::column::raw_of;
 use lent::sizes::SUMS_TABLE;
 use model::stored::Model;
-use model::term::term_at;
-use number::scalar::is_zero;
-use number::scalar::magnitude;
 use refusal::Answer;
 use refusal::Refusal;
 use rules_by_index::near::put_rules_near;
 use sums::sums::Added;
 use word::flat::word_at;
-use word::word::Word;
-use word::word::same_word;
-
-// The magnitudes of those of the first `count` sums whose words are among the first `len` basis words,
-// added in word order.
-fn raw_of(
-    sum_words: &[u64],
-    sums: &[f64],
-    count: usize,
-    words: &[u64],
-    len: usize,
-    heads: &[u64],
-    nexts: &[u64],
-) -> f64
-    requires { ⌜ (wordLanes * count ≤ length (now «sum_words»)) × (2 * count ≤ length (now sums)) × BasisSlots (now words) len (now heads) (now nexts) ⌝ }
-    ensures { λ r. ⌜ r ≡ rawOf (take len (wordsIn (now (words .entry)))) (listed (sumRows count (now («sum_words» .entry)) (now (sums .entry)))) ⌝ }
-{
-    let mut raw = 0.0;
-    let mut i = 0;
-    while i < count {
-        let t = term_at(sum_words, sums, i);
-        let x = t.number.re;
-        let w = t.word;
-        if is_zero(x) {
-            i += 1;
-        } else {
-            if in_basis(words, len, heads, nexts, w) {
-                raw = raw + magnitude(x);
-                i += 1;
-            } else {
-                i += 1;
-            }
-        }
-    }
-    raw
-}
-
-// The one onto a word, or 0.
-fn diagonal_of(words: &[u64], sums: &[f64], len: usize, w: Word) -> f64
-    requires { ⌜ (wordLanes * len ≤ length (now words)) × (2 * len ≤ length (now sums)) ⌝ }
-    ensures { λ r. ⌜ r ≡ diagOf w (listed (sumRows len (now (words .entry)) (now (sums .entry)))) ⌝ }
-{
-    let mut i = 0;
-    while i < len {
-        let t = term_at(words, sums, i);
-        let x = t.number.re;
-        let v = t.word;
-        if is_zero(x) {
-            i += 1;
-        } else {
-            if same_word(v, w) {
-                return x;
-            }
-            i += 1;
-        }
-    }
-    0.0
-}
 
 pub fn fill_columns(
     m: Model,

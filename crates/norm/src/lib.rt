@@ -2,7 +2,6 @@
 // SPDX-License-Identifier: Apache-2.0
 
 // The norm of the generator over a lent basis, and the Taylor degree for it.
-pub mod basis;
 pub mod check;
 pub mod columns;
 pub mod degree;

@@ -9,19 +9,19 @@ ghost use Rattle.refusal.specs.declared.Answer.the-variants.{Accepted};
 ghost use Rattle.word.specs.Flat.{words as wordsIn};
 ghost use Rattle.number.specs.Floats.{float0};
 ghost use Rattle.model.specs.Between.{modelTables};
-ghost use Rattle.norm.specs.Between.{BasisSlots, columnNorms, Fills, normFrom};
+ghost use Rattle.norm.specs.Between.{Fills, normFrom};
+ghost use Rattle.column_norm.specs.Between.{BasisSlots};
 ghost use Rattle.action.specs.Acts.{sumPlaces};
-ghost use Rattle.norm.specs.Columns.{columnNorm, meanOf, largest};
 ghost use Rattle.norm.specs.Norms.{workOf, zeroed, normTests, normCourse, norming};
-use crate::basis::lay_basis;
 use crate::check::check_norm;
 use crate::columns::fill_columns;
+use column_norm::basis::lay_basis;
+use column_norm::norms::largest_column;
+use column_norm::norms::mean;
 use lent::clear::clear_lanes;
 use lent::clear::clear_numbers;
 use lent::sizes::smaller;
 use model::stored::Model;
-use number::scalar::larger;
-use number::scalar::magnitude;
 use refusal::Answer;
 use refusal::Refusal;
 use rules_by_index::indexed::index_model;
@@ -33,45 +33,7 @@ pub enum Normed {
     Refused(Refusal),
 }
 
-// The mean of the first `len` diagonals; 0 where there is none.
-fn mean(diags: &[f64], len: usize) -> f64
-    requires { ⌜ (len ≤ length (now diags)) × (len ≤ 65536) ⌝ }
-    ensures { λ r. ⌜ r ≡ meanOf (take len (now (diags .entry))) ⌝ }
-{
-    if len == 0 {
-        return 0.0;
-    }
-    let mut sum = 0.0;
-    let mut i = 0;
-    while i < len {
-        sum = sum + diags[i];
-        i += 1;
-    }
-    sum / (len as f64)
-}
-
-fn column_norm(raw: f64, diag: f64, mu: f64) -> f64
-    ensures { λ r. ⌜ r ≡ columnNorm mu raw diag ⌝ }
-{
-    raw - magnitude(diag) + magnitude(diag - mu)
-}
-
-// The largest norm of the first `len` columns, and 0 where there is none.
-fn largest_column(raws: &[f64], diags: &[f64], len: usize, mu: f64) -> f64
-    requires { ⌜ (len ≤ length (now raws)) × (len ≤ length (now diags)) ⌝ }
-    ensures { λ r. ⌜ r ≡ largest (columnNorms mu (take len (now (raws .entry))) (take len (now (diags .entry)))) ⌝ }
-{
-    let mut norm = 0.0;
-    let mut i = 0;
-    while i < len {
-        let column = column_norm(raws[i], diags[i], mu);
-        norm = larger(norm, column);
-        i += 1;
-    }
-    norm
-}
-
-// The same where the columns were filled.
+// The mean diagonal and the largest norm of the first `len` columns, where they were filled.
 fn norm_of(filled: Answer, raws: &[f64], diags: &[f64], len: usize) -> Normed
     requires { ⌜ (len ≤ length (now raws)) × (len ≤ length (now diags)) × (len ≤ 65536) ⌝ }
     ensures { λ r. ⌜ r ≡ normFrom filled (take len (now (raws .entry))) (take len (now (diags .entry))) ⌝ }

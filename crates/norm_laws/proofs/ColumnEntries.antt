@@ -25,7 +25,7 @@ use Rattle.model.specs.declared.stored.Model.{Model}
 use Rattle.action.specs.Acts.{actionOf}
 use Rattle.columns.specs.Entries.{Entry, entry}
 use Rattle.columns.specs.Columns.{placeIn, columnEntries, columnsFrom, generatorOf}
-use Rattle.norm.specs.Columns.{total, insideOf, rawOf, rawBy}
+use Rattle.column_norm.specs.Columns.{total, insideOf, rawOf, rawBy}
 use Rattle.norm_laws.specs.Yardstick.{inColumn, columnSum}
 
 abbrev sizes : List Term → List Float

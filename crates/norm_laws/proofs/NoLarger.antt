@@ -49,7 +49,7 @@ use Rattle.expm.specs.declared.Degree.{Degree}
 use Rattle.expm.specs.declared.Chosen.the-variants.{Pair}
 use Rattle.expm.proofs.CeilingLaws.{chosen-under, answers}
 use Rattle.expm.proofs.GrowthLaws.{products-mono}
-use Rattle.norm.specs.Columns.{sumFrom, total, insideOf, rawOf, diagOf, columnNorm, largestFrom, rawBy, diagBy, muOf, normOf}
+use Rattle.column_norm.specs.Columns.{sumFrom, total, insideOf, rawOf, diagOf, columnNorm, largestFrom, rawBy, diagBy, muOf, normOf}
 use Rattle.norm_laws.specs.Yardstick.{rawOfAll, normOfAll}
 use Rattle.norm_laws.proofs.KeySums.{Plain, Finite, round-plain, under-top, inf-not, zero-key, sum-plain, sum-mono, sum-grows, sum-covers, less-plain, less-mono}
 

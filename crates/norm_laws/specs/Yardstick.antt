@@ -15,7 +15,7 @@ use Rattle.model.specs.Terms.{Term}
 use Rattle.model.specs.declared.stored.Model.{Model}
 use Rattle.action.specs.Acts.{actionOf}
 use Rattle.columns.specs.Entries.{Entry}
-use Rattle.norm.specs.Columns.{total, largest, columnNorm, muOf, diagBy}
+use Rattle.column_norm.specs.Columns.{total, largest, columnNorm, muOf, diagBy}
 
 -- ---- the generator
 -- the entries of column c, in their order

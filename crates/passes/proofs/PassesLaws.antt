@@ -2,20 +2,29 @@
 -- SPDX-License-Identifier: Apache-2.0
 
 -- The passes one by one: what is left of them gives the answer of all. Assumes nothing.
-use mathlib.Core.Path.{_≡_, refl, ap, sym, _∙_}
-use mathlib.Core.List.{List, []}
+use mathlib.Core.Path.{_≡_, refl, ap, ap₂, sym, _∙_}
+use mathlib.Core.List.{List, [], _∷_, _++_, map}
 use Prim.Native.Nat.{ℕ, suc, _+_, _-_, _*_, _≤_, _<_, min}
 use native.Mathlib.Omega.{arith}
 use native.Mathlib.Decide.{decLt}
-use lib.Ieee.{Float}
-use lib.ListN.{length, take, drop, replicate, length-drop, drop-of-length-le}
-use lib.Seq.{take-all, drop-drop}
+use lib.Ieee.{Float, nan}
+use lib.ListN.{length, getD, take, drop, replicate, length-drop, drop-of-length-le}
+use lib.Seq.{take-all, take-at, drop-drop, getD-take, length-take-le, length-front}
 use Rattle.refusal.specs.declared.Refusal.{Refusal}
-use Rattle.word.specs.Flat.{wordLanes}
+use Rattle.word.specs.Flat.{wordLanes, words}
+use Rattle.word.specs.Word.{identity}
+use Rattle.word.specs.declared.word.Word.{Word}
+use Rattle.word.proofs.FlatLaws.{words-take, words-high}
+use Rattle.order.specs.Between.{All, AllBelow, byWord}
+use Rattle.order.proofs.Members.{all-at, all-more}
+use Rattle.order.proofs.PlaceLaws.{by-word}
 use Rattle.slots.proofs.SlotLaws.{none-slotted}
-use Rattle.candidates.specs.Sums.{putAll}
+use Rattle.candidates.specs.Sums.{Row, row, putAll}
 use Rattle.candidates.specs.Tables.{Rows, candidateRows}
-use Rattle.candidates.specs.Between.{inWordOrder, Standing, Orderable}
+use Rattle.candidates.specs.Between.{inWordOrder, rowAt, Standing}
+use Rattle.candidates.proofs.RowLaws.{first-entries}
+use Rattle.candidates.proofs.PositionLaws.{rows-by-word}
+use Rattle.candidates.proofs.PivotLaws.{by-word-below}
 use Rattle.model.specs.Stored.{ModelTables}
 use Rattle.model.specs.declared.stored.Model.{Model}
 use Rattle.lent.specs.Read.{Read, got, refused, onward}
@@ -23,8 +32,7 @@ use Rattle.passes.specs.Leaks.{takenBy, ended, passSize, passCount, pass
 use Rattle.passes.specs.declared.taken.Taken.{Taken}
 use Rattle.passes.specs.declared.taken.Taken.the-variants.{Held, Refused}
 use Rattle.passes.proofs.TookLaws.{took-held, took-refused, stood-held, stood-refused}
-use Rattle.passes.proofs.RoomLaws.{stand-orderable}
-use Rattle.passes.specs.Between.{ModelReady, ActionRoom, Stood, Took}
+use Rattle.passes.specs.Between.{ModelReady, ActionRoom, rowsAt, Stood, Took}
 
 -- ---- tables that a pass has written keep their lengths, and so what is asked of them
 pub ready-still : (m : Model) (t : ModelTables) (hIndex jIndex mask mask′ : List ℕ) → ModelReady m t hIndex jIndex mask → length mask′ ≡ length mask → ModelReady m t hIndex jIndex mask′
@@ -119,14 +127,61 @@ unfolding inWordOrder putAll
 none-stand room m lanes sums heads nexts hl hs e hh hn =
     record { lanes-long = hl; sums-long = hs; heads-long = hh; nexts-long = hn; inside = omega arith; slots = rw e (none-slotted m); once = refl }
 
+-- what is put in the first places of a table, as many as a step holds, leaves its length
+pub front-kept : (r : Taken) (n : ℕ) → r ≡ Held n → (d e : List ℕ) → length e ≡ length (take n d) → length (e ++ drop n d) ≡ length d
+front-kept r n held d e h = length-front d e n h
+
+-- the candidates at positions in word order
+map-same : (f g : ℕ → Row Word Float) (l : List ℕ) → All (λ p. f p ≡ g p) l → map f l ≡ map g l
+unfolding All
+map-same f g [] a = refl
+map-same f g (p ∷ l) a = ap₂ (λ (r : Row Word Float) (t : Rows). r ∷ t) (a .0) (map-same f g l (a .1))
+
 module _ (room : ℕ) (course : Read Rows) (lanes : List ℕ) (sums : List Float) (heads nexts : List ℕ) (r : Taken) (s : Stood room course lanes sums heads nexts r) where
-  pub run-refused : (q : Refusal) → r ≡ Refused q → Took room course lanes sums r
-  run-refused q e = rw e (took-refused room course lanes sums q (s .stopped q e))
+  pub run-refused : (q : Refusal) → r ≡ Refused q → (order : List ℕ) → Took room course lanes sums order r
+  run-refused q e order = rw e (took-refused room course lanes sums order q (s .stopped q e))
 
-  pub run-orderable : (n : ℕ) → r ≡ Held n → (nextLanes : List ℕ) (nextSums : List Float) → wordLanes * room ≤ length nextLanes → room ≤ length nextSums → Orderable n lanes sums heads nexts nextLanes nextSums
-  run-orderable n e nextLanes nextSums hl hs =
-      let k = s .held n e .0 in
-      stand-orderable room n lanes sums heads nexts k nextLanes nextSums (omega (arith, hl, k .inside)) (omega (arith, hs, k .inside))
+  module _ (n : ℕ) (e : r ≡ Held n) where
+    abbrev k : Standing room n lanes sums heads nexts
+    k = s .held n e .0
 
-  pub run-held : (n : ℕ) → r ≡ Held n → (lanes′ : List ℕ) (sums′ : List Float) → candidateRows n lanes′ sums′ ≡ inWordOrder (candidateRows n lanes sums) → Took room course lanes′ sums′ (Held n)
-  run-held n e lanes′ sums′ f = took-held room course lanes′ sums′ n (s .held n e .0 .inside) (rw f (s .held n e .1))
+    -- what ordering asks for
+    pub run-long : (n ≤ room) × (wordLanes * n ≤ length lanes) × (n ≤ length heads) × (n ≤ length nexts)
+    run-long = (k .inside, omega (arith, k .inside, k .lanes-long), omega (arith, k .inside, k .heads-long), omega (arith, k .inside, k .nexts-long))
+
+    pub run-asks : (wordLanes * length (take n heads) ≡ length (take (n * wordLanes) lanes)) × (wordLanes * length (take n nexts) ≡ length (take (n * wordLanes) lanes))
+    run-asks =
+        let w = length-take-le (n * wordLanes) lanes (omega (arith, run-long .1)) in
+        (omega (arith, w, length-take-le n heads (run-long .2)), omega (arith, w, length-take-le n nexts (run-long .3)))
+
+    module _ (o rest : List ℕ) (is : o ≡ byWord (words (take (n * wordLanes) lanes))) where
+      abbrev ws : List Word
+      ws = words (take (n * wordLanes) lanes)
+
+      ws-are : ws ≡ take n (words lanes)
+      ws-are = let z : n * wordLanes ≡ wordLanes * n = omega arith in ap (λ (m : ℕ). words (take m lanes)) z ∙ words-take n lanes
+
+      ws-long : length ws ≡ n
+      ws-long = ap length ws-are ∙ length-take-le n (words lanes) (omega (arith, k .lanes-long, k .inside, words-high lanes))
+
+      o-long : length o ≡ n
+      o-long = ap length is ∙ by-word ws .size ∙ ws-long
+
+      below : AllBelow n o
+      below = rw is (by-word-below ws n ws-long)
+
+      rows-are : inWordOrder (candidateRows n lanes sums) ≡ rowsAt lanes sums o
+      rows-are =
+          ap inWordOrder (sym (first-entries n lanes sums))
+          ∙ rows-by-word ws sums (omega (arith, ws-long, k .sums-long, k .inside)) o is (ap (λ (t : Rows). length (inWordOrder t)) (first-entries n lanes sums) ∙ k .once ∙ sym o-long)
+          ∙ map-same (rowAt ws sums) (rowAt (words lanes) sums) o
+          (all-more (λ x. x < n) (λ x. rowAt ws sums x ≡ rowAt (words lanes) sums x) (λ x h. ap (λ (w : Word). row w (getD sums x nan)) (ap (λ (l : List Word). getD l x identity) ws-are ∙ getD-take n (words lanes) x identity h)) o below)
+
+      in-n : (i : ℕ) → i < length o → getD o i 0 < n
+      in-n i h = all-at (λ x. x < n) o i below h
+
+      pub run-held : Took room course lanes sums (o ++ rest) (Held n)
+      run-held =
+          let first : take n (o ++ rest) ≡ o = take-at o rest n o-long in
+          took-held room course lanes sums (o ++ rest) n (k .inside) (s .held n e .1 ∙ ap got rows-are ∙ rw first)
+          (rw first (record { in-lanes = λ i h. omega (arith, in-n i h, k .lanes-long, k .inside); in-sums = λ i h. omega (arith, in-n i h, k .sums-long, k .inside) }))

@@ -3,47 +3,52 @@
 
 -- The room rule: how many candidates stay, with room for all and for none; and a pass's end. Assumes nothing.
 use mathlib.Core.Path.{_≡_, refl, ap, sym, _∙_}
-use mathlib.Core.Bool.{Bool, true, false, not, cond, true≢false}
+use mathlib.Core.Bool.{Bool, true, false, not, _&&_, _||_, cond, true≢false}
 use mathlib.Core.List.{List, [], _∷_, _++_, map}
-use Prim.Native.Nat.{ℕ, suc, _*_, _≤_, _<_, min}
+use Prim.Native.Nat.{ℕ, zero, suc, _+_, _*_, _≤_, _<_, min}
 use native.Mathlib.Omega.{arith}
 use native.Mathlib.Decide.{decLt}
-use borrow.Author.Tests.{lt-ltb, le-ltb, not-false, not-true}
+use borrow.Author.Tests.{lt-ltb, le-ltb, ltb-true, not-false, not-true}
 use lib.Dec.{eqb, ltb}
-use lib.Ieee.{Float, nan}
-use lib.ListN.{length, getD, take, drop, replicate, length-append, length-drop, length-map, length-replicate, List·getD-map}
-use lib.Seq.{take-all, take-at, take-length, length-take-le, getD-take}
+use lib.Dec as D
+use lib.Ieee.{Float, nan, fits, binary64}
+use lib.ListN.{length, getD, take, drop, replicate, length-append, length-drop, length-map, length-replicate, getD-replicate, List·getD-map}
+use lib.Seq.{take-all, take-at, length-take-le, getD-take}
 use Rattle.refusal.specs.declared.Refusal.the-variants.{SumNotFinite}
 use Rattle.word.specs.Flat.{wordLanes, words}
 use Rattle.word.specs.Order.{before}
 use Rattle.word.specs.declared.word.Word.{Word}
-use Rattle.word.proofs.FlatLaws.{words-take}
-use Rattle.number.specs.Floats.{floats, isFinite}
-use Rattle.order.specs.Magnitudes.{byMagnitude}
+use Rattle.word.proofs.FlatLaws.{words-take, words-count}
+use Rattle.number.specs.Floats.{floats, magnitude, isFinite}
+use Rattle.order.specs.Magnitudes.{byMagnitude, keyAt}
+use Rattle.order.specs.Between.{AreFinite, AllFinite}
+use Rattle.order.proofs.MagnitudeLaws.{size-lt}
 use Rattle.keep.specs.Retained.{pick, flagged}
 use Rattle.keep.specs.Chosen.{flagOf, chosen}
+use Rattle.keep.specs.Largest.{staysFlag, KeepsTo}
+use Rattle.keep.specs.Between.{EachOnce}
 use Rattle.keep.proofs.ChosenLaws.{walked-length, chosen-unfixed}
-use Rattle.keep.proofs.FlagLaws.{flagged-few}
+use Rattle.keep.proofs.FlagLaws.{flagged-few, flagged-none}
+use Rattle.keep.proofs.LargestLaws.{chosen-by-last}
 use Rattle.keep.proofs.PickLaws.{pick-length}
 use Rattle.slots.specs.Between.{Slotted}
-use Rattle.candidates.specs.Sums.{Row, AllAfter, Rising}
-use Rattle.candidates.specs.Tables.{Rows, candidateRows}
-use Rattle.candidates.specs.Between.{latest, inWordOrder, Standing, Orderable}
-use Rattle.candidates.proofs.PutLaws.{strict}
-use Rattle.candidates.proofs.RisingLaws.{rising-all}
-use Rattle.candidates.proofs.RowLaws.{noRow, table-long, table-at}
-use Rattle.candidates.proofs.WordOrderLaws.{Each, each-by, each-at, each-all, all-each, rising-own}
+use Rattle.candidates.specs.Sums.{Row, AllAfter, Rising, putAll}
+use Rattle.candidates.specs.Tables.{Rows, rows, candidateRows}
+use Rattle.candidates.specs.Between.{inWordOrder, those, rowAt, goesAhead, staysBeside, Standing, CutTo, BadPlace}
+use Rattle.candidates.proofs.PutLaws.{strict, asym}
+use Rattle.candidates.proofs.RisingLaws.{order-rising}
+use Rattle.candidates.proofs.RowLaws.{noRow, rows-at, rows-few, table-long, table-at}
+use Rattle.candidates.proofs.ThoseLaws.{those-order, those-count, rising-at}
+use Rattle.candidates.proofs.BadLaws.{FirstBad, first-bad}
+use Rattle.candidates.proofs.WordOrderLaws.{Each, each-by, each-at, each-all, all-each}
 use Rattle.lent.specs.Read.{got, refused, refuseIf}
 use Rattle.lent.specs.Tests.{firstTo}
-use Rattle.lent.proofs.Firsts.{first-cong, first-none, first-before, first-passes}
+use Rattle.lent.proofs.Firsts.{first-none, first-here, first-before, first-passes}
 use Rattle.lent.specs.Numbers.{notFinite}
-use Rattle.truncate.proofs.ChecksLaws.{front-finite}
-use Rattle.truncate.proofs.OrderOnce.{magnitude-once}
+use Rattle.keep.proofs.OrderOnce.{magnitude-once}
 use Rattle.passes.specs.Leaks.{sumsOf, largest, ended}
-use Rattle.passes.proofs.TableLaws.{table-sums, table-first, table-left, table-kept}
-use Rattle.passes.specs.Between.{Holding, FiniteRows}
-use Rattle.order.specs.Between.{AreFinite}
-use Rattle.keep.specs.Between.{Retains, EachOnce}
+use Rattle.passes.proofs.TableLaws.{table-first, table-left}
+use Rattle.passes.specs.Between.{FiniteRows}
 
 -- ---- flags for all, and for none
 pick-all : (ks : List ℕ) (T : Rows) → flagged ks ≡ length ks → length ks ≡ length T → pick ks T ≡ T
@@ -135,47 +140,144 @@ ended-count room T T′ e = go (ltb (firstTo (length T) (notFinite (sumsOf T))) 
     go true f = let z : _≡_ {A = ℕ} 0 1 = cc in absurd (omega arith)
     go false f = let z : largest room T ≡ T′ = cc in ap length (sym z) ∙ largest-count room T
 
--- ---- in lent tables of exact lengths
-module _ (room : ℕ) (lanes : List ℕ) (sums : List Float) (each : length lanes ≡ wordLanes * length sums) where
-  abbrev all : Rows
-  all = candidateRows (length sums) lanes sums
+-- ---- the rows that stay beside one, where they are as many as there is room for
+module _ (p : Row Word Float → Bool) where
+  abbrev marks : Rows → List ℕ
+  marks = map (λ (r : Row Word Float). cond (p r) 1 0)
 
-  all-sums : sumsOf all ≡ sums
-  all-sums = table-sums (length sums) lanes sums (omega (arith, each)) (omega arith) ∙ take-length sums
+  marks-pick : (T : Rows) → pick (marks T) T ≡ those p T
+  unfolding pick those
+  marks-pick [] = refl
+  marks-pick (r ∷ T) = go (p r) (marks-pick T)
+    where
+      go : (b : Bool) → pick (marks T) T ≡ those p T → cond (eqb (cond b 1 0) 0) (pick (marks T) T) (r ∷ pick (marks T) T) ≡ cond b (r ∷ those p T) (those p T)
+      go true e = ap (λ (t : Rows). r ∷ t) e
+      go false e = e
 
-  all-long : length all ≡ length sums
-  all-long = table-long (length sums) lanes sums (omega (arith, each)) (omega arith)
+  marks-raised : (T : Rows) → flagged (marks T) ≡ length (those p T)
+  unfolding flagged those
+  marks-raised [] = refl
+  marks-raised (r ∷ T) = go (p r) (marks-raised T)
+    where
+      go : (b : Bool) → flagged (marks T) ≡ length (those p T) → cond (eqb (cond b 1 0) 0) (flagged (marks T)) (suc (flagged (marks T))) ≡ length (cond b (r ∷ those p T) (those p T))
+      go true e = ap suc e
+      go false e = e
 
-  module _ (fixed kept : List ℕ) (m : ℕ) (ef : fixed ≡ replicate m 0) (em : m ≡ length sums) (ek : kept ≡ chosen (byMagnitude sums) fixed room) (long : length kept ≡ length sums) where
-    kept-are : kept ≡ flags room all
-    kept-are = ek ∙ rw (ef, em, all-sums, all-long)
+module _ (room : ℕ) (T : Rows) (rises : Rising before T) (finite : AllFinite (sumsOf T)) where
+  abbrev xs : List Float
+  xs = sumsOf T
 
-    pub retained-largest : (r : ℕ) (lanes′ : List ℕ) (sums′ : List Float) → Retains (length sums) kept lanes sums r lanes′ sums′
-        → (r ≤ length sums) × (candidateRows r lanes′ sums′ ≡ largest room all)
+  abbrev zeros : List ℕ
+  zeros = replicate (length T) 0
+
+  xs-long : length xs ≡ length T
+  xs-long = length-map T (λ r. r .sum)
+
+  x-at : (i : ℕ) → getD T i noRow .sum ≡ getD xs i nan
+  x-at i = sym (List·getD-map (λ (r : Row Word Float). r .sum) T i noRow)
+
+  module _ (k : ℕ) (h : k < length T) where
+    abbrev q : Row Word Float
+    q = getD T k noRow
+
+    -- words are compared as places are
+    later : (i : ℕ) → i < length T → before (q .word) (getD T i noRow .word) ≡ ltb k i
+    later i l = go (decLt k i) (decLt i k)
+      where
+        go : Dec (k < i) → Dec (i < k) → before (q .word) (getD T i noRow .word) ≡ ltb k i
+        go (yes a) b = rising-at before strict noRow T k i rises a l ∙ sym (lt-ltb k i a)
+        go (no a) (yes b) = asym before strict (getD T i noRow .word) (q .word) (rising-at before strict noRow T i k rises b h) ∙ sym (le-ltb k i (omega arith))
+        go (no a) (no b) = let e : i ≡ k = omega arith in rw e (strict .never (q .word)) ∙ sym (le-ltb k i (omega arith))
+
+    mark-is : (i : ℕ) → i < length T → cond (staysBeside q (getD T i noRow)) 1 0 ≡ staysFlag (magnitude (getD xs k nan)) k i (getD xs i nan) 0
+    unfolding staysBeside goesAhead staysFlag
+    mark-is i l =
+        rw (x-at k, x-at i, later i l, size-lt xs finite k i (omega (arith, xs-long)) (omega (arith, xs-long)), size-lt xs finite i k (omega (arith, xs-long)) (omega (arith, xs-long)))
+        (go (ltb (keyAt xs i) (keyAt xs k)) refl (ltb (keyAt xs k) (keyAt xs i)) refl (ltb k i))
+      where
+        go : (u : Bool) → ltb (keyAt xs i) (keyAt xs k) ≡ u → (v : Bool) → ltb (keyAt xs k) (keyAt xs i) ≡ v → (w : Bool) → _≡_ {A = ℕ} (cond (not (u || (not v && w))) 1 0) (cond w (cond v 1 0) (cond u 0 1))
+        go true e true f w = absurd (omega (arith, ltb-true (keyAt xs i) (keyAt xs k) e, ltb-true (keyAt xs k) (keyAt xs i) f))
+        go true e false f true = refl
+        go true e false f false = refl
+        go false e true f true = refl
+        go false e true f false = refl
+        go false e false f true = refl
+        go false e false f false = refl
+
+    abbrev ks : List ℕ
+    ks = marks (staysBeside q) T
+
+    ks-at : (i : ℕ) → i < length T → getD ks i 0 ≡ cond (staysBeside q (getD T i noRow)) 1 0
+    ks-at i l =
+        let f : Row Word Float → ℕ = λ r. cond (staysBeside q r) 1 0 in
+        getD-any ks i 0 (f noRow) (omega (arith, length-map T f)) ∙ List·getD-map f T i noRow
+      where
+        getD-any : (l : List ℕ) (i d e : ℕ) → i < length l → getD l i d ≡ getD l i e
+        getD-any [] i d e g = absurd (omega arith)
+        getD-any (a ∷ l) zero d e g = refl
+        getD-any (a ∷ l) (suc i) d e g = getD-any l i d e (omega arith)
+
+    pub beside-largest : length (those (staysBeside (getD T k noRow)) T) ≡ room → those (staysBeside (getD T k noRow)) T ≡ largest room T
     unfolding largest
-    retained-largest r lanes′ sums′ s =
-        let raised : r ≡ min room (length sums) = s .answers ∙ ap flagged (take-all (length sums) kept (omega (arith, long)) ∙ kept-are) ∙ flags-raised room all ∙ ap (min room) all-long in (
-          omega (arith, raised),
-          table-kept (length sums) kept lanes sums r lanes′ sums′ (omega (arith, long)) (omega (arith, each)) (omega arith) s ∙ ap (λ (ks : List ℕ). pick ks all) kept-are,
-        )
+    beside-largest e =
+        let zl : length zeros ≡ length T = length-replicate (length T) 0 in
+        let kl : length ks ≡ length T = length-map T (λ r. cond (staysBeside q r) 1 0) in
+        let keeps : KeepsTo xs zeros k room ks = record {
+          long = kl ∙ sym zl;
+          flags = λ i l.
+              let m : i < length T = omega (arith, zl) in
+              ks-at i m ∙ mark-is i m ∙ ap (staysFlag (magnitude (getD xs k nan)) k i (getD xs i nan)) (sym (getD-replicate (length T) i 0 0 m));
+          others = omega (arith, e, flagged-none (length T), marks-raised (staysBeside q) T);
+        } in
+        sym (marks-pick (staysBeside q) T) ∙ ap (λ (l : List ℕ). pick l T) (chosen-by-last xs finite zeros (zl ∙ sym xs-long) room k (omega (arith, xs-long)) ks keeps)
 
--- ---- in the first places of lent tables
-module _ (n room : ℕ) (lanes : List ℕ) (sums : List Float) (h : Holding n n lanes sums) where
-  abbrev first : Rows
-  first = candidateRows n lanes sums
+-- ---- of rows that stand in any order
+module _ (room : ℕ) (U : Rows) (once : length (inWordOrder U) ≡ length U) where
+  abbrev T : Rows
+  T = inWordOrder U
 
-  pub kept-some : (r : ℕ) (lanes′ : List ℕ) (sums′ : List Float) → length lanes′ ≡ length (take (n * wordLanes) lanes) → length sums′ ≡ length (take n sums)
-      → (r ≤ length (take n sums)) × (candidateRows r lanes′ sums′ ≡ largest room (candidateRows (length (take n sums)) (take (n * wordLanes) lanes) (take n sums)))
-      → (r ≤ n) × (candidateRows r (lanes′ ++ drop (n * wordLanes) lanes) (sums′ ++ drop n sums) ≡ largest room first)
-  kept-some r lanes′ sums′ el es q =
-      let w : length (take (n * wordLanes) lanes) ≡ n * wordLanes = length-take-le (n * wordLanes) lanes (omega (arith, h .lanes-long)) in
-      let l : length (take n sums) ≡ n = length-take-le n sums (h .sums-long) in
-      let f : r ≤ n = omega (arith, q .0, l) in
-      (f, table-left r n lanes lanes′ sums sums′ f (el ∙ w) (es ∙ l) ∙ q .1 ∙ rw (l, table-first n n lanes sums (omega arith)))
+  none-lost : length T ≡ length U + 0
+  none-lost = omega (arith, once)
 
--- ---- sums of rows in word order
+  -- what holds of each row in word order holds of each as they stand, and the other way
+  pub to-order : (P : Row Word Float → Type 0) → Each P U → Each P (inWordOrder U)
+  unfolding inWordOrder Each
+  to-order P u = each-all before (floats .nought) strict P U [] u tt
+
+  pub from-order : (P : Row Word Float → Type 0) → Each P (inWordOrder U) → Each P U
+  unfolding inWordOrder
+  from-order P t = all-each before (floats .nought) strict P U [] none-lost t .0
+
+  module _ (p : Row Word Float → Bool) where
+    pub order-count : length (those p (inWordOrder U)) ≡ length (those p U)
+    unfolding inWordOrder those
+    order-count = those-count before (floats .nought) strict p U [] none-lost ∙ omega arith
+
+    pub order-those : those p (inWordOrder U) ≡ inWordOrder (those p U)
+    unfolding inWordOrder those Rising
+    order-those = those-order before (floats .nought) strict p U [] tt none-lost
+
+  pub cut-is : AllFinite (sumsOf (inWordOrder U)) → (q : ℕ) → q < length U → length (those (staysBeside (getD U q noRow)) U) ≡ room
+      → (inWordOrder (those (staysBeside (getD U q noRow)) U) ≡ largest room (inWordOrder U)) × (length (inWordOrder (those (staysBeside (getD U q noRow)) U)) ≡ length (those (staysBeside (getD U q noRow)) U))
+  cut-is finite q h e =
+      let r : Row Word Float = getD U q noRow in
+      let said : Each (λ (t : Row Word Float). length (those (staysBeside t) T) ≡ room → those (staysBeside t) T ≡ largest room T) U =
+      from-order (λ (t : Row Word Float). length (those (staysBeside t) T) ≡ room → those (staysBeside t) T ≡ largest room T)
+      (each-by (λ (t : Row Word Float). length (those (staysBeside t) T) ≡ room → those (staysBeside t) T ≡ largest room T) noRow T (λ k l. beside-largest room T (order-rising U) finite k l)) in
+      let f : those (staysBeside r) T ≡ largest room T =
+      each-at (λ (t : Row Word Float). length (those (staysBeside t) T) ≡ room → those (staysBeside t) T ≡ largest room T) noRow U q said h (order-count (staysBeside r) ∙ e) in
+      (sym (order-those (staysBeside r)) ∙ f, ap length (sym (order-those (staysBeside r))) ∙ order-count (staysBeside r))
+
+-- ---- in lent tables
 abbrev Finite : Row Word Float → Type 0
 Finite r = isFinite (r .sum) ≡ true
+
+abbrev Fitting : Row Word Float → Type 0
+Fitting r = D.T (fits binary64 (r .sum))
+
+true-is : (b : Bool) → b ≡ true → D.T b
+true-is true e = tt
+true-is false e = absurd (true≢false (sym e))
 
 module _ (n : ℕ) (lanes : List ℕ) (sums : List Float) (hl : wordLanes * n ≤ length lanes) (hs : n ≤ length sums) where
   abbrev held : Rows
@@ -187,49 +289,96 @@ module _ (n : ℕ) (lanes : List ℕ) (sums : List Float) (hl : wordLanes * n �
   sum-at : (k : ℕ) → k < n → getD held k noRow .sum ≡ getD sums k nan
   sum-at k h = ap (λ (r : Row Word Float). r .sum) (table-at n lanes sums k hl hs h)
 
-  pub rows-finite : FiniteRows (candidateRows n lanes sums) → AreFinite (take n sums)
-  rows-finite f = front-finite n sums hs (λ i h. sym (ap isFinite (sum-at i h)) ∙ f i (omega (arith, long)))
+  -- the first n places by themselves
+  abbrev pub frontWords : List Word
+  frontWords = words (take (n * wordLanes) lanes)
 
-  module _ (bad : ℕ) (is : bad ≡ firstTo n (notFinite sums)) where
-    finite-each : n ≤ bad → Each Finite held
-    unfolding notFinite
-    finite-each h =
-        each-by Finite noRow held
-        (λ k l. let m : k < n = omega (arith, long) in ap isFinite (sum-at k m) ∙ not-false (isFinite (getD sums k nan)) (first-before n (notFinite sums) k (omega arith)))
+  front-rows : rows frontWords (take n sums) ≡ held
+  front-rows =
+      sym (take-all n (rows frontWords (take n sums)) (omega (arith, rows-few frontWords (take n sums), front-words)))
+      ∙ table-first n n lanes sums (omega arith)
+    where
+      front-words : length frontWords ≡ n
+      front-words = words-count (take (n * wordLanes) lanes) ∙ omega (arith, length-take-le (n * wordLanes) lanes (omega (arith, hl)))
 
-    -- none is bad, in any order
-    pub order-finite : n ≤ bad → FiniteRows (inWordOrder (candidateRows n lanes sums))
-    unfolding inWordOrder Each
-    order-finite h = λ k l. each-at Finite noRow (inWordOrder held) k (each-all before (floats .nought) strict Finite held [] (finite-each h) tt) l
-
-    -- the first bad sum of the candidates is the first bad one in the lent table
-    first-bad : firstTo (length held) (notFinite (sumsOf held)) ≡ bad
-    unfolding notFinite
-    first-bad =
-        rw (long, table-sums n lanes sums hl hs, is)
-        (first-cong n (notFinite (take n sums)) (notFinite sums) (λ k h. ap (λ (x : Float). not (isFinite x)) (getD-take n sums k nan h)))
-
-    ended-bad : (room : ℕ) → bad < n → ended room held ≡ refused (SumNotFinite bad)
-    unfolding ended
-    ended-bad room h = rw (first-bad, long, lt-ltb bad n h)
-
--- where one is bad, one is bad in word order, and the first there is told
-module _ (n : ℕ) (lanes : List ℕ) (sums : List Float) (hl : wordLanes * n ≤ length lanes) (hs : n ≤ length sums) (bad : ℕ) (is : bad ≡ firstTo n (notFinite sums)) (once : length (inWordOrder (candidateRows n lanes sums)) ≡ n)
-    (lanes′ : List ℕ) (sums′ : List Float) (hl′ : wordLanes * n ≤ length lanes′) (hs′ : n ≤ length sums′) (in-order : candidateRows n lanes′ sums′ ≡ inWordOrder (candidateRows n lanes sums)) (first : ℕ) (is-first : first ≡ firstTo n (notFinite sums′)) where
-  some-bad : bad < n → Dec (first < n) → first < n
+  -- none is bad
+  pub order-finite : (bad : ℕ) → bad ≡ firstTo n (notFinite sums) → n ≤ bad → FiniteRows (inWordOrder (candidateRows n lanes sums))
   unfolding inWordOrder Each notFinite
-  some-bad h (yes l) = l
-  some-bad h (no l) =
-      let U : Rows = candidateRows n lanes sums in
-      let m : length U ≡ n = table-long n lanes sums hl hs in
-      let all : Each Finite (inWordOrder U) = rw in-order at (finite-each n lanes′ sums′ hl′ hs′ first is-first (omega arith)) in
-      let each : Each Finite U = all-each before (floats .nought) strict Finite U [] (omega (arith, once, m)) all .0 in
-      let fine : isFinite (getD sums bad nan) ≡ true = sym (ap isFinite (sum-at n lanes sums hl hs bad h)) ∙ each-at Finite noRow U bad each (omega (arith, m)) in
-      let q : not (isFinite (getD sums bad nan)) ≡ true = rw is (first-passes n (notFinite sums) (omega (arith, is))) in
-      absurd (true≢false (sym fine ∙ not-true (isFinite (getD sums bad nan)) q))
+  order-finite bad is h =
+      let each : Each Finite held =
+      each-by Finite noRow held
+      (λ k l. let m : k < n = omega (arith, long) in ap isFinite (sum-at k m) ∙ not-false (isFinite (getD sums k nan)) (first-before n (notFinite sums) k (omega (arith, is)))) in
+      λ k l. each-at Finite noRow (inWordOrder held) k (each-all before (floats .nought) strict Finite held [] each tt) l
 
-  pub ended-first : (room : ℕ) → bad < n → ended room (inWordOrder (candidateRows n lanes sums)) ≡ refused (SumNotFinite first)
-  ended-first room h = ap (ended room) (sym in-order) ∙ ended-bad n lanes′ sums′ hl′ hs′ first is-first room (some-bad h (decLt first n))
+  -- one is
+  pub bad-there : (bad : ℕ) → bad ≡ firstTo n (notFinite sums) → bad < n → isFinite (getD (take n sums) bad nan) ≡ false
+  unfolding notFinite
+  bad-there bad is h =
+      let q : not (isFinite (getD sums bad nan)) ≡ true = rw is (first-passes n (notFinite sums) (omega (arith, is))) in
+      ap isFinite (getD-take n sums bad nan h) ∙ not-true (isFinite (getD sums bad nan)) q
+
+  module _ (once : length (inWordOrder (candidateRows n lanes sums)) ≡ n) where
+    all-once : length (inWordOrder held) ≡ length held
+    all-once = once ∙ sym long
+
+    -- what the cut asks for
+    pub front-once : length (inWordOrder (rows (words (take (n * wordLanes) lanes)) (take n sums))) ≡ length (take n sums)
+    front-once = ap (λ (t : Rows). length (inWordOrder t)) front-rows ∙ once ∙ sym (length-take-le n sums hs)
+
+    pub front-finite : FiniteRows (inWordOrder (candidateRows n lanes sums)) → AreFinite (take n sums)
+    front-finite f i h =
+        let m : i < n = omega (arith, length-take-le n sums hs) in
+        let each : Each Finite held = from-order 0 held all-once Finite (each-by Finite noRow (inWordOrder held) f) in
+        true-is (isFinite (getD (take n sums) i nan)) (ap isFinite (getD-take n sums i nan m ∙ sym (sum-at i m)) ∙ each-at Finite noRow held i each (omega (arith, long)))
+
+    -- where one is bad, the first in word order is told
+    pub ended-first : (room place : ℕ) → BadPlace (length (take n sums)) (words (take (n * wordLanes) lanes)) (take n sums) place → ended room (inWordOrder (candidateRows n lanes sums)) ≡ refused (SumNotFinite place)
+    unfolding ended notFinite
+    ended-first room place b =
+        let xl : length (take n sums) ≡ n = length-take-le n sums hs in
+        let wl : length frontWords ≡ length (take n sums) = words-count (take (n * wordLanes) lanes) ∙ omega (arith, xl, length-take-le (n * wordLanes) lanes (omega (arith, hl))) in
+        let t : FirstBad (inWordOrder held) place = rw front-rows at (first-bad frontWords (take n sums) wl front-once place b) in
+        let T : Rows = inWordOrder held in
+        let at : (k : ℕ) → getD (sumsOf T) k nan ≡ getD T k noRow .sum = λ k. List·getD-map (λ (r : Row Word Float). r .sum) T k noRow in
+        let e : firstTo (length T) (notFinite (sumsOf T)) ≡ place =
+        first-here (length T) (notFinite (sumsOf T)) place (t .inside) (λ k l. ap not (ap isFinite (at k) ∙ t .fine k l)) (ap not (ap isFinite (at place) ∙ t .bad)) in
+        rw (e, lt-ltb place (length T) (t .inside))
+
+    -- what the cut leaves
+    module _ (room r : ℕ) (lanes′ : List ℕ) (sums′ : List Float) (el : length lanes′ ≡ length (take (n * wordLanes) lanes)) (es : length sums′ ≡ length (take n sums))
+        (fitting : (i : ℕ) → i < length sums → D.T (fits binary64 (getD sums i nan))) (finite : FiniteRows (inWordOrder (candidateRows n lanes sums)))
+        (k : CutTo room (words (take (n * wordLanes) lanes)) (take n sums) r lanes′ sums′) where
+      xl : length (take n sums) ≡ n
+      xl = length-take-le n sums hs
+
+      few : r ≤ n
+      few = omega (arith, k .few, xl)
+
+      sums-finite : AllFinite (sumsOf (inWordOrder held))
+      sums-finite =
+          let T : Rows = inWordOrder held in
+          let sl : length (sumsOf T) ≡ length T = length-map T (λ t. t .sum) in
+          let fit : Each Fitting T = to-order 0 held all-once Fitting (each-by Fitting noRow held (λ i l. rw (sum-at i (omega (arith, long))) (fitting i (omega (arith, long, hs))))) in
+          record {
+            fitting = λ i l. rw (List·getD-map (λ (t : Row Word Float). t .sum) T i noRow) (each-at Fitting noRow T i fit (omega (arith, sl)));
+            numbers = λ i l. rw (List·getD-map (λ (t : Row Word Float). t .sum) T i noRow) (true-is (isFinite (getD T i noRow .sum)) (finite i (omega (arith, sl))));
+          }
+
+      pub cut-left : (r ≤ n) × (inWordOrder (candidateRows r (lanes′ ++ drop (n * wordLanes) lanes) (sums′ ++ drop n sums)) ≡ largest room (inWordOrder (candidateRows n lanes sums)))
+          × (length (inWordOrder (candidateRows r (lanes′ ++ drop (n * wordLanes) lanes) (sums′ ++ drop n sums))) ≡ r)
+      cut-left =
+          let q : ℕ = k .last in
+          let qn : q < n = omega (arith, k .pivot .inside, xl) in
+          let wl : length (take (n * wordLanes) lanes) ≡ n * wordLanes = length-take-le (n * wordLanes) lanes (omega (arith, hl)) in
+          let row-is : rowAt frontWords (take n sums) q ≡ getD held q noRow =
+          sym (rows-at frontWords (take n sums) q (omega (arith, words-count (take (n * wordLanes) lanes), wl)) (k .pivot .inside)) ∙ ap (λ (t : Rows). getD t q noRow) front-rows in
+          let p : Row Word Float → Bool = staysBeside (getD held q noRow) in
+          let count : length (those p held) ≡ room = rw (row-is, front-rows) at (k .pivot .count) in
+          let left : candidateRows r lanes′ sums′ ≡ those p held = rw (row-is, front-rows) at (k .left) in
+          let now : candidateRows r (lanes′ ++ drop (n * wordLanes) lanes) (sums′ ++ drop n sums) ≡ those p held = table-left r n lanes lanes′ sums sums′ few (el ∙ wl) (es ∙ xl) ∙ left in
+          let c = cut-is room held all-once sums-finite q (omega (arith, long)) count in
+          let size : length (those p held) ≡ r = sym (ap length left) ∙ table-long r lanes′ sums′ (omega (arith, el, wl, few)) (omega (arith, es, xl, few)) in
+          (few, rw now (c .0), rw now (c .1 ∙ size))
 
 -- ---- a pass's end that is not refused
 pub ended-fine : (room : ℕ) (T : Rows) → FiniteRows T → ended room T ≡ got (largest room T)
@@ -242,22 +391,27 @@ ended-fine room T f =
 pub ended-all : (room : ℕ) (T : Rows) → FiniteRows T → length T ≤ room → ended room T ≡ got T
 ended-all room T f h = ended-fine room T f ∙ ap got (largest-all room T h)
 
--- ---- the room rule on rows that stood in any order
-pub order-rising : (U : Rows) → Rising before (inWordOrder U)
-unfolding inWordOrder Rising
-order-rising U = rising-all before latest (floats .nought) strict (λ (r : Row Word Float). r .word) (λ (r : Row Word Float). r .sum) U [] tt
+-- ---- what is left stands with its slots
+pub stand-exact : (places n : ℕ) (lanes : List ℕ) (sums : List Float) (heads nexts : List ℕ) → Standing places n lanes sums heads nexts → Standing n n lanes sums heads nexts
+stand-exact places n lanes sums heads nexts k =
+    record {
+      lanes-long = omega (arith, k .lanes-long, k .inside);
+      sums-long = omega (arith, k .sums-long, k .inside);
+      heads-long = omega (arith, k .heads-long, k .inside);
+      nexts-long = omega (arith, k .nexts-long, k .inside);
+      inside = omega arith;
+      slots = k .slots;
+      once = k .once;
+    }
 
-pub cut-none : (n room : ℕ) (lanes : List ℕ) (sums : List Float) (T : Rows) → room ≡ 0 → (0 ≤ n) × (candidateRows 0 lanes sums ≡ largest room T)
-cut-none n room lanes sums T e = (omega arith, sym (largest-none room T e))
+pub cut-none : (n room : ℕ) (lanes : List ℕ) (sums : List Float) (T : Rows) → room ≡ 0 → (0 ≤ n) × (inWordOrder (candidateRows 0 lanes sums) ≡ largest room T) × (length (inWordOrder (candidateRows 0 lanes sums)) ≡ 0)
+unfolding inWordOrder putAll
+cut-none n room lanes sums T e = (omega arith, sym (largest-none room T e), refl)
 
--- what is left stands with its slots
 pub cut-stands : (places n room held : ℕ) (U : Rows) (lanes : List ℕ) (sums : List Float) (heads nexts work : List ℕ) → wordLanes * places ≤ length lanes → places ≤ length sums → places ≤ length heads → places ≤ length work → n ≤ places
-    → (held ≤ n) × (candidateRows held lanes sums ≡ largest room (inWordOrder U)) → length nexts ≡ held → Slotted (words (take (held * wordLanes) lanes)) heads nexts
+    → (held ≤ n) × (inWordOrder (candidateRows held lanes sums) ≡ largest room (inWordOrder U)) × (length (inWordOrder (candidateRows held lanes sums)) ≡ held) → length nexts ≡ held → Slotted (words (take (held * wordLanes) lanes)) heads nexts
     → Standing places held lanes sums heads (nexts ++ drop held work) × (inWordOrder (candidateRows held lanes sums) ≡ largest room (inWordOrder U))
-unfolding inWordOrder
 cut-stands places n room held U lanes sums heads nexts work hl hs hh hw hn q ln s =
-    let R : Rows = candidateRows held lanes sums in
-    let own : inWordOrder R ≡ R = rising-own before (floats .nought) strict R (rw (q .1) (largest-rising room (inWordOrder U) (order-rising U))) in
     let e : held * wordLanes ≡ wordLanes * held = omega arith in
     let ws : words (take (held * wordLanes) lanes) ≡ take held (words lanes) = ap (λ (k : ℕ). words (take k lanes)) e ∙ words-take held lanes in
     let first : take held (nexts ++ drop held work) ≡ nexts = take-at nexts (drop held work) held ln in (
@@ -266,22 +420,9 @@ cut-stands places n room held U lanes sums heads nexts work hl hs hh hw hn q ln 
         sums-long = hs;
         heads-long = hh;
         nexts-long = omega (arith, length-append nexts (drop held work), length-drop held work, ln);
-        inside = omega arith;
+        inside = omega (arith, q .0);
         slots = rw (first, ← ws) s;
-        once = ap length own ∙ table-long held lanes sums (omega arith) (omega arith);
+        once = q .2;
       },
-      own ∙ q .1,
+      q .1,
     )
-
--- ---- what ordering asks for
-pub stand-orderable : (places n : ℕ) (lanes : List ℕ) (sums : List Float) (heads nexts : List ℕ) → Standing places n lanes sums heads nexts → (nextLanes : List ℕ) (nextSums : List Float) → wordLanes * n ≤ length nextLanes → n ≤ length nextSums → Orderable n lanes sums heads nexts nextLanes nextSums
-stand-orderable places n lanes sums heads nexts k nextLanes nextSums hl hs =
-    record {
-      lanes-long = omega (arith, k .lanes-long, k .inside);
-      sums-long = omega (arith, k .sums-long, k .inside);
-      order-long = omega (arith, k .heads-long, k .inside);
-      work-long = omega (arith, k .nexts-long, k .inside);
-      next-lanes = hl;
-      next-sums = hs;
-      once = k .once;
-    }

@@ -3,14 +3,14 @@
 
 -- Words outside, and what one position adds to candidates, term by term. Assumes nothing.
 use mathlib.Core.Path.{_≡_, refl, sym, ap, _∙_}
-use mathlib.Core.Bool.{Bool, true, false, not, cond}
-use mathlib.Core.List.{List, [], _∷_}
+use mathlib.Core.Bool.{Bool, true, false, not, _&&_, _||_, cond}
+use mathlib.Core.List.{List, [], _∷_, _++_}
 use Prim.Native.Nat.{ℕ, _+_, _*_, _≤_, _<_}
 use native.Mathlib.Omega.{arith}
 use lib.Ieee.{Float}
 use lib.ListN.{length}
 use Rattle.word.specs.Flat.{wordLanes}
-use Rattle.word.specs.Order.{before}
+use Rattle.word.specs.Order.{before, same}
 use Rattle.word.specs.declared.word.Word.{Word}
 use Rattle.number.specs.Floats.{floats}
 use Rattle.order.specs.Places.{isAmong}
@@ -28,13 +28,22 @@ use Rattle.action.proofs.ListLaws.{left, left-none, left-passed, left-listed}
 use Rattle.passes.specs.Leaks.{outside, leaked}
 
 -- ---- words outside
-pub inside-first : (basis protected : List Word) (w : Word) → isAmong w basis ≡ true → false ≡ outside basis protected w
-unfolding outside
-inside-first basis protected w e = rw e
+among-both : (w : Word) (basis protected : List Word) → isAmong w (basis ++ protected) ≡ (isAmong w basis || isAmong w protected)
+unfolding isAmong
+among-both w [] protected = refl
+among-both w (v ∷ basis) protected = go (same v w) (among-both w basis protected)
+  where
+    go : (b : Bool) → isAmong w (basis ++ protected) ≡ (isAmong w basis || isAmong w protected) → (b || isAmong w (basis ++ protected)) ≡ ((b || isAmong w basis) || isAmong w protected)
+    go true e = refl
+    go false e = e
 
-pub outside-second : (basis protected : List Word) (w : Word) → isAmong w basis ≡ false → (b : Bool) → b ≡ isAmong w protected → not b ≡ outside basis protected w
+pub outside-both : (basis protected : List Word) (w : Word) (b : Bool) → b ≡ isAmong w (basis ++ protected) → not b ≡ outside basis protected w
 unfolding outside
-outside-second basis protected w e b f = rw (e, f)
+outside-both basis protected w b e = ap not (e ∙ among-both w basis protected) ∙ go (isAmong w basis)
+  where
+    go : (c : Bool) → not (c || isAmong w protected) ≡ (not c && not (isAmong w protected))
+    go true = refl
+    go false = refl
 
 -- ---- the candidates
 abbrev wordOf : Row Word Float → Word

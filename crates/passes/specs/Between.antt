@@ -2,12 +2,12 @@
 -- SPDX-License-Identifier: Apache-2.0
 
 -- Contracts between functions: what the functions of a pass ask for and leave.
-use Prim.Native.Nat.{ℕ, _*_, _≤_, _<_}
+use Prim.Native.Nat.{ℕ, _+_, _*_, _≤_, _<_}
 use mathlib.Core.Path.{_≡_}
-use mathlib.Core.List.{List}
+use mathlib.Core.List.{List, _++_, map}
 use mathlib.Core.Bool.{true}
 use lib.Ieee.{Float, nan}
-use lib.ListN.{length, getD}
+use lib.ListN.{length, getD, take}
 use Rattle.refusal.specs.declared.Refusal.{Refusal}
 use Rattle.refusal.specs.declared.Answer.the-variants.{Accepted}
 use Rattle.word.specs.Flat.{words, wordLanes}
@@ -16,7 +16,7 @@ use Rattle.number.specs.Floats.{isFinite}
 use Rattle.slots.specs.Between.{Slotted}
 use Rattle.candidates.specs.Sums.{row}
 use Rattle.candidates.specs.Tables.{Rows, candidateRows}
-use Rattle.candidates.specs.Between.{inWordOrder, Standing}
+use Rattle.candidates.specs.Between.{inWordOrder, rowAt, Standing}
 use Rattle.model.specs.Stored.{ModelTables}
 use Rattle.lent.specs.Read.{Read, got, refused}
 use Rattle.model.specs.Tested.{testModel}
@@ -34,10 +34,9 @@ pub record ModelReady (m : Model) (t : ModelTables) (hIndex jIndex mask : List �
   pub j-rows : 64 * m .qubits ≤ length jIndex
   pub row : 64 ≤ length mask
 
--- a basis with a coefficient for each word, and a protected list, each with its slots; the basis words inside the register
-pub record BasisReady (n : ℕ) (basis : List ℕ) (coeffs : List Float) (heads nexts protected fixedHeads fixedNexts : List ℕ) : Type 0 where
-  pub basis-slots : Slotted (words basis) heads nexts
-  pub fixed-slots : Slotted (words protected) fixedHeads fixedNexts
+-- a basis with a coefficient for each word, and a protected list, with the slots of both, one behind the other; the basis words inside the register
+pub record BasisReady (n : ℕ) (basis : List ℕ) (coeffs : List Float) (heads nexts protected : List ℕ) : Type 0 where
+  pub slots : Slotted (words basis ++ words protected) heads nexts
   pub each : wordLanes * length coeffs ≡ length basis
   pub inside : AllInside basis n
 
@@ -45,12 +44,6 @@ pub record BasisReady (n : ℕ) (basis : List ℕ) (coeffs : List Float) (heads 
 pub record ActionRoom (room : ℕ) (workWords : List ℕ) (workSums : List Float) : Type 0 where
   pub work-words : wordLanes * room ≤ length workWords
   pub work-sums : 2 * room ≤ length workSums
-
--- so many rows in use of so many places
-pub record Holding (room n : ℕ) (lanes : List ℕ) (sums : List Float) : Type 0 where
-  pub lanes-long : wordLanes * room ≤ length lanes
-  pub sums-long : room ≤ length sums
-  pub inside : n ≤ room
 
 -- every sum is finite
 abbrev pub FiniteRows : Rows → Type 0
@@ -61,7 +54,16 @@ pub record Stood (room : ℕ) (course : Read Rows) (lanes : List ℕ) (sums : Li
   pub held : (n : ℕ) → r ≡ Held n → Standing room n lanes sums heads nexts × (course ≡ got (inWordOrder (candidateRows n lanes sums)))
   pub stopped : (q : Refusal) → r ≡ Refused q → course ≡ refused q
 
--- the answer, and the candidates in word order in the lent tables afterwards
-pub record Took (room : ℕ) (course : Read Rows) (lanes : List ℕ) (sums : List Float) (r : Taken) : Type 0 where
-  pub held : (n : ℕ) → r ≡ Held n → (course ≡ got (candidateRows n lanes sums)) × (n ≤ room)
+-- the candidates at positions, in their order
+abbrev pub rowsAt : List ℕ → List Float → List ℕ → Rows
+rowsAt lanes sums = map (rowAt (words lanes) sums)
+
+-- each position has a word and a sum
+pub record Placed (lanes : List ℕ) (sums : List Float) (order : List ℕ) : Type 0 where
+  pub in-lanes : (i : ℕ) → i < length order → wordLanes * getD order i 0 + wordLanes ≤ length lanes
+  pub in-sums : (i : ℕ) → i < length order → getD order i 0 < length sums
+
+-- the answer, and the positions of the candidates in word order
+pub record Took (room : ℕ) (course : Read Rows) (lanes : List ℕ) (sums : List Float) (order : List ℕ) (r : Taken) : Type 0 where
+  pub held : (n : ℕ) → r ≡ Held n → (course ≡ got (rowsAt lanes sums (take n order))) × (n ≤ room) × Placed lanes sums (take n order)
   pub stopped : (q : Refusal) → r ≡ Refused q → course ≡ refused q

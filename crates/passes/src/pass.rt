@@ -43,8 +43,6 @@ pub fn take_pass(
     heads: &[u64],
     nexts: &[u64],
     protected: &[u64],
-    fixed_heads: &[u64],
-    fixed_nexts: &[u64],
     positions: &[u64],
     words: &mut [u64],
     sums: &mut [f64],
@@ -54,7 +52,7 @@ pub fn take_pass(
     work: &mut [u64],
 ) -> Taken
     requires { ⌜ ModelReady m (modelTables (now «h_words») (now «h_coeffs») (now jumps) (now rates) (now «t_words») (now «t_numbers»)) (now «h_index») (now «j_index») (now mask) ⌝ }
-    requires { ⌜ BasisReady (m .qubits) (now basis) (now coeffs) (now heads) (now nexts) (now protected) (now «fixed_heads») (now «fixed_nexts») × AllBelow (length (now coeffs)) (now positions) ⌝ }
+    requires { ⌜ BasisReady (m .qubits) (now basis) (now coeffs) (now heads) (now nexts) (now protected) × AllBelow (length (now coeffs)) (now positions) ⌝ }
     requires { ⌜ ActionRoom «sum_room» (now «work_words») (now «work_sums») ⌝ }
     requires { ⌜ Standing room n (now words) (now sums) (now order) (now work) ⌝ }
     ensures { λ r. ⌜ Stood room (takenBy (touchedAt m (modelTables (now («h_words» .entry)) (now («h_coeffs» .entry)) (now (jumps .entry)) (now (rates .entry)) (now («t_words» .entry)) (now («t_numbers» .entry))) (wordsIn (now (basis .entry))) (now (coeffs .entry)) (wordsIn (now (protected .entry)))) (leaksAt m (modelTables (now («h_words» .entry)) (now («h_coeffs» .entry)) (now (jumps .entry)) (now (rates .entry)) (now («t_words» .entry)) (now («t_numbers» .entry))) (wordsIn (now (basis .entry))) (now (coeffs .entry)) (wordsIn (now (protected .entry)))) «sum_room» room (now (positions .entry)) (inWordOrder (candidateRows n (now (words .entry)) (now (sums .entry))))) (now (words .exit)) (now (sums .exit)) (now (order .exit)) (now (work .exit)) r ⌝ }
@@ -96,8 +94,6 @@ pub fn take_pass(
             heads,
             nexts,
             protected,
-            fixed_heads,
-            fixed_nexts,
             words,
             sums,
             room,

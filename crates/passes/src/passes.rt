@@ -4,21 +4,22 @@
 // All passes of leakage over the positions of a basis, 4,096 to a pass. Without a position nothing is read, and
 // neither an index nor slots are asked for.
 ghost use mathlib.Core.List.{[]};
-ghost use Prim.Native.Nat.{_≤_, _<_};
+ghost use Prim.Native.Nat.{_*_, _≤_, _<_};
 ghost use lib.ListN.{length};
-ghost use Rattle.word.specs.Flat.{words as wordsIn};
+ghost use Rattle.word.specs.Flat.{wordLanes, words as wordsIn};
 ghost use Rattle.order.specs.Between.{AllBelow};
 ghost use Rattle.candidates.specs.Between.{Standing};
 ghost use Rattle.model.specs.Between.{modelTables};
-ghost use Rattle.passes.specs.Between.{ModelReady, BasisReady, ActionRoom, Holding, Stood, Took};
+ghost use Rattle.passes.specs.Between.{ModelReady, BasisReady, ActionRoom, Stood, Took};
 ghost use Rattle.passes.specs.Leaks.{passes, passCount, touchedAt, leaksAt};
 use crate::pass::take_pass;
 use crate::room::end_pass;
 use crate::taken::Taken;
-use candidates::ordered::put_in_order;
 use lent::clear::clear_lanes;
 use lent::sizes::smaller;
 use model::stored::Model;
+use order::places::order_words;
+use word::flat::WORD_LANES;
 
 pub const PASS_SIZE: usize = 4096;
 
@@ -42,8 +43,6 @@ fn take_passes(
     heads: &[u64],
     nexts: &[u64],
     protected: &[u64],
-    fixed_heads: &[u64],
-    fixed_nexts: &[u64],
     positions: &[u64],
     words: &mut [u64],
     sums: &mut [f64],
@@ -51,14 +50,11 @@ fn take_passes(
     room: usize,
     order: &mut [u64],
     work: &mut [u64],
-    kept: &mut [u64],
-    next_words: &mut [u64],
-    next_sums: &mut [f64],
 ) -> Taken
     requires { ⌜ (0 < length (now positions) → ModelReady m (modelTables (now «h_words») (now «h_coeffs») (now jumps) (now rates) (now «t_words») (now «t_numbers»)) (now «h_index») (now «j_index») (now mask)) ⌝ }
-    requires { ⌜ (0 < length (now positions) → BasisReady (m .qubits) (now basis) (now coeffs) (now heads) (now nexts) (now protected) (now «fixed_heads») (now «fixed_nexts») × AllBelow (length (now coeffs)) (now positions)) ⌝ }
+    requires { ⌜ (0 < length (now positions) → BasisReady (m .qubits) (now basis) (now coeffs) (now heads) (now nexts) (now protected) × AllBelow (length (now coeffs)) (now positions)) ⌝ }
     requires { ⌜ ActionRoom «sum_room» (now «work_words») (now «work_sums») ⌝ }
-    requires { ⌜ Standing «candidate_room» 0 (now words) (now sums) (now order) (now work) × Holding «candidate_room» 0 (now «next_words») (now «next_sums») × («candidate_room» ≤ length (now kept)) ⌝ }
+    requires { ⌜ Standing «candidate_room» 0 (now words) (now sums) (now order) (now work) ⌝ }
     ensures { λ r. ⌜ Stood «candidate_room» (passes (touchedAt m (modelTables (now («h_words» .entry)) (now («h_coeffs» .entry)) (now (jumps .entry)) (now (rates .entry)) (now («t_words» .entry)) (now («t_numbers» .entry))) (wordsIn (now (basis .entry))) (now (coeffs .entry)) (wordsIn (now (protected .entry)))) (leaksAt m (modelTables (now («h_words» .entry)) (now («h_coeffs» .entry)) (now (jumps .entry)) (now (rates .entry)) (now («t_words» .entry)) (now («t_numbers» .entry))) (wordsIn (now (basis .entry))) (now (coeffs .entry)) (wordsIn (now (protected .entry)))) «sum_room» «candidate_room» room (passCount (length (now (positions .entry)))) (now (positions .entry)) []) (now (words .exit)) (now (sums .exit)) (now (order .exit)) (now (work .exit)) r ⌝ }
 {
     let mut held = 0;
@@ -84,8 +80,6 @@ fn take_passes(
             heads,
             nexts,
             protected,
-            fixed_heads,
-            fixed_nexts,
             &positions[from..to],
             words,
             sums,
@@ -97,18 +91,7 @@ fn take_passes(
         let Taken::Held(n) = taken else {
             return taken;
         };
-        let ended = end_pass(
-            words,
-            sums,
-            candidate_room,
-            n,
-            room,
-            order,
-            work,
-            kept,
-            next_words,
-            next_sums,
-        );
+        let ended = end_pass(words, sums, candidate_room, n, room, order, work);
         let Taken::Held(stay) = ended else {
             return ended;
         };
@@ -118,7 +101,7 @@ fn take_passes(
     Taken::Held(held)
 }
 
-// The same from an empty table of slots; the candidates are put into word order at the end.
+// The same from an empty table of slots; at the end `order` has the positions of the candidates in word order.
 pub fn run_passes(
     m: Model,
     h_words: &[u64],
@@ -138,8 +121,6 @@ pub fn run_passes(
     heads: &[u64],
     nexts: &[u64],
     protected: &[u64],
-    fixed_heads: &[u64],
-    fixed_nexts: &[u64],
     positions: &[u64],
     words: &mut [u64],
     sums: &mut [f64],
@@ -147,15 +128,12 @@ pub fn run_passes(
     room: usize,
     order: &mut [u64],
     work: &mut [u64],
-    kept: &mut [u64],
-    next_words: &mut [u64],
-    next_sums: &mut [f64],
 ) -> Taken
     requires { ⌜ (0 < length (now positions) → ModelReady m (modelTables (now «h_words») (now «h_coeffs») (now jumps) (now rates) (now «t_words») (now «t_numbers»)) (now «h_index») (now «j_index») (now mask)) ⌝ }
-    requires { ⌜ (0 < length (now positions) → BasisReady (m .qubits) (now basis) (now coeffs) (now heads) (now nexts) (now protected) (now «fixed_heads») (now «fixed_nexts») × AllBelow (length (now coeffs)) (now positions)) ⌝ }
+    requires { ⌜ (0 < length (now positions) → BasisReady (m .qubits) (now basis) (now coeffs) (now heads) (now nexts) (now protected) × AllBelow (length (now coeffs)) (now positions)) ⌝ }
     requires { ⌜ ActionRoom «sum_room» (now «work_words») (now «work_sums») ⌝ }
-    requires { ⌜ Holding «candidate_room» 0 (now words) (now sums) × Holding «candidate_room» 0 (now «next_words») (now «next_sums») × («candidate_room» ≤ length (now order)) × («candidate_room» ≤ length (now work)) × («candidate_room» ≤ length (now kept)) ⌝ }
-    ensures { λ r. ⌜ Took «candidate_room» (passes (touchedAt m (modelTables (now («h_words» .entry)) (now («h_coeffs» .entry)) (now (jumps .entry)) (now (rates .entry)) (now («t_words» .entry)) (now («t_numbers» .entry))) (wordsIn (now (basis .entry))) (now (coeffs .entry)) (wordsIn (now (protected .entry)))) (leaksAt m (modelTables (now («h_words» .entry)) (now («h_coeffs» .entry)) (now (jumps .entry)) (now (rates .entry)) (now («t_words» .entry)) (now («t_numbers» .entry))) (wordsIn (now (basis .entry))) (now (coeffs .entry)) (wordsIn (now (protected .entry)))) «sum_room» «candidate_room» room (passCount (length (now (positions .entry)))) (now (positions .entry)) []) (now (words .exit)) (now (sums .exit)) r ⌝ }
+    requires { ⌜ (wordLanes * «candidate_room» ≤ length (now words)) × («candidate_room» ≤ length (now sums)) × («candidate_room» ≤ length (now order)) × («candidate_room» ≤ length (now work)) ⌝ }
+    ensures { λ r. ⌜ Took «candidate_room» (passes (touchedAt m (modelTables (now («h_words» .entry)) (now («h_coeffs» .entry)) (now (jumps .entry)) (now (rates .entry)) (now («t_words» .entry)) (now («t_numbers» .entry))) (wordsIn (now (basis .entry))) (now (coeffs .entry)) (wordsIn (now (protected .entry)))) (leaksAt m (modelTables (now («h_words» .entry)) (now («h_coeffs» .entry)) (now (jumps .entry)) (now (rates .entry)) (now («t_words» .entry)) (now («t_numbers» .entry))) (wordsIn (now (basis .entry))) (now (coeffs .entry)) (wordsIn (now (protected .entry)))) «sum_room» «candidate_room» room (passCount (length (now (positions .entry)))) (now (positions .entry)) []) (now (words .exit)) (now (sums .exit)) (now (order .exit)) r ⌝ }
 {
     clear_lanes(order);
     let taken = take_passes(
@@ -177,8 +155,6 @@ pub fn run_passes(
         heads,
         nexts,
         protected,
-        fixed_heads,
-        fixed_nexts,
         positions,
         words,
         sums,
@@ -186,13 +162,10 @@ pub fn run_passes(
         room,
         order,
         work,
-        kept,
-        next_words,
-        next_sums,
     );
     let Taken::Held(n) = taken else {
         return taken;
     };
-    put_in_order(words, sums, n, order, work, next_words, next_sums);
+    order_words(&words[..n * WORD_LANES], &mut order[..n], &mut work[..n]);
     Taken::Held(n)
 }

@@ -8,7 +8,7 @@ use Rattle.word.specs.Count.{sumTo, anyTo, tabulate}
 use Rattle.word.specs.Letter.{mulLetter, mulPhase}
 use Rattle.word.specs.Word.{bit, letterIn, lanesOf, wordOf}
 use Rattle.word.specs.Register.{reaches, share}
-use Rattle.word.specs.Text.{codeOf, dropped, firstWhere, refuseByte, readLetters, parse}
+use Rattle.notation.specs.Text.{codeOf, dropped, firstWhere, refuseByte, readLetters, parse}
 use Rattle.word.specs.Product.{phaseSum, mul, phase}
 use Rattle.word.specs.Order.{compareThen, compareLanes, compare}
 use Rattle.number.specs.Numbers.{addC, negC, mulC, conjC, largestFrom, unitC}

@@ -4,7 +4,7 @@
 -- In work tables of the lengths that `leakageSizes`, `generatorSizes` and `evolutionSizes` name, no work table decides what leakage, the
 -- generator, the matrix by rows, the norm and the evolution test: of any two such lendings the tests end alike. And there is room for the words touched, the
 -- candidates and the entries that the lengths were named for. Assumes nothing.
-use Prim.Native.Nat.{ℕ, suc, _+_, _*_, _/_, _≤_, min}
+use Prim.Native.Nat.{ℕ, zero, suc, _+_, _*_, _/_, _≤_, min}
 use mathlib.Core.Path.{_≡_, refl}
 use mathlib.Core.Bool.{Bool, true, false, cond}
 use mathlib.Core.List.{List}
@@ -23,7 +23,6 @@ use Rattle.word.specs.Word.{maxQubits}
 use Rattle.model.specs.Stored.{ModelTables}
 use Rattle.model.specs.Tested.{testModel}
 use Rattle.lent.specs.Tests.{counted, lent, whereAny, andThen}
-use Rattle.lent.proofs.NeedLaws.{need-most}
 use Rattle.lent.specs.Words.{maxWords}
 use Rattle.model.specs.declared.stored.Model.{Model}
 use Rattle.model.proofs.StandsLaws.{tested-stands}
@@ -66,6 +65,12 @@ half k t h m = omega arith
 rows-asked : (qubits words : ℕ) {n : ℕ} → qubits ≤ maxQubits → whereAny words (rowLanes * min qubits maxQubits) ≤ n → whereAny words (rowLanes * qubits) ≤ n
 rows-asked qubits words q h = let e : min qubits maxQubits ≡ qubits = omega arith in rw e at h
 
+-- the slots of so many basis words and protected ones
+slots-asked : (entries protected : ℕ) → entries ≤ maxWords → protected ≤ maxWords → whereAny entries (entries + protected) ≤ min entries maxWords + min (whereAny entries protected) maxWords
+unfolding whereAny
+slots-asked zero protected e p = omega arith
+slots-asked (suc n) protected e p = omega (arith, e, p)
+
 -- ---- leakage
 pub record LeakageLent (s : LeakageSizes) (w : Leak.Work) : Type 0 where
   pub h-index : s .«h_index» ≤ length (w .hIndex)
@@ -76,15 +81,10 @@ pub record LeakageLent (s : LeakageSizes) (w : Leak.Work) : Type 0 where
   pub order : s .order ≤ length (w .order)
   pub heads : s .heads ≤ length (w .heads)
   pub nexts : s .nexts ≤ length (w .nexts)
-  pub fixed-heads : s .«fixed_heads» ≤ length (w .fixedHeads)
-  pub fixed-nexts : s .«fixed_nexts» ≤ length (w .fixedNexts)
   pub cand-words : s .«cand_words» ≤ length (w .candWords)
   pub cand-sums : s .«cand_sums» ≤ length (w .candSums)
-  pub next-words : s .«next_words» ≤ length (w .nextWords)
-  pub next-sums : s .«next_sums» ≤ length (w .nextSums)
   pub place-order : s .«place_order» ≤ length (w .placeOrder)
   pub place-work : s .«place_work» ≤ length (w .placeWork)
-  pub place-kept : s .«place_kept» ≤ length (w .placeKept)
 
 module _ (qubits entries protected touched candidates : ℕ) (w : Leak.Work) (a : LeakageLent (leakageSizes qubits entries protected touched candidates) w) where
   work-accepted : qubits ≤ maxQubits → entries ≤ maxWords → protected ≤ maxWords → Leak.workTests qubits entries protected w ≡ Accepted
@@ -95,10 +95,8 @@ module _ (qubits entries protected touched candidates : ℕ) (w : Leak.Work) (a 
         le-ltb (length (w .jIndex)) (whereAny entries (rowLanes * qubits)) (rows-asked qubits entries q (a .j-index)),
         le-ltb (length (w .mask)) (whereAny entries rowLanes) (a .mask),
         le-ltb (length (w .order)) entries (omega (arith, a .order)),
-        le-ltb (length (w .heads)) entries (omega (arith, a .heads)),
-        le-ltb (length (w .nexts)) entries (omega (arith, a .nexts)),
-        le-ltb (length (w .fixedHeads)) (whereAny entries protected) (omega (arith, a .fixed-heads, need-most entries protected)),
-        le-ltb (length (w .fixedNexts)) (whereAny entries protected) (omega (arith, a .fixed-nexts, need-most entries protected)),
+        le-ltb (length (w .heads)) (whereAny entries (entries + protected)) (omega (arith, a .heads, slots-asked entries protected e p)),
+        le-ltb (length (w .nexts)) (whereAny entries (entries + protected)) (omega (arith, a .nexts, slots-asked entries protected e p)),
       )
 
   -- there is room for as many words touched, and as many candidates
@@ -119,7 +117,7 @@ module _ (qubits entries protected touched candidates : ℕ) (w : Leak.Work) (a 
   candidates-room h =
       let e : candidates ≤ c = omega arith in
       let l : candidates ≤ 2 * c = omega arith in
-      le-min (le-min (le-min (quarter candidates c e (a .cand-words)) (le-trans e (a .cand-sums))) (le-min (quarter candidates c e (a .next-words)) (le-trans e (a .next-sums)))) (le-min (le-min (le-trans l (a .place-order)) (le-trans e (a .place-work))) (le-trans e (a .place-kept)))
+      le-min (le-min (quarter candidates c e (a .cand-words)) (le-trans e (a .cand-sums))) (le-min (le-trans l (a .place-order)) (le-trans e (a .place-work)))
 
 pub leakage-enough : (m : Model) (t : ModelTables) (b : Leak.Basis) (l : Limits) (touched candidates : ℕ) (w w′ : Leak.Work)
     → LeakageLent (leakageSizes (m .qubits) (b .len) (length (b .protected) / wordLanes) touched candidates) w

@@ -9,14 +9,14 @@ use mathlib.Core.List.{List, [], _∷_, _++_}
 use lib.Dec.{eqb}
 use lib.Ieee.{Float, binary64, ofBits, eq}
 use lib.ListN.{length, take, replicate}
-use Rattle.word.specs.Text.{parse}
+use Rattle.notation.specs.Text.{parse}
 use Rattle.word.specs.Flat.{wordLanes, words}
 use Rattle.word.specs.Word.{maxQubits, identity, unpack}
 use Rattle.word.specs.Product.{mul, phase}
 use Rattle.word.specs.Order.{same}
 use Rattle.word.specs.declared.word.Word.{Word}
-use Rattle.word.specs.declared.word.ParsedWord.{ParsedWord}
-use Rattle.word.specs.declared.word.ParsedWord.the-variants.{Parsed, Refused}
+use Rattle.notation.specs.declared.texts.ParsedWord.{ParsedWord}
+use Rattle.notation.specs.declared.texts.ParsedWord.the-variants.{Parsed, Refused}
 use Rattle.number.specs.Numbers.{Cx}
 use Rattle.number.specs.Floats.{floats, float0, float1}
 use Rattle.gksl.specs.Operator.{Onto}

@@ -2,7 +2,7 @@
 -- SPDX-License-Identifier: Apache-2.0
 
 -- What leakage answers in plain numbers, and the lengths of its work tables.
-use Prim.Native.Nat.{ℕ, _*_, min}
+use Prim.Native.Nat.{ℕ, _+_, _*_, min}
 use mathlib.Core.Path.{_≡_}
 use mathlib.Core.List.{List}
 use lib.Ieee.{Float}
@@ -28,8 +28,8 @@ abbrev pub maxPlaces : ℕ
 maxPlaces = 4294967295
 
 -- the lengths for a register, a basis of so many entries, so many protected words, actions that touch so many words, and so many
--- candidates at a time: twice as many slots as words, of the basis, of the protected words and of the candidates; for no entries neither
--- rows nor slots of these two
+-- candidates at a time: twice as many slots as words, of the basis and the protected words together, and of the candidates; for no entries
+-- neither rows nor slots of the first
 unfoldable pub leakageSizes : ℕ → ℕ → ℕ → ℕ → ℕ → LeakageSizes
 leakageSizes qubits entries protected touched candidates =
     let rows : ℕ = whereAny entries (rowLanes * min qubits maxQubits) in
@@ -44,15 +44,10 @@ leakageSizes qubits entries protected touched candidates =
       «work_words» = wordLanes * t;
       «work_sums» = 2 * t;
       order = e;
-      heads = 2 * e;
-      nexts = e;
-      «fixed_heads» = 2 * p;
-      «fixed_nexts» = p;
+      heads = 2 * (e + p);
+      nexts = e + p;
       «cand_words» = wordLanes * c;
       «cand_sums» = c;
-      «next_words» = wordLanes * c;
-      «next_sums» = c;
       «place_order» = 2 * c;
       «place_work» = c;
-      «place_kept» = c;
     }

@@ -7,19 +7,16 @@ use mathlib.Core.Path.{_≡_}
 use mathlib.Core.Bool.{false, not, cond}
 use mathlib.Core.List.{List}
 use lib.Dec.{ltb}
-use lib.IntN.{ℤ, pos, negsuc}
 use Rattle.refusal.specs.Cause.{statusOf, answerStatus}
 use Rattle.refusal.specs.declared.Refusal.the-variants.{TooManyQubits}
 use Rattle.refusal.specs.declared.Answer.the-variants.{Accepted}
 use Rattle.refusal.specs.declared.Status.{Status}
 use Rattle.word.specs.Word.{maxQubits, identity, unpack}
-use Rattle.word.specs.Codes.{writeAnswer, written}
+use Rattle.notation.specs.Codes.{writeAnswer, written}
 use Rattle.word.specs.Register.{reaches}
 use Rattle.word.specs.declared.word.Word.{Word}
-use Rattle.word.specs.declared.word.ParsedWord.{ParsedWord}
-use Rattle.word.specs.declared.word.ParsedWord.the-variants.{Parsed, Refused}
-use Rattle.word.specs.declared.word.Ordering.{Ordering}
-use Rattle.word.specs.declared.word.Ordering.the-variants.{Less, Equal, Greater}
+use Rattle.notation.specs.declared.texts.ParsedWord.{ParsedWord}
+use Rattle.notation.specs.declared.texts.ParsedWord.the-variants.{Parsed, Refused}
 use Rattle.pebblelinen.specs.declared.words.Parsed as Answers
 use Rattle.pebblelinen.specs.declared.words.Fitting.{Fitting}
 
@@ -32,12 +29,6 @@ parsedOf (Refused refusal) = record { status = statusOf refusal; word = identity
 pub record Writes (w : Word) (n : ℕ) (out : List ℕ) (status : Status) (after : List ℕ) : Type 0 where
   pub answers : status ≡ answerStatus (writeAnswer w n out)
   pub places : after ≡ written w n out
-
--- -1 before, 0 the same, 1 after
-abbrev pub signOf : Ordering → ℤ
-signOf Less = negsuc 0
-signOf Equal = pos 0
-signOf Greater = pos 1
 
 -- 1; else whether the word has no bit at or above n
 unfoldable pub fittingOf : Word → ℕ → Fitting

@@ -41,19 +41,14 @@ pub extern "C" fn pebblelinen_leakage_with_prune(
     order: &mut [u64],
     heads: &mut [u64],
     nexts: &mut [u64],
-    fixed_heads: &mut [u64],
-    fixed_nexts: &mut [u64],
     cand_words: &mut [u64],
     cand_sums: &mut [f64],
-    next_words: &mut [u64],
-    next_sums: &mut [f64],
     place_order: &mut [u64],
     place_work: &mut [u64],
-    place_kept: &mut [u64],
     out_words: &mut [u64],
     out_values: &mut [f64],
 ) -> ListedWords
-    ensures { λ r. ⌜ LeavesLeakage (leak (now («out_words» .entry)) (now («out_values» .entry)) (workOf (now («h_index» .entry)) (now («j_index» .entry)) (now (mask .entry)) (now («work_words» .entry)) (now («work_sums» .entry)) (now (order .entry)) (now (heads .entry)) (now (nexts .entry)) (now («fixed_heads» .entry)) (now («fixed_nexts» .entry)) (now («cand_words» .entry)) (now («cand_sums» .entry)) (now («next_words» .entry)) (now («next_sums» .entry)) (now («place_order» .entry)) (now («place_work» .entry)) (now («place_kept» .entry))) model (record { hWords = now («h_words» .entry); hCoeffs = now («h_coeffs» .entry); jumps = now (jumps .entry); rates = now (rates .entry); tWords = now («t_words» .entry); tNumbers = now («t_numbers» .entry) }) (basisOf (now (words .entry)) (now (coeffs .entry)) len (now (protected .entry))) limits) r (now («out_words» .exit)) (now («out_values» .exit)) (workOf (now («h_index» .exit)) (now («j_index» .exit)) (now (mask .exit)) (now («work_words» .exit)) (now («work_sums» .exit)) (now (order .exit)) (now (heads .exit)) (now (nexts .exit)) (now («fixed_heads» .exit)) (now («fixed_nexts» .exit)) (now («cand_words» .exit)) (now («cand_sums» .exit)) (now («next_words» .exit)) (now («next_sums» .exit)) (now («place_order» .exit)) (now («place_work» .exit)) (now («place_kept» .exit))) ⌝ }
+    ensures { λ r. ⌜ LeavesLeakage (leak (now («out_words» .entry)) (now («out_values» .entry)) (workOf (now («h_index» .entry)) (now («j_index» .entry)) (now (mask .entry)) (now («work_words» .entry)) (now («work_sums» .entry)) (now (order .entry)) (now (heads .entry)) (now (nexts .entry)) (now («cand_words» .entry)) (now («cand_sums» .entry)) (now («place_order» .entry)) (now («place_work» .entry))) model (record { hWords = now («h_words» .entry); hCoeffs = now («h_coeffs» .entry); jumps = now (jumps .entry); rates = now (rates .entry); tWords = now («t_words» .entry); tNumbers = now («t_numbers» .entry) }) (basisOf (now (words .entry)) (now (coeffs .entry)) len (now (protected .entry))) limits) r (now («out_words» .exit)) (now («out_values» .exit)) (workOf (now («h_index» .exit)) (now («j_index» .exit)) (now (mask .exit)) (now («work_words» .exit)) (now («work_sums» .exit)) (now (order .exit)) (now (heads .exit)) (now (nexts .exit)) (now («cand_words» .exit)) (now («cand_sums» .exit)) (now («place_order» .exit)) (now («place_work» .exit))) ⌝ }
 {
     listed_of(leakage::leak::leakage_with_prune(
         model,
@@ -76,15 +71,10 @@ pub extern "C" fn pebblelinen_leakage_with_prune(
         order,
         heads,
         nexts,
-        fixed_heads,
-        fixed_nexts,
         cand_words,
         cand_sums,
-        next_words,
-        next_sums,
         place_order,
         place_work,
-        place_kept,
         out_words,
         out_values,
     ))
@@ -101,15 +91,10 @@ pub struct LeakageSizes {
     pub order: usize,
     pub heads: usize,
     pub nexts: usize,
-    pub fixed_heads: usize,
-    pub fixed_nexts: usize,
     pub cand_words: usize,
     pub cand_sums: usize,
-    pub next_words: usize,
-    pub next_sums: usize,
     pub place_order: usize,
     pub place_work: usize,
-    pub place_kept: usize,
 }
 
 #[no_mangle]
@@ -135,16 +120,11 @@ pub extern "C" fn pebblelinen_leakage_sizes(
         work_words: WORD_LANES * t,
         work_sums: 2 * t,
         order: e,
-        heads: 2 * e,
-        nexts: e,
-        fixed_heads: 2 * p,
-        fixed_nexts: p,
+        heads: 2 * (e + p),
+        nexts: e + p,
         cand_words: WORD_LANES * c,
         cand_sums: c,
-        next_words: WORD_LANES * c,
-        next_sums: c,
         place_order: 2 * c,
         place_work: c,
-        place_kept: c,
     }
 }

@@ -3,19 +3,19 @@
 
 // Pauli words: texts, codes, products and order.
 ghost use mathlib.Core.Path.{_≡_};
-ghost use Rattle.word.specs.Text.{parse};
-ghost use Rattle.word.specs.Codes.{readCodes};
+ghost use Rattle.notation.specs.Text.{parse};
+ghost use Rattle.notation.specs.Codes.{readCodes};
+ghost use Rattle.notation.specs.Signs.{signOf};
 ghost use Rattle.word.specs.Product.{product, antiCommute, commutator};
 ghost use Rattle.word.specs.Order.{compare, same};
 ghost use Rattle.word.specs.Register.{share};
-ghost use Rattle.pebblelinen.specs.Words.{parsedOf, Writes, signOf, fittingOf};
+ghost use Rattle.pebblelinen.specs.Words.{parsedOf, Writes, fittingOf};
+use notation::texts::ParsedWord;
 use refusal::Refusal;
 use refusal::Status;
 use word::algebra::CommProduct;
 use word::algebra::Phased;
 use word::word::MAX_QUBITS;
-use word::word::Ordering;
-use word::word::ParsedWord;
 use word::word::Word;
 
 // A word that was read; the identity where the status is a refusal.
@@ -48,21 +48,21 @@ fn parsed_of(answer: ParsedWord) -> Parsed
 pub extern "C" fn pebblelinen_parse_pauli_string(text: &[u8], n_qubits: usize) -> Parsed
     ensures { λ r. ⌜ r ≡ parsedOf (parse «n_qubits» (now (text .entry))) ⌝ }
 {
-    parsed_of(word::word::parse_pauli_string(text, n_qubits))
+    parsed_of(notation::texts::parse_pauli_string(text, n_qubits))
 }
 
 #[no_mangle]
 pub extern "C" fn pebblelinen_word_from_codes(codes: &[u8]) -> Parsed
     ensures { λ r. ⌜ r ≡ parsedOf (readCodes (now (codes .entry))) ⌝ }
 {
-    parsed_of(word::word::word_from_codes(codes))
+    parsed_of(notation::codes::word_from_codes(codes))
 }
 
 #[no_mangle]
 pub extern "C" fn pebblelinen_codes_from_word(word: Word, n_qubits: usize, out: &mut [u8]) -> Status
     ensures { λ r. ⌜ Writes word «n_qubits» (now (out .entry)) r (now (out .exit)) ⌝ }
 {
-    refusal::answer_status(word::word::codes_from_word(word, n_qubits, out))
+    refusal::answer_status(notation::codes::codes_from_word(word, n_qubits, out))
 }
 
 #[no_mangle]
@@ -90,12 +90,7 @@ pub extern "C" fn pebblelinen_comm_product(h: Word, p: Word) -> CommProduct
 pub extern "C" fn pebblelinen_compare_words(p: Word, q: Word) -> i32
     ensures { λ r. ⌜ r ≡ signOf (compare p q) ⌝ }
 {
-    let order = word::word::compare_words(p, q);
-    match order {
-        Ordering::Less => -1,
-        Ordering::Equal => 0,
-        Ordering::Greater => 1,
-    }
+    notation::signs::sign_of(word::word::compare_words(p, q))
 }
 
 #[no_mangle]

@@ -14,7 +14,7 @@ use lib.Ieee.{Float, nan}
 use lib.ListN.{length, getD, drop, length-drop, drop-of-length-le}
 use lib.Seq.{drop-cons, drop-drop}
 use Rattle.number.specs.Floats.{floats, float0, magnitude}
-use Rattle.norm.specs.Columns.{largestFrom, largest}
+use Rattle.column_norm.specs.Columns.{largestFrom, largest}
 use Rattle.raw_norm.specs.Between.{frontSum, frontSize, rawsFrom, ColumnSummed}
 use Rattle.raw_norm.specs.declared.ColumnRaw.{ColumnRaw}
 

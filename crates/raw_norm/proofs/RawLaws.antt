@@ -22,7 +22,7 @@ use Rattle.model.specs.declared.stored.Model.{Model}
 use Rattle.action.specs.Acts.{actionOf}
 use Rattle.columns.specs.Entries.{Entry, entry}
 use Rattle.columns.specs.Columns.{placeIn, columnEntries, columnsFrom, generatorOf}
-use Rattle.norm.specs.Columns.{sumFrom, total, insideOf, rawOf, largest}
+use Rattle.column_norm.specs.Columns.{sumFrom, total, insideOf, rawOf, largest}
 use Rattle.raw_norm.specs.Unshifted.{unshiftedNorm}
 use Rattle.raw_norm.specs.Between.{frontSum, frontSize, rawsFrom}
 

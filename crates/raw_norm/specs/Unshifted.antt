@@ -7,7 +7,7 @@ use lib.Ieee.{Float}
 use Rattle.word.specs.declared.word.Word.{Word}
 use Rattle.model.specs.Stored.{ModelTables}
 use Rattle.model.specs.declared.stored.Model.{Model}
-use Rattle.norm.specs.Columns.{largest, rawBy}
+use Rattle.column_norm.specs.Columns.{largest, rawBy}
 
 unfoldable pub unshiftedNorm : Model → ModelTables → List Word → Float
 unshiftedNorm m t bs = largest (map (rawBy m t bs) bs)

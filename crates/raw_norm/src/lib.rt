@@ -5,7 +5,7 @@
 ghost use mathlib.Core.Path.{_≡_};
 ghost use Prim.Native.Nat.{_≤_};
 ghost use lib.ListN.{length};
-ghost use Rattle.norm.specs.Columns.{largest};
+ghost use Rattle.column_norm.specs.Columns.{largest};
 ghost use Rattle.raw_norm.specs.Between.{rawsFrom, ColumnSummed};
 use number::scalar::larger;
 use number::scalar::magnitude;

@@ -68,6 +68,35 @@ pub fn lay_slots(lanes: &[u64], heads: &mut [u64], nexts: &mut [u64])
     }
 }
 
+// The word at a place of two lists, the second behind the first.
+fn word_of_both(first: &[u64], second: &[u64], i: usize) -> Word
+    requires { ⌜ i < length (words (now first)) + length (words (now second)) ⌝ }
+    ensures { λ r. ⌜ r ≡ getD (words (now (first .entry)) ++ words (now (second .entry))) i identity ⌝ }
+{
+    let count = first.len() / WORD_LANES;
+    if i < count {
+        return word_at(first, i);
+    }
+    word_at(second, i - count)
+}
+
+// Lays the chains of all words of two lists, the second behind the first.
+pub fn lay_slots_of_both(first: &[u64], second: &[u64], heads: &mut [u64], nexts: &mut [u64])
+    requires { ⌜ (length (now nexts) ≡ length (words (now first)) + length (words (now second))) × (length (now nexts) ≤ length (now heads)) ⌝ }
+    ensures { λ _. ⌜ Slotted (words (now (first .entry)) ++ words (now (second .entry))) (now (heads .exit)) (now (nexts .exit)) ⌝ }
+{
+    clear_lanes(heads);
+    let slots = heads.len();
+    let mut k = 0;
+    while k < nexts.len() {
+        let w = word_of_both(first, second, k);
+        let s = slot_of(w, slots);
+        nexts[k] = heads[s];
+        heads[s] = k as u64 + 1;
+        k += 1;
+    }
+}
+
 // Links the chain of a word that comes to stand behind n others.
 pub fn add_slot(heads: &mut [u64], nexts: &mut [u64], n: usize, w: Word)
     requires { ⌜ (n < length (now heads)) × (n < length (now nexts)) ⌝ }
@@ -123,4 +152,31 @@ pub fn has_word(lanes: &[u64], heads: &[u64], nexts: &[u64], w: Word) -> bool
 {
     let at = last_place(lanes, heads, nexts, w);
     at != 0
+}
+
+// Whether w is one of the words of two lists, whose chains were laid one behind the other.
+pub fn has_word_in_both(
+    first: &[u64],
+    second: &[u64],
+    heads: &[u64],
+    nexts: &[u64],
+    w: Word,
+) -> bool
+    requires { ⌜ Slotted (words (now first) ++ words (now second)) (now heads) (now nexts) ⌝ }
+    ensures { λ r. ⌜ r ≡ isAmong w (words (now (first .entry)) ++ words (now (second .entry))) ⌝ }
+{
+    let slots = heads.len();
+    if slots == 0 {
+        return false;
+    }
+    let s = slot_of(w, slots);
+    let mut at = heads[s] as usize;
+    while 0 < at {
+        let v = word_of_both(first, second, at - 1);
+        if same_word(v, w) {
+            return true;
+        }
+        at = nexts[at - 1] as usize;
+    }
+    false
 }

@@ -36,7 +36,7 @@ use Rattle.step_laws.proofs.RankLaws.{flagged-gap}
 use Rattle.step_laws.proofs.PlaceLaws.{pick-all}
 
 -- what was not refused
-not-refused : {A : Type 0} (b : Bool) (q : Refusal) (after : Read A) (a : A) → refuseIf b q after ≡ got a → after ≡ got a
+pub not-refused : {A : Type 0} (b : Bool) (q : Refusal) (after : Read A) (a : A) → refuseIf b q after ≡ got a → after ≡ got a
 not-refused true q after a e = absurd (no-value q a e)
 not-refused false q after a e = e
 
@@ -55,7 +55,7 @@ passes-few touched leaks sumRoom candidateRoom room (suc k) ps T S h e =
     let b = through (ended room (a .value)) (passes touched leaks sumRoom candidateRoom room k (drop passSize ps)) S (a .behind) in
     passes-few touched leaks sumRoom candidateRoom room k (drop passSize ps) (b .value) S (ended-few room (a .value) (b .value) (b .before)) (b .behind)
 
-above-few : (tau : Float) (T : Rows) → length (above tau T) ≤ length T
+pub above-few : (tau : Float) (T : Rows) → length (above tau T) ≤ length T
 unfolding above
 above-few tau [] = omega arith
 above-few tau (r ∷ T) = go (isAbove tau (r .sum)) (above-few tau T)
@@ -77,7 +77,7 @@ all-admitted len limit list h =
     (λ p i z. omega (arith, n, l, c, h, flagged-gap (chosen (byMagnitude (sumsOf list)) (replicate (length (sumsOf list)) 0) (limit - len)) p (omega (arith, i, w, n, l)) z))
 
 module _ (m : Model) (t : ModelTables) (protected : List Word) (dt : Float) (places : Places) (limit : ℕ) (tau : Float) (ws : List Word) (cs : List Float) where
-  list-few : (list : Rows) → leakage m t protected dt places limit tau ws cs ≡ got list → length list ≤ limit - length ws
+  pub list-few : (list : Rows) → leakage m t protected dt places limit tau ws cs ≡ got list → length list ≤ limit - length ws
   unfolding leakage candidatesOf
   list-few list e =
       let a = through (candidatesOf m t ws cs protected (places .touched) (places .candidates) (limit - length ws)) _ list e in

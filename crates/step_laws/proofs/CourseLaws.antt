@@ -23,6 +23,9 @@ module _ {A : Type 0} where
   pub same-value : (a b : A) → got a ≡ got b → a ≡ b
   same-value a b e = cc
 
+  pub same-refused : (q r : Refusal) → _≡_ {A = Read A} (refused q) (refused r) → q ≡ r
+  same-refused q r e = cc
+
 -- ---- what went on: the value before, and what followed it
 pub record Through {A B : Type 0} (r : Read A) (f : A → Read B) (b : B) : Type 0 where
   pub value : A

@@ -14,3 +14,10 @@ pub mod AdmissionLaws
 pub mod RefusedLaws
 pub mod EmptyLaws
 pub mod CallLaws
+pub mod InsideLaws
+pub mod GrownLaws
+pub mod HeldLaws
+pub mod EvolveCall
+pub mod AdmitCall
+pub mod LeakCall
+pub mod EndCall

@@ -119,7 +119,7 @@ module _ (m : Model) (t : ModelTables) (protected : List Word) (dt : Float) (pla
           let f = from-given l dropTol ws cs g e in
           let k : length cs ≤ length (g .words) = omega (arith, each, ap length (f .words-are), length-append ws (f .entered)) in
           let v = evolution-leaves m t protected dt places dropTol (g .words) (withZeros cs (g .words)) (f .last) (zeros-finite cs (g .words) numbers) (f .evolves) in
-          (ap length (f .numbers-are) ∙ v .long ∙ zeros-long cs (g .words) k, subst AllFinite (sym (f .numbers-are)) (v .finite))
+          (ap length (f .numbers-are) ∙ v .long ∙ zeros-long cs (g .words) k, subst AllFinite (sym (f .numbers-are)) (v .each))
 
       course-alike : courseOf m t protected dt places l dropTol ws cs ≡ courseOf m t protected dt places l dropTol′ ws cs
       unfolding courseOf

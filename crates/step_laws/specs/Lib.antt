@@ -4,3 +4,4 @@
 -- The predictor-corrector step, and what is said of it.
 pub mod Steps
 pub mod Kept
+pub mod Passing

@@ -8,6 +8,7 @@ pub mod AdmitTests
 pub mod AdmitLaws
 pub mod AdmissionLaws
 pub mod ChecksLaws
+pub mod ReachLaws
 pub mod ProtectLaws
 pub mod PruneLaws
 pub mod CapLaws

@@ -2,11 +2,13 @@
 -- SPDX-License-Identifier: Apache-2.0
 
 -- Contracts between functions: flags of protected words, where a position is not flagged already.
-use Prim.Native.Nat.{ℕ}
-use mathlib.Core.Bool.{cond}
+use Prim.Native.Nat.{ℕ, _<_}
+use mathlib.Core.Path.{_≡_}
+use mathlib.Core.Bool.{true, cond}
 use mathlib.Core.List.{List, [], _∷_}
 use lib.Dec.{eqb}
-use lib.ListN.{getD, set}
+use lib.ListN.{length, getD, set}
+use Rattle.word.specs.Between.{covers}
 use Rattle.word.specs.Word.{identity}
 use Rattle.word.specs.declared.word.Word.{Word}
 use Rattle.order.specs.Places.{isAmong}
@@ -25,3 +27,7 @@ marked protected (w ∷ ws) (k ∷ ks) = cond (eqb k 0) (cond (isAmong w protect
 unfoldable pub reflagged : (ℕ → ℕ) → List ℕ → List ℕ → List ℕ
 reflagged f [] ks = ks
 reflagged f (p ∷ ps) ks = reflagged f ps (set ks p (f p))
+
+-- u has the bits of all words of a list
+pub record Reach (u : Word) (ws : List Word) : Type 0 where
+  pub covered : (k : ℕ) → k < length ws → covers u (getD ws k identity) ≡ true

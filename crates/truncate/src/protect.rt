@@ -10,7 +10,7 @@ ghost use Rattle.word.specs.Flat.{words, wordLanes};
 ghost use Rattle.order.specs.Between.{AllBelow};
 ghost use Rattle.slots.specs.Between.{Slotted};
 ghost use Rattle.order.specs.Places.{isAmong};
-ghost use Rattle.truncate.specs.Marks.{protectedAt, marked, reflagged};
+ghost use Rattle.truncate.specs.Marks.{protectedAt, marked, reflagged, Reach};
 use keep::flags::lay_unflagged;
 use slots::has_word;
 use slots::lay_slots;
@@ -18,11 +18,34 @@ use slots::slots_for;
 use word::flat::WORD_LANES;
 use word::flat::word_at;
 use word::word::Word;
+use word::word::covers_word;
+use word::word::identity_word;
+use word::word::joined;
 
-fn flag_word(protected: &[u64], heads: &[u64], nexts: &[u64], w: Word) -> u64
-    requires { ⌜ Slotted (words (now protected)) (now heads) (now nexts) ⌝ }
+// The bits of all protected words.
+fn reach_of(protected: &[u64]) -> Word
+    ensures { λ r. ⌜ Reach r (words (now (protected .entry))) ⌝ }
+{
+    let count = protected.len() / WORD_LANES;
+    let mut reach = identity_word();
+    let mut k = 0;
+    while k < count {
+        let w = word_at(protected, k);
+        reach = joined(reach, w);
+        k += 1;
+    }
+    reach
+}
+
+// Protected words are few, and most words have a bit that none of them has: these are not looked up.
+fn flag_word(protected: &[u64], heads: &[u64], nexts: &[u64], reach: Word, w: Word) -> u64
+    requires { ⌜ Slotted (words (now protected)) (now heads) (now nexts) × Reach reach (words (now protected)) ⌝ }
     ensures { λ r. ⌜ r ≡ cond (isAmong w (words (now (protected .entry)))) 1 0 ⌝ }
 {
+    let near = covers_word(reach, w);
+    if !near {
+        return 0;
+    }
     let held = has_word(protected, heads, nexts, w);
     if held {
         return 1;
@@ -35,17 +58,18 @@ fn flag_listed(
     protected: &[u64],
     heads: &[u64],
     nexts: &[u64],
+    reach: Word,
     list: &[u64],
     flags: &mut [u64],
 )
-    requires { ⌜ Slotted (words (now protected)) (now heads) (now nexts) × (wordLanes * length (now flags) ≤ length (now lanes)) × AllBelow (length (now flags)) (now list) ⌝ }
+    requires { ⌜ Slotted (words (now protected)) (now heads) (now nexts) × Reach reach (words (now protected)) × (wordLanes * length (now flags) ≤ length (now lanes)) × AllBelow (length (now flags)) (now list) ⌝ }
     ensures { λ _. ⌜ now (flags .exit) ≡ reflagged (protectedAt (words (now (protected .entry))) (words (now (lanes .entry)))) (now (list .entry)) (now (flags .entry)) ⌝ }
 {
     let mut i = 0;
     while i < list.len() {
         let p = list[i] as usize;
         let w = word_at(lanes, p);
-        flags[p] = flag_word(protected, heads, nexts, w);
+        flags[p] = flag_word(protected, heads, nexts, reach, w);
         i += 1;
     }
 }
@@ -63,7 +87,8 @@ fn mark_listed(
     ensures { λ _. ⌜ now (flags .exit) ≡ reflagged (protectedAt (words (now (protected .entry))) (words (now (lanes .entry)))) (now (list .entry)) (now (flags .entry)) ⌝ }
 {
     lay_slots(protected, heads, nexts);
-    flag_listed(lanes, protected, heads, nexts, list, flags);
+    let reach = reach_of(protected);
+    flag_listed(lanes, protected, heads, nexts, reach, list, flags);
 }
 
 // Flags the protected ones of the words that are not flagged yet. `list` is for their positions, and

@@ -1,7 +1,7 @@
 -- SPDX-FileCopyrightText: 2026 The PPVM Authors
 -- SPDX-License-Identifier: Apache-2.0
 
--- Laws that belong to no one function; WordLaws, OrderLaws and TextLaws are those that other crates cite.
+-- Laws that belong to no one function; WordLaws, OrderLaws and CoverLaws are those that other crates cite.
 pub mod Sums
 pub mod CountLaws
 pub mod Digits
@@ -13,7 +13,6 @@ pub mod OrderLaws
 pub mod Planes
 pub mod NextLaws
 pub mod Tests
-pub mod TextLaws
-pub mod RoundTrips
+pub mod CoverLaws
 pub mod FlatLaws
 pub mod HashLaws

@@ -117,7 +117,7 @@ reaches-is w s n mask d =
     ∙ sym (any-runs 64 laneCount (λ q. leb n q && actsOn w q))
 
 -- ---- equality
-abbrev differing : Word → Word → ℕ → ℕ
+abbrev pub differing : Word → Word → ℕ → ℕ
 differing p q i = bitOr (bitXor (getD (p .x) i 0) (getD (q .x) i 0)) (bitXor (getD (p .z) i 0) (getD (q .z) i 0))
 
 none-differing : (p q : Word) → Sound p → Sound q → orTo (laneCount - 1) (differing p q) ≡ 0 → p ≡ q

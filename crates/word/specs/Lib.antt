@@ -1,12 +1,10 @@
 -- SPDX-FileCopyrightText: 2026 The PPVM Authors
 -- SPDX-License-Identifier: Apache-2.0
 
--- Pauli letters, words over lanes of 64 qubits, their texts, codes, products and order.
+-- Pauli letters, words over lanes of 64 qubits, their products and order.
 pub mod Count
 pub mod Letter
 pub mod Word
-pub mod Text
-pub mod Codes
 pub mod Product
 pub mod Register
 pub mod Order

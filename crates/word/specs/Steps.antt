@@ -2,19 +2,16 @@
 -- SPDX-License-Identifier: Apache-2.0
 
 -- Contracts between functions: what the inner functions compute.
-use Prim.Native.Nat.{ℕ, suc, _+_, _*_, _%_}
-use mathlib.Core.Bool.{Bool, true, false, cond}
+use Prim.Native.Nat.{ℕ, _+_, _*_, _%_}
+use mathlib.Core.Bool.{Bool, true, false}
 use mathlib.Core.Path.{_≡_}
-use mathlib.Core.List.{List, [], _∷_}
-use lib.Dec.{eqb, leb}
+use lib.Dec.{eqb}
 use lib.Count.{ones}
 use lib.ListN.{getD}
 use Rattle.word.specs.Count.{sumTo}
 use Rattle.word.specs.Letter.{mulPhase}
 use Rattle.word.specs.Word.{bit, letterAt, Sound}
 use Rattle.word.specs.declared.word.Word.{Word}
-use Rattle.word.specs.declared.word.Scan.{Scan}
-use Rattle.word.specs.declared.word.Scan.the-variants.{Letters, Foreign}
 use Rattle.word.specs.declared.algebra.Planes.{Planes}
 
 abbrev pub chosen : Bool → ℕ → ℕ → ℕ
@@ -25,11 +22,6 @@ chosen false a b = b
 pub record Put (w : Word) (q code : ℕ) (r : Word) : Type 0 where
   pub letters : (k : ℕ) → letterAt r k ≡ chosen (eqb k q) code (letterAt w k)
   pub sound : Sound r
-
--- a first look at what is left of a text, after so many letters
-unfoldable pub scanFrom : ℕ → List ℕ → Scan
-scanFrom k [] = Letters k
-scanFrom k (b ∷ s) = cond (eqb b 95) (scanFrom k s) (cond (leb 128 b) (Foreign b k) (scanFrom (suc k) s))
 
 -- the phases of 64 qubits, whose letters stand in a and b on the left and in c and d on the right
 unfoldable pub lanePhase : ℕ → ℕ → ℕ → ℕ → ℕ

@@ -1,21 +1,16 @@
 // SPDX-FileCopyrightText: 2026 The PPVM Authors
 // SPDX-License-Identifier: Apache-2.0
 
-// The packed Pauli word, its texts and codes, and the order of words.
+// The packed Pauli word, its letters, and the order of words.
 ghost use mathlib.Core.Path.{_≡_};
-ghost use Prim.Native.Nat.{ℕ, _+_, _*_, _≤_, _<_, _-_, _/_, _^_};
+ghost use Prim.Native.Nat.{ℕ, _+_, _*_, _<_, _-_, _/_, _^_};
 ghost use lib.Dec.{eqb};
-ghost use lib.ListN.{length};
 ghost use Rattle.word.specs.Word.{maxQubits, bit, letterAt, identity, pack, unpack};
-ghost use Rattle.word.specs.Text.{codeOf, dropped, readLetters, parse};
-ghost use Rattle.word.specs.Codes.{readCodes};
 ghost use Rattle.word.specs.Register.{reaches, share};
 ghost use Rattle.word.specs.Order.{compareThen, compareLanes, compare, same};
 ghost use Rattle.word.specs.declared.word.Ordering.the-variants.{Equal};
-ghost use Rattle.word.specs.Steps.{chosen, Put, scanFrom};
-use refusal::Answer;
-use refusal::Refusal;
-ghost use Rattle.word.specs.Between.{Wrote, NextQubit, DigitsFrom};
+ghost use Rattle.word.specs.Steps.{chosen, Put};
+ghost use Rattle.word.specs.Between.{NextQubit, DigitsFrom, join, covers};
 
 // The lanes of a word's x and of its z, and the qubits that they hold, 64 to a lane.
 pub const LANES: usize = 4;
@@ -39,12 +34,6 @@ pub struct Lanes {
     pub z1: u64,
     pub z2: u64,
     pub z3: u64,
-}
-
-// What a reader of texts or codes answers.
-pub enum ParsedWord {
-    Parsed(Lanes),
-    Refused(Refusal),
 }
 
 pub enum Ordering {
@@ -86,7 +75,7 @@ pub fn unpacked(l: Lanes) -> Word
 }
 
 // The letter of a qubit, as its code.
-fn letter(w: Word, q: usize) -> u8
+pub fn letter(w: Word, q: usize) -> u8
     requires { ⌜ q < maxQubits ⌝ }
     ensures { λ r. ⌜ r ≡ letterAt w q ⌝ }
 {
@@ -106,7 +95,7 @@ fn with_bit(lane: u64, k: usize, b: u64) -> u64
 }
 
 // A word with the letter at a qubit replaced.
-fn with_letter(w: Word, q: usize, code: u8) -> Word
+pub fn with_letter(w: Word, q: usize, code: u8) -> Word
     requires { ⌜ (q < maxQubits) × (code < 4) ⌝ }
     ensures { λ r. ⌜ Put w q code r ⌝ }
 {
@@ -117,134 +106,6 @@ fn with_letter(w: Word, q: usize, code: u8) -> Word
     v.x[lane] = with_bit(v.x[lane], k, l % 2);
     v.z[lane] = with_bit(v.z[lane], k, l / 2);
     v
-}
-
-// The code of the letter that a byte stands for, and 4 for a byte that is no letter.
-fn code_of(byte: u8) -> u8
-    ensures { λ r. ⌜ r ≡ codeOf byte ⌝ }
-{
-    if byte == b'I' {
-        return 0;
-    }
-    if byte == b'X' {
-        return 1;
-    }
-    if byte == b'Z' {
-        return 2;
-    }
-    if byte == b'Y' {
-        return 3;
-    }
-    4
-}
-
-// What a first look at a text finds: how many bytes are no underscores, or the first byte from 128
-// up, with its place.
-pub enum Scan {
-    Letters(usize),
-    Foreign(u8, usize),
-}
-
-fn scan_text(text: &[u8]) -> Scan
-    ensures { λ r. ⌜ r ≡ scanFrom 0 (now (text .entry)) ⌝ }
-{
-    let mut place = 0;
-    let mut i = 0;
-    while i < text.len() {
-        let byte = text[i];
-        if byte == b'_' {
-            i += 1;
-        } else {
-            if 128 <= byte {
-                return Scan::Foreign(byte, place);
-            }
-            place += 1;
-            i += 1;
-        }
-    }
-    Scan::Letters(place)
-}
-
-// The word of a text with at most MAX_QUBITS letters. Most letters of a term are I, and leave the word as
-// it is.
-fn read_letters(text: &[u8]) -> ParsedWord
-    requires { ⌜ length (dropped (now text)) ≤ maxQubits ⌝ }
-    ensures { λ r. ⌜ r ≡ readLetters (dropped (now (text .entry))) ⌝ }
-{
-    let mut w = identity_word();
-    let mut q = 0;
-    let mut i = 0;
-    while i < text.len() {
-        let byte = text[i];
-        if byte == b'_' {
-            i += 1;
-        } else {
-            let code = code_of(byte);
-            if 3 < code {
-                return ParsedWord::Refused(Refusal::InvalidPauliByte { byte, place: q });
-            }
-            if code != 0 {
-                w = with_letter(w, q, code);
-                q += 1;
-                i += 1;
-            } else {
-                q += 1;
-                i += 1;
-            }
-        }
-    }
-    ParsedWord::Parsed(packed(w))
-}
-
-// The word of a text: `_` bytes are dropped, then exactly n_qubits letters, qubit 0 first.
-pub fn parse_pauli_string(text: &[u8], n_qubits: usize) -> ParsedWord
-    ensures { λ r. ⌜ r ≡ parse «n_qubits» (now (text .entry)) ⌝ }
-{
-    if MAX_QUBITS < n_qubits {
-        return ParsedWord::Refused(Refusal::TooManyQubits {
-            got: n_qubits,
-            max: MAX_QUBITS,
-        });
-    }
-    let scan = scan_text(text);
-    match scan {
-        Scan::Foreign(byte, place) => {
-            ParsedWord::Refused(Refusal::InvalidPauliByte { byte, place })
-        }
-        Scan::Letters(got) => {
-            if got != n_qubits {
-                return ParsedWord::Refused(Refusal::WrongLength {
-                    expected: n_qubits,
-                    got,
-                });
-            }
-            read_letters(text)
-        }
-    }
-}
-
-// The word of a code for each qubit, qubit 0 first.
-pub fn word_from_codes(codes: &[u8]) -> ParsedWord
-    ensures { λ r. ⌜ r ≡ readCodes (now (codes .entry)) ⌝ }
-{
-    let n_qubits = codes.len();
-    if MAX_QUBITS < n_qubits {
-        return ParsedWord::Refused(Refusal::TooManyQubits {
-            got: n_qubits,
-            max: MAX_QUBITS,
-        });
-    }
-    let mut w = identity_word();
-    let mut q = 0;
-    while q < n_qubits {
-        let code = codes[q];
-        if 3 < code {
-            return ParsedWord::Refused(Refusal::InvalidPauliCode { code });
-        }
-        w = with_letter(w, q, code);
-        q += 1;
-    }
-    ParsedWord::Parsed(packed(w))
 }
 
 // The first qubit at or after `from` that has a letter other than I, and MAX_QUBITS where there is
@@ -304,33 +165,6 @@ pub fn reaches_beyond(w: Word, n_qubits: usize) -> bool
     let s2 = (x[2] | z[2]) & m2;
     let s3 = (x[3] | z[3]) & m3;
     s0 | s1 | s2 | s3 != 0
-}
-
-// Writes a code for each of the first n_qubits qubits; places from n_qubits on stay as they were.
-pub fn codes_from_word(w: Word, n_qubits: usize, out: &mut [u8]) -> Answer
-    ensures { λ r. ⌜ Wrote w «n_qubits» (now (out .entry)) r (now (out .exit)) ⌝ }
-{
-    if MAX_QUBITS < n_qubits {
-        return Answer::Refused(Refusal::TooManyQubits {
-            got: n_qubits,
-            max: MAX_QUBITS,
-        });
-    }
-    if out.len() < n_qubits {
-        return Answer::Refused(Refusal::LengthMismatch {
-            needed: n_qubits,
-            given: out.len(),
-        });
-    }
-    if reaches_beyond(w, n_qubits) {
-        return Answer::Refused(Refusal::WordOutsideRegister { position: 0 });
-    }
-    let mut q = 0;
-    while q < n_qubits {
-        out[q] = letter(w, q);
-        q += 1;
-    }
-    Answer::Accepted
 }
 
 // Whether two words share a qubit: one has a letter other than I there, and so has the other.
@@ -412,4 +246,33 @@ pub fn same_word(p: Word, q: Word) -> bool
     let d2 = (x[2] ^ u[2]) | (z[2] ^ v[2]);
     let d3 = (x[3] ^ u[3]) | (z[3] ^ v[3]);
     d0 | d1 | d2 | d3 == 0
+}
+
+// The bits of both words.
+pub fn joined(u: Word, w: Word) -> Word
+    ensures { λ r. ⌜ r ≡ join u w ⌝ }
+{
+    let a = u.x;
+    let b = u.z;
+    let x = w.x;
+    let z = w.z;
+    Word {
+        x: [a[0] | x[0], a[1] | x[1], a[2] | x[2], a[3] | x[3]],
+        z: [b[0] | z[0], b[1] | z[1], b[2] | z[2], b[3] | z[3]],
+    }
+}
+
+// Whether u has every bit of w.
+pub fn covers_word(u: Word, w: Word) -> bool
+    ensures { λ r. ⌜ r ≡ covers u w ⌝ }
+{
+    let a = u.x;
+    let b = u.z;
+    let x = w.x;
+    let z = w.z;
+    let m0 = (x[0] & !a[0]) | (z[0] & !b[0]);
+    let m1 = (x[1] & !a[1]) | (z[1] & !b[1]);
+    let m2 = (x[2] & !a[2]) | (z[2] & !b[2]);
+    let m3 = (x[3] & !a[3]) | (z[3] & !b[3]);
+    m0 | m1 | m2 | m3 == 0
 }

@@ -168,13 +168,10 @@ pub fn room(rng: &mut Rng, n_qubits: usize, given: &Given, places: Places) -> Le
         mask: more(needed.mask),
         work_sums: more(needed.work_sums),
         order: more(needed.order),
-        heads: more(given.len),
-        fixed_heads: more(protected),
+        heads: more(needed.nexts),
         cand_sums: more(needed.cand_sums),
-        next_words: more(needed.next_words),
         place_order: more(held),
         place_work: more(held),
-        place_kept: more(needed.place_kept),
         ..needed
     };
     let (out_words, out_values) = (more(WORD_LANES * listed), more(listed));
@@ -192,15 +189,10 @@ pub fn filled(rng: &mut Rng, sizes: LeakageSizes, out_words: usize, out_values: 
         order: lanes(rng, sizes.order),
         heads: lanes(rng, sizes.heads),
         nexts: lanes(rng, sizes.nexts),
-        fixed_heads: lanes(rng, sizes.fixed_heads),
-        fixed_nexts: lanes(rng, sizes.fixed_nexts),
         cand_words: lanes(rng, sizes.cand_words),
         cand_sums: numbers(sizes.cand_sums),
-        next_words: lanes(rng, sizes.next_words),
-        next_sums: numbers(sizes.next_sums),
         place_order: lanes(rng, sizes.place_order),
         place_work: lanes(rng, sizes.place_work),
-        place_kept: lanes(rng, sizes.place_kept),
         out_words: lanes(rng, out_words),
         out_values: numbers(out_values),
     }
@@ -236,15 +228,13 @@ pub fn spoil(rng: &mut Rng, n_qubits: usize, given: &mut Given, room: &mut LeakR
         _ => {
             let count = protected.len() / WORD_LANES;
             let rows = leakage_sizes(n_qubits, 0, 0, 0, 0).h_index;
-            match rng.below(8) {
+            match rng.below(6) {
                 0 => shorten(rng, &mut room.h_index, rows),
                 1 => shorten(rng, &mut room.j_index, rows),
                 2 => shorten(rng, &mut room.mask, 64),
                 3 => shorten(rng, &mut room.order, places),
-                4 => shorten(rng, &mut room.heads, places),
-                5 => shorten(rng, &mut room.nexts, places),
-                6 => shorten(rng, &mut room.fixed_heads, count),
-                _ => shorten(rng, &mut room.fixed_nexts, count),
+                4 => shorten(rng, &mut room.heads, places + count),
+                _ => shorten(rng, &mut room.nexts, places + count),
             }
         }
     }

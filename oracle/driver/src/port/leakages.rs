@@ -29,15 +29,10 @@ pub struct LeakageSizes {
     pub order: usize,
     pub heads: usize,
     pub nexts: usize,
-    pub fixed_heads: usize,
-    pub fixed_nexts: usize,
     pub cand_words: usize,
     pub cand_sums: usize,
-    pub next_words: usize,
-    pub next_sums: usize,
     pub place_order: usize,
     pub place_work: usize,
-    pub place_kept: usize,
 }
 
 /// What leakage is given beside the model. Words are given by their lanes, and the first `len` are the
@@ -62,15 +57,10 @@ pub struct LeakRoom {
     pub order: Vec<u64>,
     pub heads: Vec<u64>,
     pub nexts: Vec<u64>,
-    pub fixed_heads: Vec<u64>,
-    pub fixed_nexts: Vec<u64>,
     pub cand_words: Vec<u64>,
     pub cand_sums: Vec<f64>,
-    pub next_words: Vec<u64>,
-    pub next_sums: Vec<f64>,
     pub place_order: Vec<u64>,
     pub place_work: Vec<u64>,
-    pub place_kept: Vec<u64>,
     pub out_words: Vec<u64>,
     pub out_values: Vec<f64>,
 }
@@ -87,22 +77,17 @@ impl LeakRoom {
             order: vec![0; lengths.order],
             heads: vec![0; lengths.heads],
             nexts: vec![0; lengths.nexts],
-            fixed_heads: vec![0; lengths.fixed_heads],
-            fixed_nexts: vec![0; lengths.fixed_nexts],
             cand_words: vec![0; lengths.cand_words],
             cand_sums: vec![0.0; lengths.cand_sums],
-            next_words: vec![0; lengths.next_words],
-            next_sums: vec![0.0; lengths.next_sums],
             place_order: vec![0; lengths.place_order],
             place_work: vec![0; lengths.place_work],
-            place_kept: vec![0; lengths.place_kept],
             out_words: vec![0; WORD_LANES * listed],
             out_values: vec![0.0; listed],
         }
     }
 
     /// The tables of lanes and places that are work tables.
-    pub fn work_lanes(&mut self) -> [&mut Vec<u64>; 14] {
+    pub fn work_lanes(&mut self) -> [&mut Vec<u64>; 10] {
         [
             &mut self.h_index,
             &mut self.j_index,
@@ -111,27 +96,19 @@ impl LeakRoom {
             &mut self.order,
             &mut self.heads,
             &mut self.nexts,
-            &mut self.fixed_heads,
-            &mut self.fixed_nexts,
             &mut self.cand_words,
-            &mut self.next_words,
             &mut self.place_order,
             &mut self.place_work,
-            &mut self.place_kept,
         ]
     }
 
     /// Those of numbers.
-    pub fn work_numbers(&mut self) -> [&mut Vec<f64>; 3] {
-        [
-            &mut self.work_sums,
-            &mut self.cand_sums,
-            &mut self.next_sums,
-        ]
+    pub fn work_numbers(&mut self) -> [&mut Vec<f64>; 2] {
+        [&mut self.work_sums, &mut self.cand_sums]
     }
 
     /// All tables of lanes and places, and all of numbers.
-    fn tables(&self) -> ([&Vec<u64>; 15], [&Vec<f64>; 4]) {
+    fn tables(&self) -> ([&Vec<u64>; 11], [&Vec<f64>; 3]) {
         let lanes = [
             &self.h_index,
             &self.j_index,
@@ -140,21 +117,12 @@ impl LeakRoom {
             &self.order,
             &self.heads,
             &self.nexts,
-            &self.fixed_heads,
-            &self.fixed_nexts,
             &self.cand_words,
-            &self.next_words,
             &self.place_order,
             &self.place_work,
-            &self.place_kept,
             &self.out_words,
         ];
-        let numbers = [
-            &self.work_sums,
-            &self.cand_sums,
-            &self.next_sums,
-            &self.out_values,
-        ];
+        let numbers = [&self.work_sums, &self.cand_sums, &self.out_values];
         (lanes, numbers)
     }
 
@@ -169,15 +137,10 @@ impl LeakRoom {
             order: self.order.len(),
             heads: self.heads.len(),
             nexts: self.nexts.len(),
-            fixed_heads: self.fixed_heads.len(),
-            fixed_nexts: self.fixed_nexts.len(),
             cand_words: self.cand_words.len(),
             cand_sums: self.cand_sums.len(),
-            next_words: self.next_words.len(),
-            next_sums: self.next_sums.len(),
             place_order: self.place_order.len(),
             place_work: self.place_work.len(),
-            place_kept: self.place_kept.len(),
         }
     }
 
@@ -201,10 +164,10 @@ impl PartialEq for LeakRoom {
 impl Debug for LeakRoom {
     fn fmt(&self, f: &mut Formatter) -> std::fmt::Result {
         let (lanes, numbers) = self.tables();
-        let zero = lanes[..15]
+        let zero = lanes[..10]
             .iter()
             .all(|table| table.iter().all(|&lane| lane == 0))
-            && numbers[..4]
+            && numbers[..2]
                 .iter()
                 .all(|table| table.iter().all(|x| x.to_bits() == 0));
         let lists = format!("{:x?} {:?}", self.out_words, self.out_values);
@@ -259,24 +222,14 @@ unsafe extern "C" {
         heads_len: usize,
         nexts: *mut u64,
         nexts_len: usize,
-        fixed_heads: *mut u64,
-        fixed_heads_len: usize,
-        fixed_nexts: *mut u64,
-        fixed_nexts_len: usize,
         cand_words: *mut u64,
         cand_words_len: usize,
         cand_sums: *mut f64,
         cand_sums_len: usize,
-        next_words: *mut u64,
-        next_words_len: usize,
-        next_sums: *mut f64,
-        next_sums_len: usize,
         place_order: *mut u64,
         place_order_len: usize,
         place_work: *mut u64,
         place_work_len: usize,
-        place_kept: *mut u64,
-        place_kept_len: usize,
         out_words: *mut u64,
         out_words_len: usize,
         out_values: *mut f64,
@@ -336,24 +289,14 @@ pub fn leakage_with_prune(model: Model, lent: &Lent, given: &Given, room: &mut L
             room.heads.len(),
             room.nexts.as_mut_ptr(),
             room.nexts.len(),
-            room.fixed_heads.as_mut_ptr(),
-            room.fixed_heads.len(),
-            room.fixed_nexts.as_mut_ptr(),
-            room.fixed_nexts.len(),
             room.cand_words.as_mut_ptr(),
             room.cand_words.len(),
             room.cand_sums.as_mut_ptr(),
             room.cand_sums.len(),
-            room.next_words.as_mut_ptr(),
-            room.next_words.len(),
-            room.next_sums.as_mut_ptr(),
-            room.next_sums.len(),
             room.place_order.as_mut_ptr(),
             room.place_order.len(),
             room.place_work.as_mut_ptr(),
             room.place_work.len(),
-            room.place_kept.as_mut_ptr(),
-            room.place_kept.len(),
             room.out_words.as_mut_ptr(),
             room.out_words.len(),
             room.out_values.as_mut_ptr(),

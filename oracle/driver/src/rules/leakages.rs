@@ -41,17 +41,12 @@ pub fn leakage_sizes(
         work_words: WORD_LANES * touched,
         work_sums: 2 * touched,
         order: entries,
-        heads: 2 * entries,
-        nexts: entries,
-        fixed_heads: 2 * protected,
-        fixed_nexts: protected,
+        heads: 2 * (entries + protected),
+        nexts: entries + protected,
         cand_words: WORD_LANES * candidates,
         cand_sums: candidates,
-        next_words: WORD_LANES * candidates,
-        next_sums: candidates,
         place_order: 2 * candidates,
         place_work: candidates,
-        place_kept: candidates,
     }
 }
 
@@ -102,10 +97,8 @@ fn leakage_tested(
     lent_places(rows, room.j_index.len())?;
     lent_places(where_any(len, ROW_LANES), room.mask.len())?;
     lent_places(len, room.order.len())?;
-    lent_places(len, room.heads.len())?;
-    lent_places(len, room.nexts.len())?;
-    lent_places(where_any(len, count), room.fixed_heads.len())?;
-    lent_places(where_any(len, count), room.fixed_nexts.len())?;
+    lent_places(where_any(len, len + count), room.heads.len())?;
+    lent_places(where_any(len, len + count), room.nexts.len())?;
     let (basis, protected) = (words(&given.words, len), words(protected, count));
     inside(&basis, model.qubits)?;
     inside(&protected, model.qubits)?;
@@ -244,11 +237,8 @@ fn candidate_places(room: &LeakRoom) -> usize {
     let slices = [
         room.cand_words.len() / WORD_LANES,
         room.cand_sums.len(),
-        room.next_words.len() / WORD_LANES,
-        room.next_sums.len(),
         room.place_order.len(),
         room.place_work.len(),
-        room.place_kept.len(),
     ];
     slices.into_iter().min().expect("there are slices")
 }

@@ -7,8 +7,8 @@ use native.Mathlib.Omega.{arith}
 use lib.ListN.{length}
 use mathlib.Core.Path.{_≡_, sym, _∙_}
 use Rattle.lent.proofs.Firsts.{NoneBefore, none-start, stops-here, goes-on, stops-last}
-use Rattle.csr.specs.Walks.{badPlace}
-use Rattle.csr.proofs.PlaceLaws.{in-place, Placed, placed-start, place-is, placed-next}
+use Rattle.matrix_row.specs.Walks.{badPlace}
+use Rattle.matrix_row.proofs.PlaceLaws.{in-place, Placed, placed-start, place-is, placed-next}
 use borrow.Author.Needs.{needs}
 use Rattle.csr.proofs.check.first_misplaced.Statement.{statement}
 use Rattle.csr.proofs.check.first_misplaced.Tie as tie

@@ -43,7 +43,7 @@ use denote.Triple.Table.{entered, cited}
 use denote.Triple.Walked.{says, Stays, stay-none, stay-none-slice, walkOf, goes-none, goes-none-slice, Walks, ends-at, walked, walk-meets}
 use denote.Exit.{yes}
 use denote.Triple.Clauses.{ensured, lasts}
-use Rattle.csr.specs.Rows.{rowOf}
+use Rattle.matrix_row.specs.Rows.{rowOf}
 use Rattle.csr.specs.declared.reader.RowReader.{RowReader}
 use Rattle.csr.proofs.reader.RowReader as T
 use Rattle.csr.proofs.reader.RowReader.Laws as T′

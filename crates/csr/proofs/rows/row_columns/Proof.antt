@@ -4,9 +4,9 @@
 -- `rows::row_columns` meets its contract: the row stands inside. Assumes nothing.
 use mathlib.Core.Path.{ap}
 use lib.ListN.{length}
-use Rattle.csr.specs.Rows.{partOf, rowOf}
-use Rattle.csr.specs.declared.rows.Row.{Row}
-use Rattle.csr.proofs.RowLaws.{Inside, row-inside}
+use Rattle.matrix_row.specs.Rows.{partOf, rowOf}
+use Rattle.matrix_row.specs.declared.rows.Row.{Row}
+use Rattle.matrix_row.proofs.RowLaws.{Inside, row-inside}
 use borrow.Author.Needs.{needs}
 use Rattle.csr.proofs.rows.row_columns.Statement.{statement}
 use Rattle.csr.proofs.rows.row_columns.Tie as tie

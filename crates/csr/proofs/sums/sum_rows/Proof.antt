@@ -9,9 +9,9 @@ use borrow.Author.Tests.{not-true, not-false}
 use lib.Ieee.{Float}
 use lib.ListN.{getD, length}
 use Rattle.number.specs.Floats.{isFinite}
-use Rattle.csr.specs.Rows.{partOf}
+use Rattle.matrix_row.specs.Rows.{partOf}
 use Rattle.csr.specs.Walks.{fullAt}
-use Rattle.csr.proofs.RowLaws.{part-length}
+use Rattle.matrix_row.proofs.RowLaws.{part-length}
 use Rattle.csr.proofs.WalkLaws.{Walking, walking-start, walking-next, work-long, stopped-here, stopped-never, stops-row, stops-value, goes-on, falling-row, outside-row, stopped-row, passed-row, stored-here}
 use borrow.Author.Needs.{needs}
 use Rattle.csr.proofs.sums.sum_rows.Statement.{statement}

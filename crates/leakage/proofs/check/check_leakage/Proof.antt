@@ -19,7 +19,7 @@ returns c =
     let a = c .before .before .before .before .before .before .before .before .before .before .before .before .args in
     let t : ModelTables = modelTables (a .h-words .now) (a .h-coeffs .now) (a .jumps .now) (a .rates .now) (a .t-words .now) (a .t-numbers .now) in
     let b : Basis = basisOf (a .words .now) (a .coeffs .now) (a .len) (a .protected .now) in
-    λ w eh ej ek eo ehe ene efh efn.
+    λ w eh ej ek eo ehe ene.
     c .enum-told2 .given .1 ∙ model-refused (a .m) t b (a .limits) w _ (sym (c .before .before .test-model .ensures) ∙ c .enum-told2 .given .1)
 
 returns-2 : tie.Need-returns-2
@@ -27,7 +27,7 @@ returns-2 c =
     let a = c .before .before .before .before .before .before .before .before .before .before .before .before .before .args in
     let t : ModelTables = modelTables (a .h-words .now) (a .h-coeffs .now) (a .jumps .now) (a .rates .now) (a .t-words .now) (a .t-numbers .now) in
     let b : Basis = basisOf (a .words .now) (a .coeffs .now) (a .len) (a .protected .now) in
-    λ w eh ej ek eo ehe ene efh efn.
+    λ w eh ej ek eo ehe ene.
     words-many (a .m) t b (a .limits) w (sym (c .before .before .before .test-model .ensures) ∙ c .before .enum-told .given .1) (c .if1 .taken)
 
 returns-3 : tie.Need-returns-3
@@ -35,7 +35,7 @@ returns-3 c =
     let a = c .before .before .before .before .before .before .before .before .before .before .before .before .before .before .args in
     let t : ModelTables = modelTables (a .h-words .now) (a .h-coeffs .now) (a .jumps .now) (a .rates .now) (a .t-words .now) (a .t-numbers .now) in
     let b : Basis = basisOf (a .words .now) (a .coeffs .now) (a .len) (a .protected .now) in
-    λ w eh ej ek eo ehe ene efh efn.
+    λ w eh ej ek eo ehe ene.
     protected-many (a .m) t b (a .limits) w (sym (c .before .before .before .before .test-model .ensures) ∙ c .before .before .enum-told .given .1) (c .before .if1 .left) (c .if2 .taken)
 
 returns-4 : tie.Need-returns-4
@@ -43,7 +43,7 @@ returns-4 c =
     let a = c .before .before .before .before .before .before .before .before .before .before .before .before .before .before .before .before .before .args in
     let t : ModelTables = modelTables (a .h-words .now) (a .h-coeffs .now) (a .jumps .now) (a .rates .now) (a .t-words .now) (a .t-numbers .now) in
     let b : Basis = basisOf (a .words .now) (a .coeffs .now) (a .len) (a .protected .now) in
-    λ w eh ej ek eo ehe ene efh efn.
+    λ w eh ej ek eo ehe ene.
     c .enum-told4 .given .1 ∙ limits-refused (a .m) t b (a .limits) w (sym (c .before .before .before .before .before .before .before .test-model .ensures) ∙ c .before .before .before .before .before .enum-told .given .1) (c .before .before .before .before .if1 .left) (c .before .before .before .if2 .left) _ (sym (c .before .before .check-limits .ensures) ∙ c .enum-told4 .given .1)
 
 returns-5 : tie.Need-returns-5
@@ -51,7 +51,7 @@ returns-5 c =
     let a = c .before .before .before .before .before .before .before .before .before .before .before .before .before .before .before .before .before .before .before .args in
     let t : ModelTables = modelTables (a .h-words .now) (a .h-coeffs .now) (a .jumps .now) (a .rates .now) (a .t-words .now) (a .t-numbers .now) in
     let b : Basis = basisOf (a .words .now) (a .coeffs .now) (a .len) (a .protected .now) in
-    λ w eh ej ek eo ehe ene efh efn.
+    λ w eh ej ek eo ehe ene.
     c .mismatch .ensures ∙ words-short (a .m) t b (a .limits) w (sym (c .before .before .before .before .before .before .before .before .before .test-model .ensures) ∙ c .before .before .before .before .before .before .before .enum-told .given .1) (c .before .before .before .before .before .before .if1 .left) (c .before .before .before .before .before .if2 .left) (sym (c .before .before .before .before .check-limits .ensures) ∙ c .before .before .enum-told3 .given .1) (c .before .if3 .taken)
 
 returns-6 : tie.Need-returns-6
@@ -59,7 +59,7 @@ returns-6 c =
     let a = c .before .before .before .before .before .before .before .before .before .before .before .before .before .before .before .before .before .before .before .before .args in
     let t : ModelTables = modelTables (a .h-words .now) (a .h-coeffs .now) (a .jumps .now) (a .rates .now) (a .t-words .now) (a .t-numbers .now) in
     let b : Basis = basisOf (a .words .now) (a .coeffs .now) (a .len) (a .protected .now) in
-    λ w eh ej ek eo ehe ene efh efn.
+    λ w eh ej ek eo ehe ene.
     c .mismatch2 .ensures ∙ coeffs-short (a .m) t b (a .limits) w (sym (c .before .before .before .before .before .before .before .before .before .before .test-model .ensures) ∙ c .before .before .before .before .before .before .before .before .enum-told .given .1) (c .before .before .before .before .before .before .before .if1 .left) (c .before .before .before .before .before .before .if2 .left) (sym (c .before .before .before .before .before .check-limits .ensures) ∙ c .before .before .before .enum-told3 .given .1) (c .before .before .if3 .left) (c .before .if4 .taken)
 
 returns-7 : tie.Need-returns-7
@@ -67,7 +67,7 @@ returns-7 c =
     let a = c .before .before .before .before .before .before .before .before .before .before .before .before .before .before .before .before .before .before .before .before .before .args in
     let t : ModelTables = modelTables (a .h-words .now) (a .h-coeffs .now) (a .jumps .now) (a .rates .now) (a .t-words .now) (a .t-numbers .now) in
     let b : Basis = basisOf (a .words .now) (a .coeffs .now) (a .len) (a .protected .now) in
-    λ w eh ej ek eo ehe ene efh efn.
+    λ w eh ej ek eo ehe ene.
     c .mismatch3 .ensures ∙ lanes-over (a .m) t b (a .limits) w (sym (c .before .before .before .before .before .before .before .before .before .before .before .test-model .ensures) ∙ c .before .before .before .before .before .before .before .before .before .enum-told .given .1) (c .before .before .before .before .before .before .before .before .if1 .left) (c .before .before .before .before .before .before .before .if2 .left) (sym (c .before .before .before .before .before .before .check-limits .ensures) ∙ c .before .before .before .before .enum-told3 .given .1) (c .before .before .before .if3 .left) (c .before .before .if4 .left) (ne-eqb _ _ (c .before .if5 .taken))
 
 returns-8 : tie.Need-returns-8
@@ -75,31 +75,31 @@ returns-8 c =
     let a = c .before .before .before .before .before .before .before .before .before .before .before .before .before .before .before .before .before .before .before .before .before .before .before .args in
     let t : ModelTables = modelTables (a .h-words .now) (a .h-coeffs .now) (a .jumps .now) (a .rates .now) (a .t-words .now) (a .t-numbers .now) in
     let b : Basis = basisOf (a .words .now) (a .coeffs .now) (a .len) (a .protected .now) in
-    λ w eh ej ek eo ehe ene efh efn.
-    c .enum-told6 .given .1 ∙ work-refused (a .m) t b (a .limits) w (sym (c .before .before .before .before .before .before .before .before .before .before .before .before .before .test-model .ensures) ∙ c .before .before .before .before .before .before .before .before .before .before .before .enum-told .given .1) (c .before .before .before .before .before .before .before .before .before .before .if1 .left) (c .before .before .before .before .before .before .before .before .before .if2 .left) (sym (c .before .before .before .before .before .before .before .before .check-limits .ensures) ∙ c .before .before .before .before .before .before .enum-told3 .given .1) (c .before .before .before .before .before .if3 .left) (c .before .before .before .before .if4 .left) (eq-eqb _ _ (c .before .before .before .if5 .left)) _ (sym (c .before .before .check-work .ensures w eh ej ek eo ehe ene efh efn) ∙ c .enum-told6 .given .1)
+    λ w eh ej ek eo ehe ene.
+    c .enum-told6 .given .1 ∙ work-refused (a .m) t b (a .limits) w (sym (c .before .before .before .before .before .before .before .before .before .before .before .before .before .test-model .ensures) ∙ c .before .before .before .before .before .before .before .before .before .before .before .enum-told .given .1) (c .before .before .before .before .before .before .before .before .before .before .if1 .left) (c .before .before .before .before .before .before .before .before .before .if2 .left) (sym (c .before .before .before .before .before .before .before .before .check-limits .ensures) ∙ c .before .before .before .before .before .before .enum-told3 .given .1) (c .before .before .before .before .before .if3 .left) (c .before .before .before .before .if4 .left) (eq-eqb _ _ (c .before .before .before .if5 .left)) _ (sym (c .before .before .check-work .ensures w eh ej ek eo ehe ene) ∙ c .enum-told6 .given .1)
 
 returns-9 : tie.Need-returns-9
 returns-9 c =
     let a = c .before .before .before .before .before .before .before .before .before .before .before .before .before .before .before .before .before .before .before .before .before .before .before .before .before .before .args in
     let t : ModelTables = modelTables (a .h-words .now) (a .h-coeffs .now) (a .jumps .now) (a .rates .now) (a .t-words .now) (a .t-numbers .now) in
     let b : Basis = basisOf (a .words .now) (a .coeffs .now) (a .len) (a .protected .now) in
-    λ w eh ej ek eo ehe ene efh efn.
-    c .enum-told8 .given .1 ∙ entries-refused (a .m) t b (a .limits) w (sym (c .before .before .before .before .before .before .before .before .before .before .before .before .before .before .before .before .test-model .ensures) ∙ c .before .before .before .before .before .before .before .before .before .before .before .before .before .before .enum-told .given .1) (c .before .before .before .before .before .before .before .before .before .before .before .before .before .if1 .left) (c .before .before .before .before .before .before .before .before .before .before .before .before .if2 .left) (sym (c .before .before .before .before .before .before .before .before .before .before .before .check-limits .ensures) ∙ c .before .before .before .before .before .before .before .before .before .enum-told3 .given .1) (c .before .before .before .before .before .before .before .before .if3 .left) (c .before .before .before .before .before .before .before .if4 .left) (eq-eqb _ _ (c .before .before .before .before .before .before .if5 .left)) (sym (c .before .before .before .before .before .check-work .ensures w eh ej ek eo ehe ene efh efn) ∙ c .before .before .before .enum-told5 .given .1) _ (entries-are (a .m .qubits) b (sym (c .before .before .check-entries .ensures) ∙ c .enum-told8 .given .1))
+    λ w eh ej ek eo ehe ene.
+    c .enum-told8 .given .1 ∙ entries-refused (a .m) t b (a .limits) w (sym (c .before .before .before .before .before .before .before .before .before .before .before .before .before .before .before .before .test-model .ensures) ∙ c .before .before .before .before .before .before .before .before .before .before .before .before .before .before .enum-told .given .1) (c .before .before .before .before .before .before .before .before .before .before .before .before .before .if1 .left) (c .before .before .before .before .before .before .before .before .before .before .before .before .if2 .left) (sym (c .before .before .before .before .before .before .before .before .before .before .before .check-limits .ensures) ∙ c .before .before .before .before .before .before .before .before .before .enum-told3 .given .1) (c .before .before .before .before .before .before .before .before .if3 .left) (c .before .before .before .before .before .before .before .if4 .left) (eq-eqb _ _ (c .before .before .before .before .before .before .if5 .left)) (sym (c .before .before .before .before .before .check-work .ensures w eh ej ek eo ehe ene) ∙ c .before .before .before .enum-told5 .given .1) _ (entries-are (a .m .qubits) b (sym (c .before .before .check-entries .ensures) ∙ c .enum-told8 .given .1))
 
 returns-10 : tie.Need-returns-10
 returns-10 c =
     let a = c .before .before .before .before .before .before .before .before .before .before .before .before .before .before .before .before .before .before .before .before .before .before .before .before .before .before .before .args in
     let t : ModelTables = modelTables (a .h-words .now) (a .h-coeffs .now) (a .jumps .now) (a .rates .now) (a .t-words .now) (a .t-numbers .now) in
     let b : Basis = basisOf (a .words .now) (a .coeffs .now) (a .len) (a .protected .now) in
-    λ w eh ej ek eo ehe ene efh efn.
-    c .check-threshold .ensures ∙ threshold-left (a .m) t b (a .limits) w (sym (c .before .before .before .before .before .before .before .before .before .before .before .before .before .before .before .before .before .test-model .ensures) ∙ c .before .before .before .before .before .before .before .before .before .before .before .before .before .before .before .enum-told .given .1) (c .before .before .before .before .before .before .before .before .before .before .before .before .before .before .if1 .left) (c .before .before .before .before .before .before .before .before .before .before .before .before .before .if2 .left) (sym (c .before .before .before .before .before .before .before .before .before .before .before .before .check-limits .ensures) ∙ c .before .before .before .before .before .before .before .before .before .before .enum-told3 .given .1) (c .before .before .before .before .before .before .before .before .before .if3 .left) (c .before .before .before .before .before .before .before .before .if4 .left) (eq-eqb _ _ (c .before .before .before .before .before .before .before .if5 .left)) (sym (c .before .before .before .before .before .before .check-work .ensures w eh ej ek eo ehe ene efh efn) ∙ c .before .before .before .before .enum-told5 .given .1) (entries-are (a .m .qubits) b (sym (c .before .before .before .check-entries .ensures) ∙ c .before .enum-told7 .given .1))
+    λ w eh ej ek eo ehe ene.
+    c .check-threshold .ensures ∙ threshold-left (a .m) t b (a .limits) w (sym (c .before .before .before .before .before .before .before .before .before .before .before .before .before .before .before .before .before .test-model .ensures) ∙ c .before .before .before .before .before .before .before .before .before .before .before .before .before .before .before .enum-told .given .1) (c .before .before .before .before .before .before .before .before .before .before .before .before .before .before .if1 .left) (c .before .before .before .before .before .before .before .before .before .before .before .before .before .if2 .left) (sym (c .before .before .before .before .before .before .before .before .before .before .before .before .check-limits .ensures) ∙ c .before .before .before .before .before .before .before .before .before .before .enum-told3 .given .1) (c .before .before .before .before .before .before .before .before .before .if3 .left) (c .before .before .before .before .before .before .before .before .if4 .left) (eq-eqb _ _ (c .before .before .before .before .before .before .before .if5 .left)) (sym (c .before .before .before .before .before .before .check-work .ensures w eh ej ek eo ehe ene) ∙ c .before .before .before .before .enum-told5 .given .1) (entries-are (a .m .qubits) b (sym (c .before .before .before .check-entries .ensures) ∙ c .before .enum-told7 .given .1))
 
 check-work-requires : tie.Need-check-work-requires
 check-work-requires c κs =
     let a = c .before .before .before .before .before .before .before .before .before .before .before .before .before .before .before .before .before .before .before .before .args in
     let t : ModelTables = modelTables (a .h-words .now) (a .h-coeffs .now) (a .jumps .now) (a .rates .now) (a .t-words .now) (a .t-numbers .now) in
     let s = tested-stands (a .m) t (sym (c .before .before .before .before .before .before .before .before .before .before .test-model .ensures) ∙ c .before .before .before .before .before .before .before .before .enum-told .given .1) in
-    omega (arith, s .qubits)
+    (omega (arith, s .qubits), c .before .before .before .before .before .before .before .if1 .left, c .before .before .before .before .before .before .if2 .left)
 
 check-entries-requires : tie.Need-check-entries-requires
 check-entries-requires c κs = (omega (arith, c .before .before .before .before .before .if3 .left), c .before .before .before .before .if4 .left)

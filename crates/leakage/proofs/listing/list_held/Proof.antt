@@ -3,7 +3,7 @@
 
 -- `listing::list_held` meets its contract. Assumes nothing.
 use native.Mathlib.Omega.{arith}
-use Rattle.candidates.specs.Tables.{candidateRows}
+use Rattle.passes.specs.Between.{rowsAt}
 use Rattle.leakage.proofs.OutLaws.{listing-full, listing-done}
 use borrow.Author.Needs.{needs}
 use Rattle.leakage.proofs.listing.list_held.Statement.{statement}
@@ -11,19 +11,21 @@ use Rattle.leakage.proofs.listing.list_held.Tie as tie
 
 returns : tie.Need-returns
 returns c =
-    let a = c .before .before .before .before .before .before .before .args in
-    listing-full (a .tau-add) (a .out-words .now) (a .out-values .now) (candidateRows (a .n) (a .words .now) (a .sums .now)) _ _ (c .before .before .count-above .ensures) (c .before .smaller .ensures) (c .if1 .taken)
+    let a = c .before .before .before .before .before .before .before .before .args in
+    listing-full (a .tau-add) (a .out-words .now) (a .out-values .now) (rowsAt (a .words .now) (a .sums .now) (a .order .now)) _ _ (c .before .before .count-above .ensures) (c .before .smaller .ensures) (c .if1 .taken)
 
 list-above-requires : tie.Need-list-above-requires
 list-above-requires c κs =
-    let s = c .before .before .before .before .before .before .before .before .before in
-    (s .pre, omega (arith, c .before .before .before .before .count-above .ensures, c .before .before .before .smaller .ensures, c .before .before .if1 .left), omega (arith, c .before .before .before .before .count-above .ensures, c .before .before .before .smaller .ensures, c .before .before .if1 .left))
+    let s = c .before .before .before .before .before .before .before .before .before .before in
+    let n = c .before .before .before .before .count-above .ensures in
+    let p = c .before .before .before .smaller .ensures in
+    (s .pre, omega (arith, n, p, c .before .before .if1 .left), omega (arith, n, p, c .before .before .if1 .left))
 
 returns-2 : tie.Need-returns-2
 returns-2 c =
-    let a = c .before .before .before .before .before .before .before .before .before .before .before .before .before .before .args in
+    let a = c .before .before .before .before .before .before .before .before .before .before .before .before .before .before .before .args in
     let e = c .before .before .before .before .list-above .ensures in
-    listing-done (a .tau-add) (a .out-words .now) (a .out-values .now) (candidateRows (a .n) (a .words .now) (a .sums .now)) _ _ (c .before .before .before .before .before .before .before .before .before .count-above .ensures) (c .before .before .before .before .before .before .before .before .smaller .ensures) _ _ (c .before .before .before .before .before .before .before .if1 .left) (e .0) (e .1)
+    listing-done (a .tau-add) (a .out-words .now) (a .out-values .now) (rowsAt (a .words .now) (a .sums .now) (a .order .now)) _ _ (c .before .before .before .before .before .before .before .before .before .count-above .ensures) (c .before .before .before .before .before .before .before .before .smaller .ensures) _ _ (c .before .before .before .before .before .before .before .if1 .left) (e .0) (e .1)
 
 pub list-held-spec : {M : Type 1} → statement M
 list-held-spec =

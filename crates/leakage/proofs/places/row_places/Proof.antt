@@ -9,16 +9,13 @@ use Rattle.leakage.proofs.places.row_places.Tie as tie
 
 returns : tie.Need-returns
 returns c =
-    let a = c .before .before .before .before .before .before .args in
-    row-places-are (a .cand-words) (a .cand-sums) (a .next-words) (a .next-sums) (a .place-order) (a .place-work) (a .place-kept) (c .before .before .before .before .before .smaller .ensures) (c .before .before .before .before .smaller2 .ensures) (c .before .before .before .smaller3 .ensures) (c .before .before .smaller4 .ensures) (c .before .smaller5 .ensures) (c .smaller6 .ensures)
+    let a = c .before .before .before .args in
+    row-places-are (a .cand-words) (a .cand-sums) (a .place-order) (a .place-work) (c .before .before .smaller .ensures) (c .before .smaller2 .ensures) (c .smaller3 .ensures)
 
 pub row-places-spec : {M : Type 1} → statement M
 row-places-spec =
     tie.close
     (tie.spec
-    (λ c κs. search needs)
-    (λ c κs. search needs)
-    (λ c κs. search needs)
     (λ c κs. search needs)
     (λ c κs. search needs)
     (λ c κs. search needs)

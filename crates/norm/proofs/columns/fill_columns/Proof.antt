@@ -10,7 +10,7 @@ use Rattle.word.specs.Flat.{words}
 use Rattle.model.specs.Stored.{ModelTables}
 use Rattle.action.specs.Counts.{touchedBy}
 use Rattle.action.proofs.ActLaws.{empty-room, sums-full, sums-held, listed-are, sums-inside}
-use Rattle.norm.specs.Columns.{rawOf, diagOf, rawBy, diagBy}
+use Rattle.column_norm.specs.Columns.{rawOf, diagOf, rawBy, diagBy}
 use Rattle.norm.proofs.FillLaws.{FillState, fill-start, fill-more, fill-full, fill-done, word-inside, words-are, word-taken}
 use Rattle.model.specs.Between.{modelTables}
 use borrow.Author.Needs.{needs}

@@ -19,41 +19,41 @@ use Rattle.passes.proofs.terms.put_terms.Statement.{statement}
 use Rattle.passes.proofs.terms.put_terms.Tie as tie
 
 abbrev Inv-loop : tie.InvT-loop
-Inv-loop sum-words term-sums touched c basis heads nexts protected fixed-heads fixed-nexts words₀ sums₀ room n order₀ work₀ held₀ i₀ words sums order work held i =
+Inv-loop sum-words term-sums touched c basis heads nexts protected words₀ sums₀ room n order₀ work₀ held₀ i₀ words sums order work held i =
     TermState (outside (wordsIn basis) (wordsIn protected)) c touched sum-words term-sums room (putRows (leaked (outside (wordsIn basis) (wordsIn protected)) c (listed (Terms.sumRows touched sum-words term-sums))) (inWordOrder (candidateRows n words₀ sums₀))) words sums order work held i
     × (length words ≡ length words₀) × (length sums ≡ length sums₀) × (length order ≡ length order₀) × (length work ≡ length work₀)
 
 abbrev μ-loop : tie.MeasureT-loop
-μ-loop sum-words term-sums touched c basis heads nexts protected fixed-heads fixed-nexts words₀ sums₀ room n order₀ work₀ held₀ i₀ words sums order work held i = touched - i
+μ-loop sum-words term-sums touched c basis heads nexts protected words₀ sums₀ room n order₀ work₀ held₀ i₀ words sums order work held i = touched - i
 
 loop-holds : tie.Need-loop-holds Inv-loop μ-loop
 loop-holds c =
-    let s = c .before .before .before .before .before .before .before .before .before .before .before .before in
+    let s = c .before .before .before .before .before .before .before .before .before .before in
     let a = s .args in
-    (term-start (outside (wordsIn (a .basis .now)) (wordsIn (a .protected .now))) (a .c) (a .touched) (a .sum-words .now) (a .term-sums .now) (a .room) (a .n) (a .words .now) (a .sums .now) (a .order .now) (a .work .now) (s .pre .4), refl, refl, refl, refl)
+    (term-start (outside (wordsIn (a .basis .now)) (wordsIn (a .protected .now))) (a .c) (a .touched) (a .sum-words .now) (a .term-sums .now) (a .room) (a .n) (a .words .now) (a .sums .now) (a .order .now) (a .work .now) (s .pre .3), refl, refl, refl, refl)
 
 term-at-requires : tie.Need-term-at-requires Inv-loop μ-loop
 term-at-requires c κs =
-    let h = c .before .before .before .before .before .before .before .before .before .before .before .before .before .before .pre in
+    let h = c .before .before .before .before .before .before .before .before .before .before .before .before .pre in
     (omega (arith, h .0, c .loop-test .taken), omega (arith, h .1, c .loop-test .taken))
 
 loop-again : tie.Need-loop-again Inv-loop μ-loop
 loop-again c =
-    let s = c .before .before .before .before .before .before .before .before .before .before .before .before .before .before .before .before .before in
+    let s = c .before .before .before .before .before .before .before .before .before .before .before .before .before .before .before in
     let a = s .args in
     let l = c .before .before .before .before .loop in
     let t = c .before .before .term-at in
     (term-passes (outside (wordsIn (a .basis .now)) (wordsIn (a .protected .now))) (a .c) (a .touched) (a .sum-words .now) (a .term-sums .now) (a .room) (s .pre .0) (s .pre .1) _ (l .words) (l .sums) (l .order) (l .work) (l .held) (l .i) (l .inv .0) (c .before .before .before .loop-test .taken) (onto (t .result)) (t .ensures) (sym (c .before .is-zero .ensures) ∙ c .if1 .taken), l .inv .1, l .inv .2, l .inv .3, l .inv .4)
 
 is-outside-requires : tie.Need-is-outside-requires Inv-loop μ-loop
-is-outside-requires c κs = let h = c .before .before .before .before .before .before .before .before .before .before .before .before .before .before .before .before .before .before .pre in (h .2, h .3)
+is-outside-requires c κs = let h = c .before .before .before .before .before .before .before .before .before .before .before .before .before .before .before .before .pre in h .2
 
 put-candidate-requires : tie.Need-put-candidate-requires Inv-loop μ-loop
 put-candidate-requires c κs = c .before .before .before .before .before .before .before .before .before .before .before .loop .inv .0 .stands
 
 returns : tie.Need-returns Inv-loop μ-loop
 returns c =
-    let s = c .before .before .before .before .before .before .before .before .before .before .before .before .before .before .before .before .before .before .before .before .before .before .before .before .before .before .before .before .before .before .before .before .before .before .before in
+    let s = c .before .before .before .before .before .before .before .before .before .before .before .before .before .before .before .before .before .before .before .before .before .before .before .before .before .before .before .before .before .before .before .before .before in
     let a = s .args in
     let l = c .before .before .before .before .before .before .before .before .before .before .before .before .before .before .before .before .before .before .before .before .before .before .loop in
     let t = c .before .before .before .before .before .before .before .before .before .before .before .before .before .before .before .before .before .before .before .before .term-at in
@@ -73,14 +73,14 @@ same-length-4 : tie.Need-same-length-4 Inv-loop μ-loop
 same-length-4 c = c .before .before .before .before .before .before .before .before .before .before .put-candidate .kept .1 .1 .1 .0 ∙ c .before .before .before .before .before .before .before .before .before .before .before .before .before .before .before .before .before .before .before .before .before .before .loop .inv .4
 
 add-i-2 : tie.Need-add-i-2 Inv-loop μ-loop
-add-i-2 c = search (c .before .before .before .before .before .before .before .before .before .before .before .before .before .before .before .before .before .before .before .before .before .before .before .before .before .before .before .before .before .before .before .before .before .before .before .before .fits .touched, c .before .before .before .before .before .before .before .before .before .before .before .before .before .before .before .before .before .before .before .before .before .before .loop-test .taken, needs)
+add-i-2 c = search (c .before .before .before .before .before .before .before .before .before .before .before .before .before .before .before .before .before .before .before .before .before .before .before .before .before .before .before .before .before .before .before .before .before .before .fits .touched, c .before .before .before .before .before .before .before .before .before .before .before .before .before .before .before .before .before .before .before .before .before .before .loop-test .taken, needs)
 
 loop-less-2 : tie.Need-loop-less-2 Inv-loop μ-loop
 loop-less-2 c = omega (arith, c .before .before .before .before .before .before .before .before .before .before .before .before .before .before .before .before .before .before .before .before .before .before .loop-test .taken)
 
 loop-again-2 : tie.Need-loop-again-2 Inv-loop μ-loop
 loop-again-2 c =
-    let s = c .before .before .before .before .before .before .before .before .before .before .before .before .before .before .before .before .before .before .before .before .before .before .before .before .before .before .before .before .before .before .before .before .before .before .before .before in
+    let s = c .before .before .before .before .before .before .before .before .before .before .before .before .before .before .before .before .before .before .before .before .before .before .before .before .before .before .before .before .before .before .before .before .before .before in
     let a = s .args in
     let l = c .before .before .before .before .before .before .before .before .before .before .before .before .before .before .before .before .before .before .before .before .before .before .before .loop in
     let t = c .before .before .before .before .before .before .before .before .before .before .before .before .before .before .before .before .before .before .before .before .before .term-at in
@@ -89,7 +89,7 @@ loop-again-2 c =
 
 loop-again-3 : tie.Need-loop-again-3 Inv-loop μ-loop
 loop-again-3 c =
-    let s = c .before .before .before .before .before .before .before .before .before .before .before .before .before .before .before .before .before .before .before .before in
+    let s = c .before .before .before .before .before .before .before .before .before .before .before .before .before .before .before .before .before .before in
     let a = s .args in
     let l = c .before .before .before .before .before .before .before .loop in
     let t = c .before .before .before .before .before .term-at in
@@ -97,7 +97,7 @@ loop-again-3 c =
 
 returns-2 : tie.Need-returns-2 Inv-loop μ-loop
 returns-2 c =
-    let s = c .before .before .before .before .before .before .before .before .before .before .before .before .before .before in
+    let s = c .before .before .before .before .before .before .before .before .before .before .before .before in
     let a = s .args in
     let l = c .before .loop in
     term-done (outside (wordsIn (a .basis .now)) (wordsIn (a .protected .now))) (a .c) (a .touched) (a .sum-words .now) (a .term-sums .now) (a .room) (s .pre .0) (s .pre .1) _ (l .words) (l .sums) (l .order) (l .work) (l .held) (l .i) (l .inv .0) (c .loop-test .left)

@@ -15,12 +15,12 @@ use Rattle.truncate.proofs.protect.flag_listed.Statement.{statement}
 use Rattle.truncate.proofs.protect.flag_listed.Tie as tie
 
 abbrev Inv-loop : tie.InvT-loop
-Inv-loop lanes protected heads nexts list flags₀ i₀ flags i =
+Inv-loop lanes protected heads nexts reach list flags₀ i₀ flags i =
     (i ≤ length list) × (length flags ≡ length flags₀)
     × (reflagged (protectedAt (wordsOf protected) (wordsOf lanes)) (drop i list) flags ≡ reflagged (protectedAt (wordsOf protected) (wordsOf lanes)) list flags₀)
 
 abbrev μ-loop : tie.MeasureT-loop
-μ-loop lanes protected heads nexts list flags₀ i₀ flags i = length list - i
+μ-loop lanes protected heads nexts reach list flags₀ i₀ flags i = length list - i
 
 loop-holds : tie.Need-loop-holds Inv-loop μ-loop
 loop-holds c = (omega arith, refl, refl)
@@ -30,24 +30,24 @@ word-at-requires c κs =
     let s = c .before .before .before .before .before .before .before .before .before in
     let n = length (s .args .flags .now) in
     let l = c .before .before .loop in
-    omega (arith, s .pre .1, all-at (λ x. x < n) (s .args .list .now) (l .i) (s .pre .2) (omega arith))
+    omega (arith, s .pre .2, all-at (λ x. x < n) (s .args .list .now) (l .i) (s .pre .3) (omega arith))
 
 flag-word-requires : tie.Need-flag-word-requires Inv-loop μ-loop
-flag-word-requires c κs = c .before .before .before .before .before .before .before .before .before .before .pre .0
+flag-word-requires c κs = let p = c .before .before .before .before .before .before .before .before .before .before .pre in (p .0, p .1)
 
 mul-flags : tie.Need-mul-flags Inv-loop μ-loop
 mul-flags c =
     let s = c .before .before .before .before .before .before .before .before .before .before .before in
     let n = length (s .args .flags .now) in
     let l = c .before .before .before .before .loop in
-    search (all-at (λ x. x < n) (s .args .list .now) (l .i) (s .pre .2) (omega arith), needs)
+    search (all-at (λ x. x < n) (s .args .list .now) (l .i) (s .pre .3) (omega arith), needs)
 
 slice-write-flags : tie.Need-slice-write-flags Inv-loop μ-loop
 slice-write-flags c =
     let s = c .before .before .before .before .before .before .before .before .before .before .before in
     let n = length (s .args .flags .now) in
     let l = c .before .before .before .before .loop in
-    omega (arith, l .inv .1, all-at (λ x. x < n) (s .args .list .now) (l .i) (s .pre .2) (omega arith))
+    omega (arith, l .inv .1, all-at (λ x. x < n) (s .args .list .now) (l .i) (s .pre .3) (omega arith))
 
 loop-again : tie.Need-loop-again Inv-loop μ-loop
 loop-again c =

@@ -1,0 +1,8 @@
+-- SPDX-FileCopyrightText: 2026 The PPVM Authors
+-- SPDX-License-Identifier: Apache-2.0
+
+-- Laws of this crate.
+pub mod RowLaws
+pub mod FiniteLaws
+pub mod PlaceLaws
+pub mod SumLaws

@@ -1,0 +1,8 @@
+-- SPDX-FileCopyrightText: 2026 The PPVM Authors
+-- SPDX-License-Identifier: Apache-2.0
+
+-- Words as others write them: texts, codes, and an order as a number.
+pub mod Text
+pub mod Codes
+pub mod Signs
+pub mod Between

@@ -1,0 +1,28 @@
+-- SPDX-FileCopyrightText: 2026 The PPVM Authors
+-- SPDX-License-Identifier: Apache-2.0
+
+-- The end of a step: what prune and cap keep of the grown basis is laid over the lent one. Past it stands zero where prune or cap acted, else
+-- what stood there.
+use Prim.Native.Nat.{ℕ, _-_, _*_}
+use mathlib.Core.Bool.{Bool, not, cond, _||_}
+use mathlib.Core.List.{List, _++_}
+use lib.Dec.{ltb}
+use lib.Ieee.{Float, le}
+use lib.ListN.{length, drop, replicate}
+use Rattle.word.specs.Flat.{flatLanes, wordLanes}
+use Rattle.word.specs.declared.word.Word.{Word}
+use Rattle.number.specs.Floats.{float0}
+use Rattle.step_laws.specs.Steps.{Stepped, prunedBy, cappedBy}
+
+abbrev pub kept : List Word → Float → ℕ → Stepped → Stepped
+kept protected dropTol limit g = cappedBy protected limit (prunedBy protected dropTol g)
+
+-- prune acts where drop_tol is above 0, and where it does not, cap acts on more words than its limit
+unfoldable pub acts : Float → ℕ → Stepped → Bool
+acts dropTol limit g = not (le dropTol float0) || ltb limit (length (g .words))
+
+unfoldable pub wordsAfter : Bool → Stepped → List ℕ → List ℕ
+wordsAfter acted s lanes = flatLanes (s .words) ++ cond acted (replicate (length lanes - wordLanes * length (s .words)) 0) (drop (wordLanes * length (s .words)) lanes)
+
+unfoldable pub numbersAfter : Bool → Stepped → List Float → List Float
+numbersAfter acted s coeffs = s .numbers ++ cond acted (replicate (length coeffs - length (s .numbers)) float0) (drop (length (s .numbers)) coeffs)
