@@ -4,7 +4,9 @@
 // A leg of a step: a hop from the numbers that the basis has, then the numbers that it starts from, with a zero for each word
 // that entered, evolved over the basis that the hop left.
 ghost use mathlib.Core.Path.{_≡_};
+ghost use mathlib.Core.Bool.{not, _&&_};
 ghost use Prim.Native.Nat.{_/_};
+ghost use lib.Dec.{eqb};
 ghost use lib.ListN.{length, take};
 ghost use Rattle.word.specs.Flat.{words as wordsIn, wordLanes};
 ghost use Rattle.model.specs.Between.{modelTables};
@@ -30,7 +32,16 @@ fn step_of(evolved: Evolved, entries: usize) -> Step
     }
 }
 
-// Where it is not to evolve always, a hop that no word enters is all.
+// Where it is not to evolve always, a hop that no word entered is all.
+fn ends_there(always: bool, len: usize, count: usize) -> bool
+    ensures { λ r. ⌜ r ≡ (not always && eqb count len) ⌝ }
+{
+    if always {
+        return false;
+    }
+    count == len
+}
+
 pub fn take_leg(
     m: Model,
     h_words: &[u64],
@@ -107,13 +118,12 @@ pub fn take_leg(
     );
     match hopped {
         Kept::Entries(count) => {
-            if !always {
-                if count == len {
-                    return Step::Taken {
-                        entries: len,
-                        products: 0,
-                    };
-                }
+            let all = ends_there(always, len, count);
+            if all {
+                return Step::Taken {
+                    entries: count,
+                    products: 0,
+                };
             }
             let numbers = evolve_grown(
                 m,
