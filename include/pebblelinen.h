@@ -968,6 +968,120 @@ pebblelinen_evolved pebblelinen_evolve(
     size_t v_len, double *b, size_t b_len, double *product, size_t product_len, double *out,
     size_t out_len);
 
+/* ---- The step ---- */
+
+/* How many entries the basis has after a step, and how many products with a matrix it took. Where the
+ * status is a refusal, both are 0. */
+typedef struct {
+    pebblelinen_status status;
+    size_t entries;
+    size_t products;
+} pebblelinen_stepped;
+
+/* The lengths of the work tables of a step. */
+typedef struct {
+    size_t h_index;
+    size_t j_index;
+    size_t mask;
+    size_t work_words;
+    size_t work_sums;
+    size_t order;
+    size_t heads;
+    size_t nexts;
+    size_t cand_words;
+    size_t cand_sums;
+    size_t place_order;
+    size_t place_work;
+    size_t list_words;
+    size_t list_values;
+    size_t stage_rows;
+    size_t stage_columns;
+    size_t columns;
+    size_t values;
+    size_t v;
+    size_t product;
+    size_t grown_words;
+    size_t start;
+    size_t evolved;
+} pebblelinen_step_lengths;
+
+/* Lengths that are enough for a register of so many qubits, a basis that grows to at most so many words,
+ * so many protected words, actions that touch at most so many words, so many candidates at a time, and
+ * generators of so many entries. Longer tables will do. */
+pebblelinen_step_lengths pebblelinen_step_sizes(size_t qubits, size_t words, size_t protected_words,
+                                                size_t touched, size_t candidates, size_t entries);
+
+/* A predictor-corrector step dt of a basis, which may get other words by it:
+ *
+ *   1. leakage out of the basis, as pebblelinen_leakage_with_prune lists it, room or not;
+ *   2. admission of what it listed, each word with coefficient 0, by pebblelinen_add_leakage_capped
+ *      against admit_basis;
+ *   3. the predictor: the coefficients given, with those zeros, evolved by pebblelinen_evolve;
+ *   4. where the basis has fewer words than admit_basis, leakage out of it at the predicted
+ *      coefficients, and admission of what that lists;
+ *   5. the corrector, where 4 admitted a word: the coefficients given, with zeros for the words of 2
+ *      and 4, evolved. Else the predicted coefficients stand;
+ *   6. pebblelinen_prune_basis by drop_tol, then pebblelinen_cap_basis by max_basis.
+ *
+ * admit_basis and tau_add are those of limits, raised or filled in as there. The answer is the number of
+ * entries of the basis then, and of products of predictor and corrector. All parts work on a copy, and
+ * what they leave is written over words and coeffs last; past it stands zero where prune or cap acted
+ * (drop_tol is above 0, or the copy had more than max_basis words), and what stood there where not.
+ *
+ *   words, coeffs, len   the basis: its first len places, 8 lanes and 1 number a word
+ *   protected_words      the protected words; its length is in lanes
+ *   h_index .. place_work     work tables, as for pebblelinen_leakage_with_prune
+ *   list_words, list_values   work tables: what a leakage lists
+ *   stage_rows .. product     work tables, as for pebblelinen_evolve; place_order, cand_sums and
+ *                        list_values serve as its offsets, stage_values and b
+ *   grown_words, start, evolved   work tables: the copy; its words, the coefficients that evolutions
+ *                        start from, and those that they end with
+ *   table 1              words that one action touches: work_words, work_sums
+ *   table 2              candidates: cand_words, cand_sums, place_order, place_work
+ *   table 3              what a leakage lists: list_words, list_values. What admission appends to: a place
+ *                        in words, coeffs, grown_words, start, evolved, order, v, list_values and
+ *                        product for each word that the copy grows to, one more in place_order, and in
+ *                        heads and nexts as many more as there are protected words. Entries: stage_rows,
+ *                        stage_columns, cand_sums, columns, values
+ *
+ * Refusals, in this order:
+ *
+ *       those of pebblelinen_test_model for the model
+ *    8  (count): more than 65,536 entries, then protected words; then (limit) for max_basis and for an
+ *       admit_basis that is given
+ *    9  (len, places lent) for words, then for coeffs; (lanes of whole words, lanes) where the last
+ *       protected word is cut off; then (needed, lent) for h_index, j_index, mask, order, heads, nexts,
+ *       place_order (len + 1), v, list_values, product, grown_words, start, evolved; no words need no
+ *       place
+ *   11  (position): the first basis word with a letter at or above the register; then, with its place
+ *       in the list, the first such protected word
+ *    7  (position): the first coefficient that is infinite or NaN; then (len) for such a dt, drop_tol or
+ *       tau_add
+ *   12  (position): the first position whose word stands at a smaller one too
+ *       then part by part: 13 (1, places), 13 (2, places), 14 and 13 (3, places) of a leakage, 13
+ *       (3, places) of an admission, 13 (1, places), 13 (3, places), 16 and 14 of an evolution
+ *
+ * A refusal changes nothing that was lent, but for 13, 14 and 16, after which the work tables are all
+ * zero. Where the call was accepted they are all zero, to their ends; what they held before makes no
+ * difference to the answer. For heads and nexts see pebblelinen_generator. */
+pebblelinen_stepped pebblelinen_step(
+    pebblelinen_model model, const uint64_t *h_words, size_t h_words_len, const double *h_coeffs,
+    size_t h_coeffs_len, const uint64_t *jumps, size_t jumps_len, const double *rates,
+    size_t rates_len, const uint64_t *t_words, size_t t_words_len, const double *t_numbers,
+    size_t t_numbers_len, uint64_t *words, size_t words_len, double *coeffs, size_t coeffs_len,
+    size_t len, const uint64_t *protected_words, size_t protected_words_len,
+    pebblelinen_limits limits, double dt, double drop_tol, uint64_t *h_index, size_t h_index_len,
+    uint64_t *j_index, size_t j_index_len, uint64_t *mask, size_t mask_len, uint64_t *work_words,
+    size_t work_words_len, double *work_sums, size_t work_sums_len, uint64_t *order,
+    size_t order_len, uint64_t *heads, size_t heads_len, uint64_t *nexts, size_t nexts_len,
+    uint64_t *cand_words, size_t cand_words_len, double *cand_sums, size_t cand_sums_len,
+    uint64_t *place_order, size_t place_order_len, uint64_t *place_work, size_t place_work_len,
+    uint64_t *list_words, size_t list_words_len, double *list_values, size_t list_values_len,
+    uint32_t *stage_rows, size_t stage_rows_len, uint32_t *stage_columns, size_t stage_columns_len,
+    uint32_t *columns, size_t columns_len, double *values, size_t values_len, double *v,
+    size_t v_len, double *product, size_t product_len, uint64_t *grown_words,
+    size_t grown_words_len, double *start, size_t start_len, double *evolved, size_t evolved_len);
+
 #ifdef __cplusplus
 }
 #endif
