@@ -230,6 +230,7 @@ pub record Ended (plain : Read Stepped) (n places len k products : ℕ) (start :
   pub is : plain ≡ got (record { words = take k (words (w′ .grownWords)); numbers = take k (w′ .evolved); products = products })
   pub start-is : take k (w′ .start) ≡ withZeros start (take k (words (w′ .grownWords)))
   pub holds : Holds n places k (w′ .grownWords) (w′ .start) (w′ .evolved)
+  pub few : products ≤ maxProducts
   pub grows : len ≤ k
   pub any : 0 < k → 0 < len
 
