@@ -5,7 +5,7 @@
 use mathlib.Core.Path.{_≡_, refl, sym, ap, _∙_}
 use mathlib.Core.Bool.{Bool, true, false, not, cond}
 use mathlib.Core.List.{List, _++_}
-use Prim.Native.Nat.{ℕ, suc, _+_, _*_, _/_, _≤_, _<_}
+use Prim.Native.Nat.{ℕ, zero, suc, _+_, _*_, _/_, _≤_, _<_}
 use native.Mathlib.Omega.{arith}
 use borrow.Author.Tests.{lt-ltb, le-ltb, ltb-false, not-true, not-false}
 use lib.Dec.{eqb, ltb}
@@ -108,6 +108,11 @@ module _ (m : Model) (t : ModelTables) (lanes : List ℕ) (coeffs : List Float) 
       record { model = e0 .0; few = e1 .0; protected-few = e2 .0; limits = e3 .0; words-long = omega (arith, e4 .0); coeffs-long = e5 .0; whole = e6 .0 }
 
 -- ---- tables of so many places
+-- places that only a basis with words asks for are enough for one without
+pub long-any : (len count have : ℕ) → (0 < len → len + count ≤ have) → len ≤ have
+long-any zero count have h = omega arith
+long-any (suc len) count have h = omega (arith, h (omega arith))
+
 module _ (n len count hIndex jIndex mask order heads nexts placeOrder v listValues product grownWords start evolved : ℕ) where
   abbrev tables : Answer
   tables = workTests n len count hIndex jIndex mask order heads nexts placeOrder v listValues product grownWords start evolved
@@ -229,6 +234,10 @@ module _ (n len count hIndex jIndex mask order heads nexts placeOrder v listValu
         start-long = e12 .0;
         evolved-long = e13 .0;
       }
+
+  -- a basis without words asks for no slot
+  pub slots-passed : WorkPassed → (len ≤ heads) × (len ≤ nexts)
+  slots-passed w = (long-any len count heads (w .heads-long), long-any len count nexts (w .nexts-long))
 
 -- ---- words and numbers
 finite-passed : (count : ℕ) (x : Float) (after : Answer) → finiteThreshold count x after ≡ Accepted → (isFinite x ≡ true) × (after ≡ Accepted)

@@ -5,7 +5,7 @@
 use mathlib.Core.Path.{_≡_, refl, sym, ap, subst, _∙_}
 use mathlib.Core.Bool.{Bool, true, false, cond}
 use mathlib.Core.List.{List}
-use Prim.Native.Nat.{ℕ, zero, suc, _+_, _/_, _≤_, _<_}
+use Prim.Native.Nat.{ℕ, _/_, _≤_}
 use native.Mathlib.Omega.{arith}
 use lib.Ieee.{Float, le}
 use lib.ListN.{length, take, replicate, length-replicate}
@@ -22,14 +22,10 @@ use Rattle.step_laws.specs.Passing.{Held, EndPlaces, EndCall}
 use Rattle.step_laws.proofs.EndCall.{pruned-fit, prune-call, cap-call}
 use Rattle.step_laws.proofs.HeldLaws.{held-numbers}
 use Rattle.step_parts.specs.Between.{EndReady, Truncates, grown}
+use Rattle.step_parts.proofs.CheckLaws.{long-any}
 
 entries-not : (q : Refusal) (k : ℕ) → Entries k ≡ Refused q → ⊥
 entries-not q k e = let z : _≡_ {A = ℕ} 0 1 = cc in omega arith
-
--- places that only a basis with words asks for are enough for one without
-long-any : (len count have : ℕ) → (0 < len → len + count ≤ have) → len ≤ have
-long-any zero count have h = omega arith
-long-any (suc len) count have h = omega (arith, h (omega arith))
 
 -- a prune takes no product
 pub pruned-products : (protected : List Word) (tol : Float) (s : Stepped) → prunedBy protected tol s .products ≡ s .products
