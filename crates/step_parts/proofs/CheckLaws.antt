@@ -109,9 +109,9 @@ module _ (m : Model) (t : ModelTables) (lanes : List ℕ) (coeffs : List Float) 
 
 -- ---- tables of so many places
 -- places that only a basis with words asks for are enough for one without
-pub long-any : (len count have : ℕ) → (0 < len → len + count ≤ have) → len ≤ have
-long-any zero count have h = omega arith
-long-any (suc len) count have h = omega (arith, h (omega arith))
+pub where-any : (len have : ℕ) → (0 < len → len ≤ have) → len ≤ have
+where-any zero have h = omega arith
+where-any (suc len) have h = h (omega arith)
 
 module _ (n len count hIndex jIndex mask order heads nexts placeOrder v listValues product grownWords start evolved : ℕ) where
   abbrev tables : Answer
@@ -237,7 +237,7 @@ module _ (n len count hIndex jIndex mask order heads nexts placeOrder v listValu
 
   -- a basis without words asks for no slot
   pub slots-passed : WorkPassed → (len ≤ heads) × (len ≤ nexts)
-  slots-passed w = (long-any len count heads (w .heads-long), long-any len count nexts (w .nexts-long))
+  slots-passed w = (where-any len heads (λ a. omega (arith, w .heads-long a)), where-any len nexts (λ a. omega (arith, w .nexts-long a)))
 
 -- ---- words and numbers
 finite-passed : (count : ℕ) (x : Float) (after : Answer) → finiteThreshold count x after ≡ Accepted → (isFinite x ≡ true) × (after ≡ Accepted)

@@ -6,7 +6,7 @@
 use mathlib.Core.Path.{_≡_, refl, sym, ap, subst, _∙_}
 use mathlib.Core.Bool.{Bool, true, false, cond}
 use mathlib.Core.List.{List}
-use Prim.Native.Nat.{ℕ, zero, suc, _-_, _*_, _/_, _≤_, _<_, min}
+use Prim.Native.Nat.{ℕ, _-_, _*_, _/_, _≤_, _<_, min}
 use native.Mathlib.Omega.{arith}
 use lib.Dec.{eqb}
 use lib.Ieee.{Float, nan}
@@ -34,7 +34,7 @@ use Rattle.step_laws.specs.Passing.{AreFinite, GoodWords}
 use Rattle.step_laws.proofs.HeldLaws.{passes-apart}
 use Rattle.step_parts.specs.Lent.{Work, grownPlaces, givenTests, workTests, numberTests, stepTests}
 use Rattle.step_parts.specs.Between.{Given, FiniteStep, Long, SameLong, Shared, sharedOf, none, Left, Holds, PlacesOf, EndReady}
-use Rattle.step_parts.proofs.CheckLaws.{GivenPassed, given-passed, WorkPassed, work-passed, NumbersPassed, numbers-passed}
+use Rattle.step_parts.proofs.CheckLaws.{where-any, GivenPassed, given-passed, WorkPassed, work-passed, NumbersPassed, numbers-passed}
 
 -- ---- limits
 -- a threshold passes behind any number of coefficients
@@ -122,11 +122,6 @@ lower a b = (omega arith, omega arith)
 
 least : (a b k : ℕ) → k ≤ a → k ≤ b → k ≤ min a b
 least a b k h i = omega arith
-
--- what only a basis with words asks for is nothing for one without
-where-any : (len have : ℕ) → (0 < len → len ≤ have) → len ≤ have
-where-any zero have h = omega arith
-where-any (suc len) have h = h (omega arith)
 
 module _ (lanes coeffs grownWords start evolved order heads nexts placeOrder v listValues product count : ℕ) where
   abbrev places : ℕ

@@ -22,7 +22,7 @@ use Rattle.step_laws.specs.Passing.{Held, EndPlaces, EndCall}
 use Rattle.step_laws.proofs.EndCall.{pruned-fit, prune-call, cap-call}
 use Rattle.step_laws.proofs.HeldLaws.{held-numbers}
 use Rattle.step_parts.specs.Between.{EndReady, Truncates, grown}
-use Rattle.step_parts.proofs.CheckLaws.{long-any}
+use Rattle.step_parts.proofs.CheckLaws.{where-any}
 
 entries-not : (q : Refusal) (k : ℕ) → Entries k ≡ Refused q → ⊥
 entries-not q k e = let z : _≡_ {A = ℕ} 0 1 = cc in omega arith
@@ -51,10 +51,10 @@ module _ (n : ℕ) (protected : List ℕ) (tol : Float) (limit len : ℕ) (lanes
   held = record { lanes-long = ready .grown-long; numbers-long = ready .evolved-long; words-are = refl; numbers-are = refl }
 
   heads-long : len ≤ length heads
-  heads-long = long-any len count (length heads) (ready .heads-long)
+  heads-long = where-any len (length heads) (λ a. omega (arith, ready .heads-long a))
 
   nexts-long : len ≤ length nexts
-  nexts-long = long-any len count (length nexts) (ready .nexts-long)
+  nexts-long = where-any len (length nexts) (λ a. omega (arith, ready .nexts-long a))
 
   room : EndPlaces len count heads nexts order places
   room = record {
