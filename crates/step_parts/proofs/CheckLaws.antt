@@ -4,18 +4,20 @@
 -- The tests of a step, answer by answer; and what is known where they are passed. Assumes nothing.
 use mathlib.Core.Path.{_≡_, refl, sym, ap, _∙_}
 use mathlib.Core.Bool.{Bool, true, false, not, cond}
-use mathlib.Core.List.{List}
-use Prim.Native.Nat.{ℕ, suc, _+_, _*_, _/_, _≤_, _<_}
+use mathlib.Core.List.{List, _++_}
+use Prim.Native.Nat.{ℕ, zero, suc, _+_, _*_, _/_, _≤_, _<_}
 use native.Mathlib.Omega.{arith}
 use borrow.Author.Tests.{lt-ltb, le-ltb, ltb-false, not-true, not-false}
 use lib.Dec.{eqb, ltb}
 use lib.Ieee.{Float, nan}
-use lib.ListN.{length, getD}
+use lib.ListN.{length, getD, take, drop, take-append-drop}
 use Rattle.refusal.specs.declared.Refusal.{Refusal}
-use Rattle.refusal.specs.declared.Refusal.the-variants.{CountAboveLimit, LengthMismatch, NumberOutOfRange, WordOutsideRegister}
+use Rattle.refusal.specs.declared.Refusal.the-variants.{CountAboveLimit, LengthMismatch, NumberOutOfRange, WordOutsideRegister, RepeatedBasisWord}
 use Rattle.refusal.specs.declared.Answer.{Answer}
 use Rattle.refusal.specs.declared.Answer.the-variants.{Accepted, Refused}
-use Rattle.word.specs.Flat.{wordLanes}
+use Rattle.word.specs.Flat.{words, wordLanes}
+use Rattle.word.specs.declared.word.Word.{Word}
+use Rattle.word.proofs.FlatLaws.{words-low, words-high}
 use Rattle.number.specs.Floats.{isFinite}
 use Rattle.model.specs.Stored.{ModelTables}
 use Rattle.model.specs.Tested.{testModel}
@@ -29,8 +31,11 @@ use Rattle.lent.proofs.Passed.{both, passed, refused-not, lent-passed, counted-
 use Rattle.limits.specs.Defaults.{limitTests, tauTests}
 use Rattle.limits.specs.declared.Limits.{Limits}
 use Rattle.action.specs.Counts.{rowLanes}
+use Rattle.columns.specs.Between.{LaysDistinct}
+use Rattle.generator.specs.Lent.{distinct, basisOf}
 use Rattle.truncate.proofs.ChecksLaws.{entries-then, entries-finite}
-use Rattle.step_parts.specs.Lent.{givenTests, workTests, numberTests}
+use Rattle.step_parts.specs.Lent.{givenTests, workTests, numberTests, stepTests}
+use Rattle.step_parts.specs.Between.{Untouched}
 
 -- ---- what is given
 module _ (m : Model) (t : ModelTables) (lanes : List ℕ) (coeffs : List Float) (len : ℕ) (protected : List ℕ) (l : Limits) where
@@ -103,6 +108,11 @@ module _ (m : Model) (t : ModelTables) (lanes : List ℕ) (coeffs : List Float) 
       record { model = e0 .0; few = e1 .0; protected-few = e2 .0; limits = e3 .0; words-long = omega (arith, e4 .0); coeffs-long = e5 .0; whole = e6 .0 }
 
 -- ---- tables of so many places
+-- places that only a basis with words asks for are enough for one without
+pub where-any : (len have : ℕ) → (0 < len → len ≤ have) → len ≤ have
+where-any zero have h = omega arith
+where-any (suc len) have h = h (omega arith)
+
 module _ (n len count hIndex jIndex mask order heads nexts placeOrder v listValues product grownWords start evolved : ℕ) where
   abbrev tables : Answer
   tables = workTests n len count hIndex jIndex mask order heads nexts placeOrder v listValues product grownWords start evolved
@@ -225,6 +235,10 @@ module _ (n len count hIndex jIndex mask order heads nexts placeOrder v listValu
         evolved-long = e13 .0;
       }
 
+  -- a basis without words asks for no slot
+  pub slots-passed : WorkPassed → (len ≤ heads) × (len ≤ nexts)
+  slots-passed w = (where-any len heads (λ a. omega (arith, w .heads-long a)), where-any len nexts (λ a. omega (arith, w .nexts-long a)))
+
 -- ---- words and numbers
 finite-passed : (count : ℕ) (x : Float) (after : Answer) → finiteThreshold count x after ≡ Accepted → (isFinite x ≡ true) × (after ≡ Accepted)
 finite-passed count x after e = go (isFinite x) e
@@ -295,3 +309,47 @@ module _ (n : ℕ) (lanes : List ℕ) (coeffs : List Float) (len : ℕ) (protect
         drop-finite = d .0;
         tau = d .1;
       }
+
+-- ---- 12: the tables in which words are looked for are as they were where a word comes again
+module _ (len : ℕ) (basis heads nexts : List ℕ) (each : length basis ≡ len * wordLanes) (heads′ part : List ℕ) (r : ℕ) (d : LaysDistinct (words basis) heads (take len nexts) heads′ part r) where
+  size : length (words basis) ≡ len
+  size = omega (arith, each, words-low basis, words-high basis)
+
+  pub distinct-repeated : r < len → (Refused (RepeatedBasisWord r) ≡ distinct (words basis)) × Untouched (Refused (RepeatedBasisWord r)) heads nexts heads′ (part ++ drop len nexts)
+  unfolding distinct
+  distinct-repeated h =
+      let u = d .unchanged (omega (arith, size)) in
+      (rw (← (d .first), lt-ltb r (length (words basis)) (omega (arith, size))), λ q e. (u .0, ap (λ (k : List ℕ). k ++ drop len nexts) (u .1) ∙ take-append-drop len nexts))
+
+  pub distinct-laid : len ≤ r → (Accepted ≡ distinct (words basis)) × Untouched Accepted heads nexts heads′ (part ++ drop len nexts)
+  unfolding distinct
+  distinct-laid h = (rw (← (d .first), le-ltb r (length (words basis)) (omega (arith, size))), λ q e. absurd (refused-not q (sym e)))
+
+-- ---- one part of the tests after another
+module _ (m : Model) (t : ModelTables) (lanes : List ℕ) (coeffs : List Float) (len : ℕ) (protected : List ℕ) (l : Limits) (dt dropTol : Float) (hIndex jIndex mask order heads nexts placeOrder v listValues product grownWords start evolved : ℕ) where
+  abbrev all-tests : Answer
+  all-tests = stepTests m t lanes coeffs len protected l dt dropTol hIndex jIndex mask order heads nexts placeOrder v listValues product grownWords start evolved
+
+  abbrev work-tests : Answer
+  work-tests = workTests (m .qubits) len (length protected / wordLanes) hIndex jIndex mask order heads nexts placeOrder v listValues product grownWords start evolved
+
+  abbrev number-tests : Answer
+  number-tests = numberTests (m .qubits) lanes coeffs len protected l dt dropTol
+
+  pub given-refused : (r : Answer) (q : Refusal) → r ≡ givenTests m t lanes coeffs len protected l → r ≡ Refused q → r ≡ all-tests
+  unfolding stepTests
+  given-refused r q e f = f ∙ rw (sym e ∙ f)
+
+  module _ (ok : givenTests m t lanes coeffs len protected l ≡ Accepted) where
+    pub work-refused : (r : Answer) (q : Refusal) → r ≡ work-tests → r ≡ Refused q → r ≡ all-tests
+    unfolding stepTests
+    work-refused r q e f = f ∙ rw (ok, sym e ∙ f)
+
+    module _ (ok2 : work-tests ≡ Accepted) where
+      pub numbers-refused : (r : Answer) (q : Refusal) → r ≡ number-tests → r ≡ Refused q → r ≡ all-tests
+      unfolding stepTests
+      numbers-refused r q e f = f ∙ rw (ok, ok2, sym e ∙ f)
+
+      pub all-tested : number-tests ≡ Accepted → (ws : List Word) → ws ≡ basisOf lanes len → (r : Answer) → r ≡ distinct ws → r ≡ all-tests
+      unfolding stepTests
+      all-tested ok3 ws e r f = f ∙ rw (ok, ok2, ok3, e)

@@ -2,23 +2,28 @@
 -- SPDX-License-Identifier: Apache-2.0
 
 -- What was kept of a grown basis, laid over the lent one. Assumes nothing.
-use mathlib.Core.Path.{_≡_, sym, ap, ap₂, _∙_}
-use mathlib.Core.Bool.{Bool, true, false, not, _||_}
+use mathlib.Core.Path.{_≡_, refl, sym, ap, ap₂, _∙_}
+use mathlib.Core.Bool.{Bool, true, false, not, cond, _||_}
 use mathlib.Core.List.{List, _++_}
 use Prim.Native.Nat.{ℕ, _-_, _*_, _≤_}
 use native.Mathlib.Omega.{arith}
 use borrow.Rule.Slice.PartMut.{putMid}
-use lib.Dec.{ltb}
+use lib.Dec.{ltb, leb}
 use lib.Ieee.{Float, le}
 use lib.ListN.{length, take, drop, replicate, length-append, length-drop}
 use lib.Seq.{take-at, length-take-le}
+use Rattle.refusal.specs.declared.Refusal.{Refusal}
 use Rattle.word.specs.Flat.{words, flatLanes, wordLanes}
+use Rattle.word.specs.declared.word.Word.{Word}
 use Rattle.word.proofs.FlatLaws.{words-high, lanes-front}
 use Rattle.number.specs.Floats.{float0}
 use Rattle.keep.proofs.FillLaws.{rest-filled}
-use Rattle.step_laws.specs.Steps.{Stepped}
-use Rattle.step_parts.specs.Ends.{acts, wordsAfter, numbersAfter}
+use Rattle.lent.specs.Read.{Read, got, refused}
+use Rattle.step_laws.specs.Steps.{Stepped, keptBy, prunedBy, cappedBy}
+use Rattle.step_parts.specs.declared.taken.Step.the-variants.{Taken, Refused}
+use Rattle.step_parts.specs.Ends.{kept, acts, wordsAfter, numbersAfter, ending}
 use Rattle.step_parts.specs.Between.{Truncates, grown}
+use Rattle.step_parts.proofs.TruncateLaws.{pruned-products}
 
 -- whether prune or cap acts goes by the length of the grown basis
 pub acts-are : (tol : Float) (limit len : ℕ) (lanes : List ℕ) (coeffs : List Float) → wordLanes * len ≤ length lanes → (products : ℕ)
@@ -69,3 +74,23 @@ module _ (s : Stepped) (len r : ℕ) (lanes′ : List ℕ) (coeffs′ : List Flo
     unfolding numbersAfter
     numbers-clear long cs cs₁ y room f g =
         rw is (over-filled float0 r coeffs′ cs long room cs₁ y f g ∙ ap₂ (λ (t : List Float) (i : ℕ). t ++ replicate (length cs - i) float0) (h .numbers-are) numbers-long)
+
+-- ---- what a course leaves, handed over
+capped-products : (protected : List Word) (limit : ℕ) (s : Stepped) → cappedBy protected limit s .products ≡ s .products
+unfolding cappedBy
+capped-products protected limit s = go (leb (length (s .words)) limit) _
+  where
+    go : (b : Bool) (flags : List ℕ) → cond b s (keptBy protected flags s) .products ≡ s .products
+    go true flags = refl
+    go false flags = refl
+
+module _ (protected : List Word) (tol : Float) (limit : ℕ) (lanes : List ℕ) (coeffs : List Float) (course : Read Stepped) where
+  pub course-taken : (g : Stepped) → course ≡ got g → (r : ℕ) (lanes′ : List ℕ) (coeffs′ : List Float) → r ≡ length (kept protected tol limit g .words)
+      → lanes′ ≡ wordsAfter (acts tol limit g) (kept protected tol limit g) lanes → coeffs′ ≡ numbersAfter (acts tol limit g) (kept protected tol limit g) coeffs
+      → record { answer = Taken r (g .products); lanes = lanes′; coeffs = coeffs′ } ≡ ending protected tol limit lanes coeffs course
+  course-taken g e r lanes′ coeffs′ er el ec =
+      let p : kept protected tol limit g .products ≡ g .products = capped-products protected limit (prunedBy protected tol g) ∙ pruned-products protected tol g in
+      rw (e, er, el, ec, p)
+
+  pub course-refused : (q : Refusal) → course ≡ refused q → record { answer = Refused q; lanes = lanes; coeffs = coeffs } ≡ ending protected tol limit lanes coeffs course
+  course-refused q e = rw e

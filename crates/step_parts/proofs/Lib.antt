@@ -4,7 +4,6 @@
 -- The laws of the parts of a step.
 pub mod CheckLaws
 pub mod CopyLaws
-pub mod EvolveLaws
 pub mod TruncateLaws
 pub mod FinishLaws
 pub mod ReadyLaws

@@ -1,7 +1,8 @@
 -- SPDX-FileCopyrightText: 2026 The PPVM Authors
 -- SPDX-License-Identifier: Apache-2.0
 
--- What passed the tests of a step is what its parts ask for, over a grown basis of as many places as its tables have. Assumes nothing.
+-- What passed the tests of a step is what its parts ask for, over a grown basis of as many places as its tables have; and what one part leaves is
+-- what the next asks for. Assumes nothing.
 use mathlib.Core.Path.{_≡_, refl, sym, ap, subst, _∙_}
 use mathlib.Core.Bool.{Bool, true, false, cond}
 use mathlib.Core.List.{List}
@@ -9,9 +10,10 @@ use Prim.Native.Nat.{ℕ, _-_, _*_, _/_, _≤_, _<_, min}
 use native.Mathlib.Omega.{arith}
 use lib.Dec.{eqb}
 use lib.Ieee.{Float, nan}
-use lib.ListN.{length, take}
+use lib.ListN.{length, take, length-replicate}
 use lib.Seq.{getD-take, length-take-le}
 use Rattle.refusal.specs.declared.Refusal.the-variants.{NumberOutOfRange}
+use Rattle.refusal.specs.declared.Answer.{Answer}
 use Rattle.refusal.specs.declared.Answer.the-variants.{Accepted, Refused}
 use Rattle.word.specs.Word.{identity}
 use Rattle.word.specs.Flat.{words, wordLanes}
@@ -23,15 +25,16 @@ use Rattle.model.specs.Stored.{ModelTables}
 use Rattle.model.specs.declared.stored.Model.{Model}
 use Rattle.model.proofs.StandsLaws.{tested-stands}
 use Rattle.lent.specs.Words.{maxWords, outsideAt}
-use Rattle.lent.proofs.Passed.{refused-not, counted-passed}
+use Rattle.lent.proofs.Passed.{both, refused-not, counted-passed}
 use Rattle.limits.specs.Defaults.{limitTests, tauTests}
 use Rattle.limits.specs.declared.Limits.{Limits}
 use Rattle.generator.specs.Lent.{distinct, basisOf}
-use Rattle.truncate_laws.specs.Keeps.{Fitting}
-use Rattle.step_laws.specs.Kept.{Finite, AllFinite}
-use Rattle.step_parts.specs.Lent.{grownPlaces}
-use Rattle.step_parts.specs.Between.{Given, FiniteStep, Apart, HopLong, EvolveLong, Holds, EndReady}
-use Rattle.step_parts.proofs.CheckLaws.{GivenPassed, WorkPassed, NumbersPassed}
+use Rattle.step_laws.specs.Steps.{Places}
+use Rattle.step_laws.specs.Passing.{AreFinite, GoodWords}
+use Rattle.step_laws.proofs.HeldLaws.{passes-apart}
+use Rattle.step_parts.specs.Lent.{Work, grownPlaces, givenTests, workTests, numberTests, stepTests}
+use Rattle.step_parts.specs.Between.{Given, FiniteStep, Long, SameLong, Shared, sharedOf, none, Left, Holds, PlacesOf, EndReady}
+use Rattle.step_parts.proofs.CheckLaws.{where-any, GivenPassed, given-passed, WorkPassed, work-passed, NumbersPassed, numbers-passed}
 
 -- ---- limits
 -- a threshold passes behind any number of coefficients
@@ -48,11 +51,35 @@ limit-few : (l : Limits) → limitTests l ≡ Accepted → l .«max_basis» ≤ 
 unfolding limitTests
 limit-few l e = counted-passed maxWords (l .«max_basis») _ e .0
 
+-- ---- all tests
+module _ (m : Model) (t : ModelTables) (lanes : List ℕ) (coeffs : List Float) (len : ℕ) (protected : List ℕ) (l : Limits) (dt dropTol : Float) (hIndex jIndex mask order heads nexts placeOrder v listValues product grownWords start evolved : ℕ) where
+  pub record StepPassed : Type 0 where
+    pub given : GivenPassed m t lanes coeffs len protected l
+    pub work : WorkPassed (m .qubits) len (length protected / wordLanes) hIndex jIndex mask order heads nexts placeOrder v listValues product grownWords start evolved
+    pub numbers : NumbersPassed (m .qubits) lanes coeffs len protected l dt dropTol
+    pub apart : distinct (basisOf lanes len) ≡ Accepted
+
+  pub step-passed : stepTests m t lanes coeffs len protected l dt dropTol hIndex jIndex mask order heads nexts placeOrder v listValues product grownWords start evolved ≡ Accepted → StepPassed
+  unfolding stepTests
+  step-passed e =
+      let given : Answer = givenTests m t lanes coeffs len protected l in
+      let tables : Answer = workTests (m .qubits) len (length protected / wordLanes) hIndex jIndex mask order heads nexts placeOrder v listValues product grownWords start evolved in
+      let numbers : Answer = numberTests (m .qubits) lanes coeffs len protected l dt dropTol in
+      let a = both given _ e in
+      let b = both tables _ (a .1) in
+      let d = both numbers _ (b .1) in
+      record {
+        given = given-passed m t lanes coeffs len protected l (a .0);
+        work = work-passed (m .qubits) len (length protected / wordLanes) hIndex jIndex mask order heads nexts placeOrder v listValues product grownWords start evolved (b .0);
+        numbers = numbers-passed (m .qubits) lanes coeffs len protected l dt dropTol (d .0);
+        apart = d .1;
+      }
+
 -- ---- what is given
 module _ (m : Model) (t : ModelTables) (lanes : List ℕ) (coeffs : List Float) (len : ℕ) (protected : List ℕ) (l : Limits) (dt dropTol : Float)
     (g : GivenPassed m t lanes coeffs len protected l) (s : NumbersPassed (m .qubits) lanes coeffs len protected l dt dropTol) where
   pub ready-given : Given m t protected l
-  ready-given = record { model = g .model; whole = g .whole; few = g .protected-few; inside = s .protected-inside; limits = g .limits; tau = λ count. tau-any l len count (s .tau) }
+  ready-given = record { model = g .model; good = record { whole = g .whole; few = g .protected-few; inside = s .protected-inside }; limits = g .limits; tau = λ count. tau-any l len count (s .tau) }
 
   pub ready-step : FiniteStep dt dropTol
   ready-step = record { dt-finite = s .dt-finite; drop-finite = s .drop-finite }
@@ -61,28 +88,28 @@ module _ (m : Model) (t : ModelTables) (lanes : List ℕ) (coeffs : List Float) 
   words-long = length-take-le len (words lanes) (omega (arith, g .words-long, words-high lanes))
 
   -- the words are the given ones: apart from 12 all is tested
-  given-apart : distinct (basisOf lanes len) ≡ Accepted → Apart (m .qubits) (take len (words lanes))
+  given-good : distinct (basisOf lanes len) ≡ Accepted → GoodWords (m .qubits) (take len (words lanes))
   unfolding outsideAt
-  given-apart e = record {
+  given-good e = record {
     few = omega (arith, words-long, g .few);
     inside = λ k h.
         let z : k < len = omega (arith, h, words-long) in
         ap (λ (w : Word). reaches w (m .qubits)) (getD-take len (words lanes) k identity z) ∙ s .inside k z;
-    differ = e;
+    apart = passes-apart (take len (words lanes)) e;
   }
 
-  given-finite : Fitting coeffs → AllFinite (take len coeffs)
-  given-finite f i h =
+  given-finite : AreFinite (take len coeffs)
+  given-finite i h =
       let z : i < len = omega (arith, h, length-take-le len coeffs (g .coeffs-long)) in
-      subst Finite (sym (getD-take len coeffs i nan z)) (record { fitting = f i (omega (arith, z, g .coeffs-long)); finite = s .finite i z })
+      ap isFinite (getD-take len coeffs i nan z) ∙ s .finite i z
 
   -- a copy of the given basis
-  pub ready-holds : distinct (basisOf lanes len) ≡ Accepted → Fitting coeffs → (places : ℕ) → len ≤ places → (grownWords : List ℕ) (start evolved : List Float)
+  pub ready-holds : distinct (basisOf lanes len) ≡ Accepted → (places : ℕ) → len ≤ places → (grownWords : List ℕ) (start evolved : List Float)
       → take len (words grownWords) ≡ take len (words lanes) → take len start ≡ take len coeffs → take len evolved ≡ take len coeffs → Holds (m .qubits) places len grownWords start evolved
-  ready-holds e f places h grownWords start evolved ew es ee = record {
-    apart = subst (Apart (m .qubits)) (sym ew) (given-apart e);
-    start-finite = subst AllFinite (sym es) (given-finite f);
-    evolved-finite = subst AllFinite (sym ee) (given-finite f);
+  ready-holds e places h grownWords start evolved ew es ee = record {
+    good = subst (GoodWords (m .qubits)) (sym ew) (given-good e);
+    start-finite = subst AreFinite (sym es) given-finite;
+    evolved-finite = subst AreFinite (sym ee) given-finite;
     inside = h;
   }
 
@@ -147,111 +174,154 @@ module _ (lanes coeffs grownWords start evolved order heads nexts placeOrder v l
       }
 
   -- and a place for each word given
-  pub given-within : (n len hIndex jIndex mask : ℕ) → 0 < len → wordLanes * len ≤ lanes → len ≤ coeffs → WorkPassed n len count hIndex jIndex mask order heads nexts placeOrder v listValues product grownWords start evolved → len ≤ places
-  unfolding grownPlaces
-  given-within n len hIndex jIndex mask any words-long coeffs-long w =
-      least _ _ len
-      (least _ _ len (least _ _ len (omega (arith, words-long)) coeffs-long) (least _ _ len (least _ _ len (omega (arith, w .grown-long)) (w .start-long)) (w .evolved-long)))
-      (least _ _ len (least _ _ len (least _ _ len (w .order-long) (omega (arith, w .heads-long any))) (least _ _ len (omega (arith, w .nexts-long any)) (omega (arith, w .starts-long any)))) (least _ _ len (least _ _ len (w .v-long) (w .list-long)) (w .product-long)))
+  module _ (n len hIndex jIndex mask : ℕ) (words-long : wordLanes * len ≤ lanes) (coeffs-long : len ≤ coeffs) (w : WorkPassed n len count hIndex jIndex mask order heads nexts placeOrder v listValues product grownWords start evolved) where
+    any-within : 0 < len → len ≤ places
+    unfolding grownPlaces
+    any-within any =
+        least _ _ len
+        (least _ _ len (least _ _ len (omega (arith, words-long)) coeffs-long) (least _ _ len (least _ _ len (omega (arith, w .grown-long)) (w .start-long)) (w .evolved-long)))
+        (least _ _ len (least _ _ len (least _ _ len (w .order-long) (omega (arith, w .heads-long any))) (least _ _ len (omega (arith, w .nexts-long any)) (omega (arith, w .starts-long any)))) (least _ _ len (least _ _ len (w .v-long) (w .list-long)) (w .product-long)))
+
+    pub given-within : len ≤ places
+    given-within = where-any len places any-within
 
 -- ---- tables that are long enough
-module _ (n len count lanes coeffs : ℕ) (hIndex jIndex mask order heads nexts placeOrder : List ℕ) (v listValues product : List Float) (grownWords : List ℕ) (start evolved : List Float) (any : 0 < len)
-    (w : WorkPassed n len count (length hIndex) (length jIndex) (length mask) (length order) (length heads) (length nexts) (length placeOrder) (length v) (length listValues) (length product) (length grownWords) (length start) (length evolved)) where
+module _ (n len count lanes coeffs : ℕ) (w : Work) (p : WorkPassed n len count (length (w .hIndex)) (length (w .jIndex)) (length (w .mask)) (length (w .order)) (length (w .heads)) (length (w .nexts)) (length (w .placeOrder)) (length (w .v)) (length (w .listValues)) (length (w .product)) (length (w .grownWords)) (length (w .start)) (length (w .evolved))) where
   abbrev grownTo : ℕ
-  grownTo = grownPlaces lanes coeffs (length grownWords) (length start) (length evolved) (length order) (length heads) (length nexts) (length placeOrder) (length v) (length listValues) (length product) count
+  grownTo = grownPlaces lanes coeffs (length (w .grownWords)) (length (w .start)) (length (w .evolved)) (length (w .order)) (length (w .heads)) (length (w .nexts)) (length (w .placeOrder)) (length (w .v)) (length (w .listValues)) (length (w .product)) count
 
-  inner : Within lanes coeffs (length grownWords) (length start) (length evolved) (length order) (length heads) (length nexts) (length placeOrder) (length v) (length listValues) (length product) count
-  inner = within lanes coeffs (length grownWords) (length start) (length evolved) (length order) (length heads) (length nexts) (length placeOrder) (length v) (length listValues) (length product) count
+  pub ready-long : Long n count grownTo len w
+  ready-long =
+      let i = within lanes coeffs (length (w .grownWords)) (length (w .start)) (length (w .evolved)) (length (w .order)) (length (w .heads)) (length (w .nexts)) (length (w .placeOrder)) (length (w .v)) (length (w .listValues)) (length (w .product)) count in
+      record {
+        hop = record {
+          h-rows = p .h-long;
+          j-rows = p .j-long;
+          row = p .mask-long;
+          order-long = i .order-within;
+          heads-long = λ any. omega (arith, i .heads-within, p .heads-long any);
+          nexts-long = λ any. omega (arith, i .nexts-within, p .nexts-long any);
+          grown-long = i .grown-within;
+          start-long = i .start-within;
+          evolved-long = i .evolved-within;
+        };
+        evolve = record {
+          h-rows = p .h-long;
+          j-rows = p .j-long;
+          row = p .mask-long;
+          heads-long = omega (arith, i .heads-within);
+          nexts-long = omega (arith, i .nexts-within);
+          starts-long = λ any. omega (arith, i .starts-within, p .starts-long any);
+          grown-long = i .grown-within;
+          v-long = i .v-within;
+          list-long = i .list-within;
+          product-long = i .product-within;
+          start-long = i .start-within;
+          evolved-long = i .evolved-within;
+        };
+      }
 
-  pub ready-hop : HopLong n count grownTo hIndex jIndex mask order heads nexts grownWords start evolved
-  ready-hop = record {
-    h-rows = w .h-long any;
-    j-rows = w .j-long any;
-    row = w .mask-long any;
-    order-long = inner .order-within;
-    heads-long = omega (arith, inner .heads-within, w .heads-long any);
-    nexts-long = omega (arith, inner .nexts-within, w .nexts-long any);
-    grown-long = inner .grown-within;
-    start-long = inner .start-within;
-    evolved-long = inner .evolved-within;
+-- ---- tables of the same lengths
+module _ {w w′ : Work} (s : SameLong w w′) where
+  -- for another basis, without words where the first is
+  pub long-same : {n count places len : ℕ} → Long n count places len w → (k : ℕ) → (0 < k → 0 < len) → Long n count places k w′
+  long-same h k some = record {
+    hop = record {
+      h-rows = λ any. rw (s .hIndex) (h .hop .h-rows (some any));
+      j-rows = λ any. rw (s .jIndex) (h .hop .j-rows (some any));
+      row = λ any. rw (s .mask) (h .hop .row (some any));
+      order-long = rw (s .order) (h .hop .order-long);
+      heads-long = λ any. rw (s .heads) (h .hop .heads-long (some any));
+      nexts-long = λ any. rw (s .nexts) (h .hop .nexts-long (some any));
+      grown-long = rw (s .grownWords) (h .hop .grown-long);
+      start-long = rw (s .start) (h .hop .start-long);
+      evolved-long = rw (s .evolved) (h .hop .evolved-long);
+    };
+    evolve = record {
+      h-rows = λ any. rw (s .hIndex) (h .evolve .h-rows (some any));
+      j-rows = λ any. rw (s .jIndex) (h .evolve .j-rows (some any));
+      row = λ any. rw (s .mask) (h .evolve .row (some any));
+      heads-long = rw (s .heads) (h .evolve .heads-long);
+      nexts-long = rw (s .nexts) (h .evolve .nexts-long);
+      starts-long = λ any. rw (s .placeOrder) (h .evolve .starts-long (some any));
+      grown-long = rw (s .grownWords) (h .evolve .grown-long);
+      v-long = rw (s .v) (h .evolve .v-long);
+      list-long = rw (s .listValues) (h .evolve .list-long);
+      product-long = rw (s .product) (h .evolve .product-long);
+      start-long = rw (s .start) (h .evolve .start-long);
+      evolved-long = rw (s .evolved) (h .evolve .evolved-long);
+    };
   }
 
-  pub ready-evolve : EvolveLong n grownTo hIndex jIndex mask heads nexts placeOrder grownWords v listValues product start evolved
-  ready-evolve = record {
-    h-rows = w .h-long any;
-    j-rows = w .j-long any;
-    row = w .mask-long any;
-    heads-long = omega (arith, inner .heads-within);
-    nexts-long = omega (arith, inner .nexts-within);
-    starts-long = omega (arith, inner .starts-within, w .starts-long any);
-    grown-long = inner .grown-within;
-    v-long = inner .v-within;
-    list-long = inner .list-within;
-    product-long = inner .product-within;
-    start-long = inner .start-within;
-    evolved-long = inner .evolved-within;
+  pub places-same : {p : Places} {places : ℕ} → PlacesOf p places w → PlacesOf p places w′
+  places-same h = record {
+    hop = record {
+      touched = rw (s .workWords, s .workSums) (h .hop .touched);
+      candidates = rw (s .candWords, s .candSums, s .placeOrder, s .placeWork) (h .hop .candidates);
+      listed = rw (s .listWords, s .listValues) (h .hop .listed);
+      basis = h .hop .basis;
+    };
+    evolve = record {
+      touched = rw (s .workWords, s .workSums) (h .evolve .touched);
+      entries = rw (s .stageRows, s .stageColumns, s .candSums, s .columns, s .values) (h .evolve .entries);
+    };
   }
 
--- tables of the same lengths
-pub hop-same : (n count places : ℕ) (hIndex jIndex mask order heads nexts grownWords : List ℕ) (start evolved : List Float) (hIndex′ jIndex′ mask′ order′ heads′ nexts′ grownWords′ : List ℕ) (start′ evolved′ : List Float)
-    → HopLong n count places hIndex jIndex mask order heads nexts grownWords start evolved
-    → length hIndex′ ≡ length hIndex → length jIndex′ ≡ length jIndex → length mask′ ≡ length mask → length order′ ≡ length order → length heads′ ≡ length heads → length nexts′ ≡ length nexts
-    → length grownWords′ ≡ length grownWords → length start′ ≡ length start → length evolved′ ≡ length evolved
-    → HopLong n count places hIndex′ jIndex′ mask′ order′ heads′ nexts′ grownWords′ start′ evolved′
-hop-same n count places hIndex jIndex mask order heads nexts grownWords start evolved hIndex′ jIndex′ mask′ order′ heads′ nexts′ grownWords′ start′ evolved′ h eh ej em eo ehe ene eg es ee = record {
-  h-rows = rw eh (h .h-rows);
-  j-rows = rw ej (h .j-rows);
-  row = rw em (h .row);
-  order-long = rw eo (h .order-long);
-  heads-long = rw ehe (h .heads-long);
-  nexts-long = rw ene (h .nexts-long);
-  grown-long = rw eg (h .grown-long);
-  start-long = rw es (h .start-long);
-  evolved-long = rw ee (h .evolved-long);
+pub same-twice : {w w′ w″ : Work} → SameLong w w′ → SameLong w′ w″ → SameLong w w″
+same-twice s t = record {
+  hIndex = t .hIndex ∙ s .hIndex;
+  jIndex = t .jIndex ∙ s .jIndex;
+  mask = t .mask ∙ s .mask;
+  workWords = t .workWords ∙ s .workWords;
+  workSums = t .workSums ∙ s .workSums;
+  order = t .order ∙ s .order;
+  heads = t .heads ∙ s .heads;
+  nexts = t .nexts ∙ s .nexts;
+  candWords = t .candWords ∙ s .candWords;
+  candSums = t .candSums ∙ s .candSums;
+  placeOrder = t .placeOrder ∙ s .placeOrder;
+  placeWork = t .placeWork ∙ s .placeWork;
+  listWords = t .listWords ∙ s .listWords;
+  listValues = t .listValues ∙ s .listValues;
+  stageRows = t .stageRows ∙ s .stageRows;
+  stageColumns = t .stageColumns ∙ s .stageColumns;
+  columns = t .columns ∙ s .columns;
+  values = t .values ∙ s .values;
+  v = t .v ∙ s .v;
+  product = t .product ∙ s .product;
+  grownWords = t .grownWords ∙ s .grownWords;
+  start = t .start ∙ s .start;
+  evolved = t .evolved ∙ s .evolved;
 }
 
-pub evolve-same : (n places : ℕ) (hIndex jIndex mask heads nexts placeOrder grownWords : List ℕ) (v listValues product start evolved : List Float) (hIndex′ jIndex′ mask′ heads′ nexts′ placeOrder′ grownWords′ : List ℕ) (v′ listValues′ product′ start′ evolved′ : List Float)
-    → EvolveLong n places hIndex jIndex mask heads nexts placeOrder grownWords v listValues product start evolved
-    → length hIndex′ ≡ length hIndex → length jIndex′ ≡ length jIndex → length mask′ ≡ length mask → length heads′ ≡ length heads → length nexts′ ≡ length nexts → length placeOrder′ ≡ length placeOrder
-    → length grownWords′ ≡ length grownWords → length v′ ≡ length v → length listValues′ ≡ length listValues → length product′ ≡ length product → length start′ ≡ length start → length evolved′ ≡ length evolved
-    → EvolveLong n places hIndex′ jIndex′ mask′ heads′ nexts′ placeOrder′ grownWords′ v′ listValues′ product′ start′ evolved′
-evolve-same n places hIndex jIndex mask heads nexts placeOrder grownWords v listValues product start evolved hIndex′ jIndex′ mask′ heads′ nexts′ placeOrder′ grownWords′ v′ listValues′ product′ start′ evolved′ h eh ej em ehe ene ep eg ev el epr es ee = record {
-  h-rows = rw eh (h .h-rows);
-  j-rows = rw ej (h .j-rows);
-  row = rw em (h .row);
-  heads-long = rw ehe (h .heads-long);
-  nexts-long = rw ene (h .nexts-long);
-  starts-long = rw ep (h .starts-long);
-  grown-long = rw eg (h .grown-long);
-  v-long = rw ev (h .v-long);
-  list-long = rw el (h .list-long);
-  product-long = rw epr (h .product-long);
-  start-long = rw es (h .start-long);
-  evolved-long = rw ee (h .evolved-long);
-}
+-- ---- tables that are zero after one part, and after the next
+none-twice : (x : Shared) → none (none x) ≡ none x
+none-twice x = simp length-replicate
+
+pub clear-twice : (w w′ w″ : Work) → sharedOf w′ ≡ none (sharedOf w) → sharedOf w″ ≡ none (sharedOf w′) → sharedOf w″ ≡ none (sharedOf w)
+clear-twice w w′ w″ e f = f ∙ ap none e ∙ none-twice (sharedOf w)
+
+pub left-twice : {w w′ w″ : Work} → Left w w′ → Left w′ w″ → Left w w″
+left-twice {w} {w′} {w″} a b = record { same = same-twice (a .same) (b .same); clear = clear-twice w w′ w″ (a .clear) (b .clear) }
 
 -- ---- the end of a course that left k words
-pub ready-end : (m : Model) (t : ModelTables) (protected : List ℕ) (l : Limits) (dt dropTol : Float) (places k : ℕ) (hIndex jIndex mask order heads nexts placeOrder : List ℕ) (v listValues product : List Float) (grownWords : List ℕ) (start evolved : List Float)
-    → Given m t protected l → FiniteStep dt dropTol → HopLong (m .qubits) (length protected / wordLanes) places hIndex jIndex mask order heads nexts grownWords start evolved
-    → EvolveLong (m .qubits) places hIndex jIndex mask heads nexts placeOrder grownWords v listValues product start evolved
-    → Apart (m .qubits) (take k (words grownWords)) → AllFinite (take k evolved) → k ≤ places
-    → EndReady (m .qubits) protected dropTol (l .«max_basis») k grownWords evolved order heads nexts placeOrder
-ready-end m t protected l dt dropTol places k hIndex jIndex mask order heads nexts placeOrder v listValues product grownWords start evolved g s h e a f i =
-    let long : length (take k (words grownWords)) ≡ k = length-take-le k (words grownWords) (omega (arith, i, h .grown-long, words-high grownWords)) in
+pub ready-end : {m : Model} {t : ModelTables} {protected : List ℕ} {l : Limits} {dt dropTol : Float} {places k : ℕ} {w : Work} → Given m t protected l → FiniteStep dt dropTol
+    → Long (m .qubits) (length protected / wordLanes) places k w → Holds (m .qubits) places k (w .grownWords) (w .start) (w .evolved)
+    → EndReady (m .qubits) protected dropTol (l .«max_basis») k (w .grownWords) (w .evolved) (w .order) (w .heads) (w .nexts) (w .placeOrder)
+ready-end {m} {t} {protected} {l} {dt} {dropTol} {places} {k} {w} g s long h =
+    let i : k ≤ places = h .inside in
+    let words-are : length (take k (words (w .grownWords))) ≡ k = length-take-le k (words (w .grownWords)) (omega (arith, i, long .hop .grown-long, words-high (w .grownWords))) in
+    let numbers-are : length (take k (w .evolved)) ≡ k = length-take-le k (w .evolved) (omega (arith, i, long .hop .evolved-long)) in
     record {
       register = tested-stands m t (g .model) .qubits;
-      whole = g .whole;
-      few = g .few;
-      protected-inside = g .inside;
+      good = g .good;
       limit-few = limit-few l (g .limits);
       drop-finite = s .drop-finite;
-      words-few = omega (arith, long, a .few);
-      inside = λ j low. ap (λ (w : Word). reaches w (m .qubits)) (sym (getD-take k (words grownWords) j identity low)) ∙ a .inside j (omega (arith, low, long));
-      finite = f;
-      grown-long = omega (arith, i, h .grown-long);
-      evolved-long = omega (arith, i, h .evolved-long);
-      order-long = omega (arith, i, h .order-long);
-      heads-long = omega (arith, i, h .heads-long);
-      nexts-long = omega (arith, i, h .nexts-long);
-      places-long = omega (arith, i, e .starts-long);
+      fit = record { few = h .good .few; inside = h .good .inside; each = numbers-are ∙ sym words-are; finite = h .evolved-finite };
+      grown-long = omega (arith, i, long .hop .grown-long);
+      evolved-long = omega (arith, i, long .hop .evolved-long);
+      order-long = omega (arith, i, long .hop .order-long);
+      heads-long = λ any. omega (arith, i, long .hop .heads-long any);
+      nexts-long = λ any. omega (arith, i, long .hop .nexts-long any);
+      places-long = where-any k (length (w .placeOrder)) (λ any. omega (arith, i, long .evolve .starts-long any));
     }

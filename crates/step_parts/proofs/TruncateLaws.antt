@@ -5,15 +5,12 @@
 use mathlib.Core.Path.{_≡_, refl, sym, ap, subst, _∙_}
 use mathlib.Core.Bool.{Bool, true, false, cond}
 use mathlib.Core.List.{List}
-use Prim.Native.Nat.{ℕ, _/_, _≤_, _<_}
+use Prim.Native.Nat.{ℕ, _/_, _≤_}
 use native.Mathlib.Omega.{arith}
 use lib.Ieee.{Float, le}
 use lib.ListN.{length, take, replicate, length-replicate}
-use lib.Seq.{getD-take}
 use Rattle.refusal.specs.declared.Refusal.{Refusal}
-use Rattle.word.specs.Word.{identity}
 use Rattle.word.specs.Flat.{words, wordLanes}
-use Rattle.word.specs.Register.{reaches}
 use Rattle.word.specs.declared.word.Word.{Word}
 use Rattle.number.specs.Floats.{float0}
 use Rattle.truncate.specs.Prunes.{Keeping, prune, cap}
@@ -21,16 +18,17 @@ use Rattle.truncate.specs.declared.kept.Kept.{Kept}
 use Rattle.truncate.specs.declared.kept.Kept.the-variants.{Entries, Refused}
 use Rattle.truncate_laws.proofs.AcceptedCalls.{entries-same}
 use Rattle.step_laws.specs.Steps.{Stepped, keptBy, prunedBy, cappedBy}
-use Rattle.step_laws.specs.Passing.{Fit, Held, GoodProtected, EndPlaces, EndCall}
+use Rattle.step_laws.specs.Passing.{Held, EndPlaces, EndCall}
 use Rattle.step_laws.proofs.EndCall.{pruned-fit, prune-call, cap-call}
-use Rattle.step_laws.proofs.HeldLaws.{held-words, held-numbers}
+use Rattle.step_laws.proofs.HeldLaws.{held-numbers}
 use Rattle.step_parts.specs.Between.{EndReady, Truncates, grown}
+use Rattle.step_parts.proofs.CheckLaws.{where-any}
 
 entries-not : (q : Refusal) (k : ℕ) → Entries k ≡ Refused q → ⊥
 entries-not q k e = let z : _≡_ {A = ℕ} 0 1 = cc in omega arith
 
 -- a prune takes no product
-pruned-products : (protected : List Word) (tol : Float) (s : Stepped) → prunedBy protected tol s .products ≡ s .products
+pub pruned-products : (protected : List Word) (tol : Float) (s : Stepped) → prunedBy protected tol s .products ≡ s .products
 unfolding prunedBy
 pruned-products protected tol s = go (le tol float0) _
   where
@@ -52,28 +50,18 @@ module _ (n : ℕ) (protected : List ℕ) (tol : Float) (limit len : ℕ) (lanes
   held : Held lanes coeffs len ws cs
   held = record { lanes-long = ready .grown-long; numbers-long = ready .evolved-long; words-are = refl; numbers-are = refl }
 
-  ws-long : length ws ≡ len
-  ws-long = held-words lanes coeffs len ws cs held
+  heads-long : len ≤ length heads
+  heads-long = where-any len (length heads) (λ a. omega (arith, ready .heads-long a))
 
-  fit : Fit n ws cs
-  fit = record {
-    few = omega (arith, ws-long, ready .words-few);
-    inside = λ k h.
-        let z : k < len = omega (arith, h, ws-long) in
-        ap (λ (w : Word). reaches w n) (getD-take len (words lanes) k identity z) ∙ ready .inside k z;
-    each = held-numbers lanes coeffs len ws cs held ∙ sym ws-long;
-    finite = λ k h. ready .finite k h .finite;
-  }
-
-  good : GoodProtected n protected
-  good = record { whole = ready .whole; few = ready .few; inside = ready .protected-inside }
+  nexts-long : len ≤ length nexts
+  nexts-long = where-any len (length nexts) (λ a. omega (arith, ready .nexts-long a))
 
   room : EndPlaces len count heads nexts order places
   room = record {
-    order-long = omega (arith, ready .heads-long);
-    order-protected = λ a. omega (arith, ready .heads-long);
-    work-long = omega (arith, ready .nexts-long);
-    work-protected = λ a. omega (arith, ready .nexts-long);
+    order-long = heads-long;
+    order-protected = λ a. omega (arith, ready .heads-long a);
+    work-long = nexts-long;
+    work-protected = λ a. omega (arith, ready .nexts-long a);
     fixed-long = ready .order-long;
     kept-long = ready .places-long;
   }
@@ -85,7 +73,7 @@ module _ (n : ℕ) (protected : List ℕ) (tol : Float) (limit len : ℕ) (lanes
   pruned products = prunedBy (words protected) tol (grown len lanes coeffs products)
 
   first-call : (products : ℕ) → EndCall lanes coeffs len heads nexts order places first (pruned products)
-  first-call products = prune-call n lanes coeffs len ws cs held heads nexts order places protected products (ready .register) fit good room tol (ready .drop-finite)
+  first-call products = prune-call n lanes coeffs len ws cs held heads nexts order places protected products (ready .register) (ready .fit) (ready .good) room tol (ready .drop-finite)
 
   module _ (r₁ : Kept) (lanes₁ : List ℕ) (coeffs₁ : List Float) (heads₁ nexts₁ order₁ places₁ : List ℕ)
       (is₁ : record { answer = r₁; lanes = lanes₁; coeffs = coeffs₁; order = heads₁; work = nexts₁; fixed = order₁; kept = places₁ } ≡ first) where
@@ -119,10 +107,10 @@ module _ (n : ℕ) (protected : List ℕ) (tol : Float) (limit len : ℕ) (lanes
 
       room₁ : EndPlaces k count heads₁ nexts₁ order₁ places₁
       room₁ = record {
-        order-long = omega (arith, k-few, heads-same, ready .heads-long);
-        order-protected = λ a. omega (arith, heads-same, ready .heads-long);
-        work-long = omega (arith, k-few, nexts-same, ready .nexts-long);
-        work-protected = λ a. omega (arith, nexts-same, ready .nexts-long);
+        order-long = omega (arith, k-few, heads-same, heads-long);
+        order-protected = λ a. omega (arith, heads-same, ready .heads-long (omega (arith, a, k-few)));
+        work-long = omega (arith, k-few, nexts-same, nexts-long);
+        work-protected = λ a. omega (arith, nexts-same, ready .nexts-long (omega (arith, a, k-few)));
         fixed-long = omega (arith, k-few, order-same, ready .order-long);
         kept-long = omega (arith, k-few, places-same, ready .places-long);
       }
@@ -134,7 +122,7 @@ module _ (n : ℕ) (protected : List ℕ) (tol : Float) (limit len : ℕ) (lanes
       second-call products =
           let s : Stepped = pruned products in
           subst (λ (p : ℕ). EndCall lanes₁ coeffs₁ k heads₁ nexts₁ order₁ places₁ second (cappedBy (words protected) limit (record { words = s .words; numbers = s .numbers; products = p }))) (sym (pruned-products (words protected) tol (grown len lanes coeffs products)))
-          (cap-call n lanes₁ coeffs₁ k (s .words) (s .numbers) (held₁ products) heads₁ nexts₁ order₁ places₁ protected products (ready .register) (pruned-fit n (grown len lanes coeffs products) fit (words protected) tol) good room₁ limit (ready .limit-few))
+          (cap-call n lanes₁ coeffs₁ k (s .words) (s .numbers) (held₁ products) heads₁ nexts₁ order₁ places₁ protected products (ready .register) (pruned-fit n (grown len lanes coeffs products) (ready .fit) (words protected) tol) (ready .good) room₁ limit (ready .limit-few))
 
       module _ (r₂ : Kept) (lanes₂ : List ℕ) (coeffs₂ : List Float) (heads₂ nexts₂ order₂ places₂ : List ℕ)
           (is₂ : record { answer = r₂; lanes = lanes₂; coeffs = coeffs₂; order = heads₂; work = nexts₂; fixed = order₂; kept = places₂ } ≡ second) where

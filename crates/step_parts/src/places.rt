@@ -31,5 +31,8 @@ pub fn grown_places(
     let slots = smaller(order, room_left(heads, count));
     let rows = smaller(room_left(nexts, count), room_left(place_order, 1));
     let numbers = smaller(smaller(v, list_values), product);
-    smaller(smaller(lent, copied), smaller(smaller(slots, rows), numbers))
+    smaller(
+        smaller(lent, copied),
+        smaller(smaller(slots, rows), numbers),
+    )
 }
