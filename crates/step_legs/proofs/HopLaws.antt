@@ -195,8 +195,8 @@ module _ (m : Model) (t : ModelTables) (protected : List ℕ) (l : Limits) (give
           (tested-stands m t (given .model) .qubits) start-fit (list-fit m t (given .model) (words protected) dt p (limitOf l) (tauOf l) ws cs (holds .good .inside) low R listed) low (omega (arith, few, lo)) (omega (arith, few, lw)) (omega (arith, few, lc))
           m t (words protected) dt p (is ∙ omega (arith, lanes-places, start-places))
 
-      hop-is : hopped ≡ entering R
-      hop-is = ap (λ (r : Read Rows). onward r entering) listed
+      hop-leads : hopped ≡ entering R
+      hop-leads = ap (λ (r : Read Rows). onward r entering) listed
 
       module _ (r : Kept) (candWords′ placeOrder′ placeWork′ lanes′ : List ℕ) (start′ : List Float) (a : Admitted after places lanes start r candWords′ placeOrder′ placeWork′ lanes′ start′) where
         enters : (j : ℕ) → r ≡ Kepts.Entries j → Entered hopped (m .qubits) places len j lanes start lanes′ start′
@@ -204,7 +204,7 @@ module _ (m : Model) (t : ModelTables) (protected : List ℕ) (l : Limits) (give
             let b = admits .by-entries j (sym (a .answers) ∙ f) in
             let us : List Word = b .0 in
             let n : j ≡ len + length us = b .1 .1 in
-            let i : hopped ≡ got us = hop-is ∙ b .1 .0 in
+            let i : hopped ≡ got us = hop-leads ∙ b .1 .0 in
             let h = admits .entered us (b .1 .0) .1 in
             let words-are : take j (words lanes′) ≡ ws ++ us = ap₂ (λ (c : ℕ) (v : List ℕ). take c (words v)) n (a .words-are) ∙ front-words (len + length us) (after .lanes) (drop (places * wordLanes) lanes) (h .lanes-long) ∙ h .words-are in
             let start-is : take j start′ ≡ firsts ++ replicate (length us) float0 = ap₂ (λ (c : ℕ) (v : List Float). take c v) n (a .start-is) ∙ take-append-le (len + length us) (after .coeffs) (drop places start) (h .numbers-long) ∙ h .numbers-are in
@@ -223,7 +223,7 @@ module _ (m : Model) (t : ModelTables) (protected : List ℕ) (l : Limits) (give
             }
 
         stops : (q : Refusal) → r ≡ Kepts.Refused q → hopped ≡ refused q
-        stops q f = hop-is ∙ admits .by-refusal q (sym (a .answers) ∙ f)
+        stops q f = hop-leads ∙ admits .by-refusal q (sym (a .answers) ∙ f)
 
   -- ---- what entering answered and left
   module _ (limit : ℕ) (limit-is : limit ≡ limitOf l) (r : Kept) (candWords′ placeOrder′ placeWork′ lanes′ : List ℕ) (start′ : List Float)
@@ -232,10 +232,10 @@ module _ (m : Model) (t : ModelTables) (protected : List ℕ) (l : Limits) (give
     entering-is =
         subst (λ (i : ℕ). Enters (x .out .answer) (m .qubits) i places len (x .work .candWords) (x .work .placeOrder) (x .work .placeWork) (x .out .outWords) (x .out .outValues) lanes start r candWords′ placeOrder′ placeWork′ lanes′ start′) limit-is left
 
-    pub hop-is-plain : (p : Places) (dt : Float) → HopPlaces p places (w .workWords) (w .workSums) (w .candWords) (w .candSums) (w .placeOrder) (w .placeWork) listWords listValues
+    hops : (p : Places) (dt : Float) → HopPlaces p places (w .workWords) (w .workSums) (w .candWords) (w .candSums) (w .placeOrder) (w .placeWork) listWords listValues
         → Hops (hop m t (words protected) dt p (limitOf l) (tauOf l) ws cs) (m .qubits) places len lanes start r lanes′ start′
     unfolding touchedPlaces actionPlaces candidateRows rowPlaces
-    hop-is-plain p dt at = go (x .out .answer) refl
+    hops p dt at = go (x .out .answer) refl
       where
         call : LeakCall w listWords listValues x (leakage m t (words protected) dt p (limitOf l) (tauOf l) ws cs)
         call = leaking p dt (at .touched) (at .candidates) (at .listed)
@@ -280,9 +280,13 @@ module _ (m : Model) (t : ModelTables) (protected : List ℕ) (l : Limits) (give
               work = s .work-same ∙ ap (λ (y : Work). y .placeWork) (leaks-own .work-zero);
             }
 
-    pub hop-clears : (listWords′ : List ℕ) (listValues′ : List Float) → listWords′ ≡ replicate (length (x .out .outWords)) 0 → listValues′ ≡ replicate (length (x .out .outValues)) float0
-        → shared (x .work .hIndex) (x .work .jIndex) (x .work .mask) (x .work .workWords) (x .work .workSums) (x .work .order) (x .work .heads) (x .work .nexts) candWords′ (x .work .candSums) placeOrder′ placeWork′ listWords′ listValues′
-        ≡ none (shared (w .hIndex) (w .jIndex) (w .mask) (w .workWords) (w .workSums) (w .order) (w .heads) (w .nexts) (w .candWords) (w .candSums) (w .placeOrder) (w .placeWork) listWords listValues)
-    hop-clears listWords′ listValues′ ew ev =
-        rw (cleared .cand, cleared .order, cleared .work, ew, ev, leaks-own .words-long, leaks-own .values-long)
-        (ap (λ (y : Work). shared (y .hIndex) (y .jIndex) (y .mask) (y .workWords) (y .workSums) (y .order) (y .heads) (y .nexts) (replicate (length (w .candWords)) 0) (y .candSums) (replicate (length (w .placeOrder)) 0) (replicate (length (w .placeWork)) 0) (replicate (length listWords) 0) (replicate (length listValues) float0)) (leaks-own .work-zero))
+    pub hop-is : (listWords′ : List ℕ) (listValues′ : List Float) → listWords′ ≡ replicate (length (x .out .outWords)) 0 → listValues′ ≡ replicate (length (x .out .outValues)) float0
+        → ((p : Places) (dt : Float) → HopPlaces p places (w .workWords) (w .workSums) (w .candWords) (w .candSums) (w .placeOrder) (w .placeWork) listWords listValues
+        → Hops (hop m t (words protected) dt p (limitOf l) (tauOf l) ws cs) (m .qubits) places len lanes start r lanes′ start′)
+        × (shared (x .work .hIndex) (x .work .jIndex) (x .work .mask) (x .work .workWords) (x .work .workSums) (x .work .order) (x .work .heads) (x .work .nexts) candWords′ (x .work .candSums) placeOrder′ placeWork′ listWords′ listValues′
+        ≡ none (shared (w .hIndex) (w .jIndex) (w .mask) (w .workWords) (w .workSums) (w .order) (w .heads) (w .nexts) (w .candWords) (w .candSums) (w .placeOrder) (w .placeWork) listWords listValues))
+    hop-is listWords′ listValues′ ew ev = (
+      hops,
+      rw (cleared .cand, cleared .order, cleared .work, ew, ev, leaks-own .words-long, leaks-own .values-long)
+          (ap (λ (y : Work). shared (y .hIndex) (y .jIndex) (y .mask) (y .workWords) (y .workSums) (y .order) (y .heads) (y .nexts) (replicate (length (w .candWords)) 0) (y .candSums) (replicate (length (w .placeOrder)) 0) (replicate (length (w .placeWork)) 0) (replicate (length listWords) 0) (replicate (length listValues) float0)) (leaks-own .work-zero)),
+    )

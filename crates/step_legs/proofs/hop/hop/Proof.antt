@@ -6,7 +6,7 @@ use mathlib.Core.Path.{_∙_}
 use Rattle.model.specs.Stored.{ModelTables}
 use Rattle.model.specs.Between.{modelTables}
 use Rattle.leakage.specs.Leakages.{Work, workOf}
-use Rattle.step_legs.proofs.HopLaws.{list-stands, hop-is-plain, hop-clears}
+use Rattle.step_legs.proofs.HopLaws.{list-stands, hop-is}
 use borrow.Author.Needs.{needs}
 use Rattle.step_legs.proofs.hop.hop.Statement.{statement}
 use Rattle.step_legs.proofs.hop.hop.Tie as tie
@@ -73,10 +73,8 @@ returns c =
     let a = s .args in
     let t : ModelTables = modelTables (a .h-words .now) (a .h-coeffs .now) (a .jumps .now) (a .rates .now) (a .t-words .now) (a .t-numbers .now) in
     let w : Work = workOf (a .h-index .now) (a .j-index .now) (a .mask .now) (a .work-words .now) (a .work-sums .now) (a .order .now) (a .heads .now) (a .nexts .now) (a .cand-words .now) (a .cand-sums .now) (a .place-order .now) (a .place-work .now) in
-    let e = c .before .before .before .before .before .before .before .before .before .before .before .before .before .before .enter-listed .ensures in (
-      hop-is-plain (a .m) t (a .protected .now) (a .limits) (s .pre .0) (a .places) (a .len) (a .grown-words .now) (a .start .now) (a .evolved .now) w (a .list-words .now) (a .list-values .now) (s .pre .1 .0) (s .pre .1 .1) _ (c .before .before .before .before .before .before .before .before .before .before .before .before .before .before .before .before .before .before .before .before .before .before .before .before .before .before .before .before .before .before .before .before .before .before .before .before .before .before .before .before .before .before .before .before .before .before .before .before .before .before .before .leakage-with-prune .ensures) _ (c .before .before .before .before .before .before .before .before .before .before .before .before .before .before .before .before .before .before .before .before .before .before .word-limit .ensures) _ _ _ _ _ _ (e .0),
-      hop-clears (a .m) t (a .protected .now) (a .limits) (s .pre .0) (a .places) (a .len) (a .grown-words .now) (a .start .now) (a .evolved .now) w (a .list-words .now) (a .list-values .now) (s .pre .1 .0) (s .pre .1 .1) _ (c .before .before .before .before .before .before .before .before .before .before .before .before .before .before .before .before .before .before .before .before .before .before .before .before .before .before .before .before .before .before .before .before .before .before .before .before .before .before .before .before .before .before .before .before .before .before .before .before .before .before .before .leakage-with-prune .ensures) _ (c .before .before .before .before .before .before .before .before .before .before .before .before .before .before .before .before .before .before .before .before .before .before .word-limit .ensures) _ _ _ _ _ _ (e .0) _ _ (e .1) (e .2),
-    )
+    let e = c .before .before .before .before .before .before .before .before .before .before .before .before .before .before .enter-listed .ensures in
+    hop-is (a .m) t (a .protected .now) (a .limits) (s .pre .0) (a .places) (a .len) (a .grown-words .now) (a .start .now) (a .evolved .now) w (a .list-words .now) (a .list-values .now) (s .pre .1 .0) (s .pre .1 .1) _ (c .before .before .before .before .before .before .before .before .before .before .before .before .before .before .before .before .before .before .before .before .before .before .before .before .before .before .before .before .before .before .before .before .before .before .before .before .before .before .before .before .before .before .before .before .before .before .before .before .before .before .before .leakage-with-prune .ensures) _ (c .before .before .before .before .before .before .before .before .before .before .before .before .before .before .before .before .before .before .before .before .before .before .word-limit .ensures) _ _ _ _ _ _ (e .0) _ _ (e .1) (e .2)
 
 pub hop-spec : {M : Type 1} → statement M
 hop-spec =
