@@ -40,10 +40,10 @@ use Rattle.step_laws.specs.Passing.{Fit, Held, AdmitCall}
 use Rattle.step_laws.proofs.CourseLaws.{no-value, same-value, same-refused}
 use Rattle.step_laws.proofs.HeldLaws.{held-words, held-numbers, inside-passes, finite-passes, lanes-count}
 
-no-entries : (q : Refusal) (r : ℕ) → Refused q ≡ Entries r → ⊥
+pub no-entries : (q : Refusal) (r : ℕ) → Refused q ≡ Entries r → ⊥
 no-entries q r e = let z : _≡_ {A = ℕ} 0 1 = cc in omega arith
 
-same-answer : (q r : Refusal) → Refused q ≡ Refused r → q ≡ r
+pub same-answer : (q r : Refusal) → Refused q ≡ Refused r → q ≡ r
 same-answer q r e = cc
 
 -- a basis, and a list of k words in the first places of other tables

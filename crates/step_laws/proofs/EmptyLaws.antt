@@ -52,7 +52,7 @@ module _ (m : Model) (t : ModelTables) (protected : List Word) (dt : Float) (pla
       ap (λ (ws : List Word). refuseIf (ltb (places .basis) (0 + length ws)) (TableFull 3 (places .basis)) (got ws)) (pick-none (admitFlags 0 [] limit))
       ∙ ap (λ (b : Bool). refuseIf b (TableFull 3 (places .basis)) (got [])) (never (places .basis))
 
-  hop-none : (limit : ℕ) (tau : Float) → hop m t protected dt places limit tau [] [] ≡ got []
+  pub hop-none : (limit : ℕ) (tau : Float) → hop m t protected dt places limit tau [] [] ≡ got []
   hop-none limit tau = ap (λ (r : Read Rows). onward r (admitted m t protected dt places limit [])) (leaks-none limit tau) ∙ admits-none limit
 
   evolves-none : (dropTol : Float) → evolution m t protected dt places dropTol [] [] ≡ got (record { numbers = []; products = 0 })

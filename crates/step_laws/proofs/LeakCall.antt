@@ -79,13 +79,13 @@ table-words (suc n) (w ∷ ws) [] h l = absurd (omega arith)
 table-words (suc n) (w ∷ ws) (x ∷ xs) h l = ap (λ (t : List Word). w ∷ t) (table-words n ws xs (omega arith) (omega arith))
 
 -- ---- answers
-no-list : (q : Refusal) (k : ℕ) → Refused q ≡ Listed k → ⊥
+pub no-list : (q : Refusal) (k : ℕ) → Refused q ≡ Listed k → ⊥
 no-list q k e = let z : _≡_ {A = ℕ} 0 1 = cc in omega arith
 
-same-count : (j k : ℕ) → Listed j ≡ Listed k → j ≡ k
+pub same-count : (j k : ℕ) → Listed j ≡ Listed k → j ≡ k
 same-count j k e = cc
 
-same-answer : (q r : Refusal) → Refused q ≡ Refused r → q ≡ r
+pub same-answer : (q r : Refusal) → Refused q ≡ Refused r → q ≡ r
 same-answer q r e = cc
 
 -- ---- the tests

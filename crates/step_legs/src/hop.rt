@@ -4,6 +4,7 @@
 // A hop: the words that leak from the basis, listed, and those that find room appended to it.
 ghost use mathlib.Core.Path.{_≡_};
 ghost use Prim.Native.Nat.{ℕ, _*_, _/_, _≤_};
+ghost use lib.Ieee.{Float};
 ghost use lib.ListN.{length, take, replicate};
 ghost use Rattle.word.specs.Flat.{words as wordsIn, wordLanes};
 ghost use Rattle.number.specs.Floats.{float0};

@@ -2,16 +2,14 @@
 -- SPDX-License-Identifier: Apache-2.0
 
 -- `evolve::evolve_grown` meets its contract: the call passes its tests. Assumes nothing.
-use mathlib.Core.Path.{_≡_, ap, _∙_}
 use Rattle.model.specs.Stored.{ModelTables}
 use Rattle.model.specs.Between.{modelTables}
 use Rattle.generator.specs.Lent.{workOf as generatorWork}
-use Rattle.evolution.specs.Lent.{Work, workOf, zeroed}
-use Rattle.evolution.specs.Evolutions.{Evolving, evolve}
-use Rattle.step_parts.proofs.EvolveLaws.{evolve-clears, evolve-grown-is}
+use Rattle.evolution.specs.Lent.{Work, workOf}
+use Rattle.step_legs.proofs.EvolveLaws.{evolve-grown-is}
 use borrow.Author.Needs.{needs}
-use Rattle.step_parts.proofs.evolve.evolve_grown.Statement.{statement}
-use Rattle.step_parts.proofs.evolve.evolve_grown.Tie as tie
+use Rattle.step_legs.proofs.evolve.evolve_grown.Statement.{statement}
+use Rattle.step_legs.proofs.evolve.evolve_grown.Tie as tie
 
 same-length : tie.Need-same-length
 same-length c = c .before .before .before .before .before .before .before .before .before .before .before .before .before .before .before .before .before .before .before .before .before .before .before .before .before .before .before .before .before .before .before .before .before .before .evolve .kept .1 .1 .1 .1 .1 .1 .1 .1 .1 .1 .1 .1 .0
@@ -84,21 +82,7 @@ returns c =
     let t : ModelTables = modelTables (a .h-words .now) (a .h-coeffs .now) (a .jumps .now) (a .rates .now) (a .t-words .now) (a .t-numbers .now) in
     let w : Work = workOf (generatorWork (a .h-index .now) (a .j-index .now) (a .mask .now) (a .heads .now) (a .nexts .now) (a .work-words .now) (a .work-sums .now) (a .stage-rows .now) (a .stage-columns .now) (a .cand-sums .now)) (a .place-order .now) (a .columns .now) (a .values .now) (a .v .now) (a .list-values .now) (a .product .now) in
     let pre = c .before .before .before .before .before .before .before .before .before .before .before .before .before .before .before .before .before .before .before .before .before .before .before .before .before .before .before .before .before .before .before .before .before .before .before .before .before .before .before .before .before .before .before .before .before .before .before .before .before .before .before .before .before .before .before .before .before .before .before .before .before .before .before .before .before .before .before .before .before .before .before .before .before .before .before .before .before .pre in
-    let e = c .before .before .before .before .before .before .before .before .before .before .before .before .before .before .before .before .before .before .before .before .before .before .before .before .before .before .before .before .before .before .before .before .before .before .evolve .ensures in
-    let z : (r : Evolving) → r ≡ evolve w (a .evolved .now) (a .m) t (a .grown-words .now) (a .start .now) (a .len) (a .dt) (a .drop-tol) → r .work ≡ zeroed w =
-    λ r i. ap (λ (x : Evolving). x .work) i ∙ evolve-clears (a .m) t (pre .0 .0) (a .dt) (a .drop-tol) (pre .0 .1) (a .places) (a .len) (a .grown-words .now) (a .start .now) w (a .evolved .now) (pre .1 .0) (pre .1 .1) in
-    let zero = z _ e in (
-      (λ p protected h. evolve-grown-is (a .m) t (pre .0 .0) (a .dt) (a .drop-tol) (pre .0 .1) (a .places) (a .len) (a .grown-words .now) (a .start .now) w (a .evolved .now) (pre .1 .0) (pre .1 .1) p protected h _ _ (ap (λ (x : Evolving). x .answer) e) (ap (λ (x : Evolving). x .out) e)),
-      ap (λ (x : Work). x .generator .hIndex) zero,
-      ap (λ (x : Work). x .generator .jIndex) zero,
-      ap (λ (x : Work). x .generator .mask) zero,
-      ap (λ (x : Work). x .generator .workWords) zero,
-      ap (λ (x : Work). x .generator .workSums) zero,
-      ap (λ (x : Work). x .generator .heads) zero,
-      ap (λ (x : Work). x .generator .nexts) zero,
-      ap (λ (x : Work). x .generator .stageValues) zero,
-      ap (λ (x : Work). x .offsets) zero,
-    )
+    evolve-grown-is (a .m) t (pre .0 .0) (a .dt) (a .drop-tol) (pre .0 .1) (pre .0 .2) (a .places) (a .len) (a .grown-words .now) (a .start .now) w (a .evolved .now) (pre .1 .0) (pre .1 .1 .0) (pre .1 .1 .1) (pre .1 .1 .2) _ (c .before .before .before .before .before .before .before .before .before .before .before .before .before .before .before .before .before .before .before .before .before .before .before .before .before .before .before .before .before .before .before .before .before .before .evolve .ensures)
 
 pub evolve-grown-spec : {M : Type 1} → statement M
 evolve-grown-spec =
