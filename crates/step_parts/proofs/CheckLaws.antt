@@ -113,9 +113,9 @@ pub where-any : (len have : ℕ) → (0 < len → len ≤ have) → len ≤ have
 where-any zero have h = omega arith
 where-any (suc len) have h = h (omega arith)
 
-module _ (n len count hIndex jIndex mask order heads nexts placeOrder v listValues product grownWords start evolved : ℕ) where
+module _ (n len count hIndex jIndex mask order heads nexts placeOrder candSums listValues workSums grownWords start evolved : ℕ) where
   abbrev tables : Answer
-  tables = workTests n len count hIndex jIndex mask order heads nexts placeOrder v listValues product grownWords start evolved
+  tables = workTests n len count hIndex jIndex mask order heads nexts placeOrder candSums listValues workSums grownWords start evolved
 
   module _ {rows row slots starts : ℕ} (rows-are : rows ≡ whereAny len (rowLanes * n)) (row-is : row ≡ whereAny len rowLanes) (slots-are : slots ≡ whereAny len (len + count)) (starts-are : starts ≡ whereAny len (suc len)) where
     pub h-short : hIndex < rows → Refused (LengthMismatch rows hIndex) ≡ tables
@@ -153,39 +153,39 @@ module _ (n len count hIndex jIndex mask order heads nexts placeOrder v listValu
                 starts-short l = rw (← rows-are, le-ltb hIndex rows h0, le-ltb jIndex rows h1, ← row-is, le-ltb mask row h2, le-ltb order len h3, ← slots-are, le-ltb heads slots h4, le-ltb nexts slots h5, ← starts-are, lt-ltb placeOrder starts l)
 
                 module _ (h6 : starts ≤ placeOrder) where
-                  pub v-short : v < len → Refused (LengthMismatch len v) ≡ tables
+                  pub cand-short : candSums < len → Refused (LengthMismatch len candSums) ≡ tables
                   unfolding workTests
-                  v-short l = rw (← rows-are, le-ltb hIndex rows h0, le-ltb jIndex rows h1, ← row-is, le-ltb mask row h2, le-ltb order len h3, ← slots-are, le-ltb heads slots h4, le-ltb nexts slots h5, ← starts-are, le-ltb placeOrder starts h6, lt-ltb v len l)
+                  cand-short l = rw (← rows-are, le-ltb hIndex rows h0, le-ltb jIndex rows h1, ← row-is, le-ltb mask row h2, le-ltb order len h3, ← slots-are, le-ltb heads slots h4, le-ltb nexts slots h5, ← starts-are, le-ltb placeOrder starts h6, lt-ltb candSums len l)
 
-                  module _ (h7 : len ≤ v) where
+                  module _ (h7 : len ≤ candSums) where
                     pub list-short : listValues < len → Refused (LengthMismatch len listValues) ≡ tables
                     unfolding workTests
-                    list-short l = rw (← rows-are, le-ltb hIndex rows h0, le-ltb jIndex rows h1, ← row-is, le-ltb mask row h2, le-ltb order len h3, ← slots-are, le-ltb heads slots h4, le-ltb nexts slots h5, ← starts-are, le-ltb placeOrder starts h6, le-ltb v len h7, lt-ltb listValues len l)
+                    list-short l = rw (← rows-are, le-ltb hIndex rows h0, le-ltb jIndex rows h1, ← row-is, le-ltb mask row h2, le-ltb order len h3, ← slots-are, le-ltb heads slots h4, le-ltb nexts slots h5, ← starts-are, le-ltb placeOrder starts h6, le-ltb candSums len h7, lt-ltb listValues len l)
 
                     module _ (h8 : len ≤ listValues) where
-                      pub product-short : product < len → Refused (LengthMismatch len product) ≡ tables
+                      pub sums-short : workSums < len → Refused (LengthMismatch len workSums) ≡ tables
                       unfolding workTests
-                      product-short l = rw (← rows-are, le-ltb hIndex rows h0, le-ltb jIndex rows h1, ← row-is, le-ltb mask row h2, le-ltb order len h3, ← slots-are, le-ltb heads slots h4, le-ltb nexts slots h5, ← starts-are, le-ltb placeOrder starts h6, le-ltb v len h7, le-ltb listValues len h8, lt-ltb product len l)
+                      sums-short l = rw (← rows-are, le-ltb hIndex rows h0, le-ltb jIndex rows h1, ← row-is, le-ltb mask row h2, le-ltb order len h3, ← slots-are, le-ltb heads slots h4, le-ltb nexts slots h5, ← starts-are, le-ltb placeOrder starts h6, le-ltb candSums len h7, le-ltb listValues len h8, lt-ltb workSums len l)
 
-                      module _ (h9 : len ≤ product) where
+                      module _ (h9 : len ≤ workSums) where
                         pub grown-short : grownWords / wordLanes < len → Refused (LengthMismatch len (grownWords / wordLanes)) ≡ tables
                         unfolding workTests
-                        grown-short l = rw (← rows-are, le-ltb hIndex rows h0, le-ltb jIndex rows h1, ← row-is, le-ltb mask row h2, le-ltb order len h3, ← slots-are, le-ltb heads slots h4, le-ltb nexts slots h5, ← starts-are, le-ltb placeOrder starts h6, le-ltb v len h7, le-ltb listValues len h8, le-ltb product len h9, lt-ltb (grownWords / wordLanes) len l)
+                        grown-short l = rw (← rows-are, le-ltb hIndex rows h0, le-ltb jIndex rows h1, ← row-is, le-ltb mask row h2, le-ltb order len h3, ← slots-are, le-ltb heads slots h4, le-ltb nexts slots h5, ← starts-are, le-ltb placeOrder starts h6, le-ltb candSums len h7, le-ltb listValues len h8, le-ltb workSums len h9, lt-ltb (grownWords / wordLanes) len l)
 
                         module _ (h10 : len ≤ grownWords / wordLanes) where
                           pub start-short : start < len → Refused (LengthMismatch len start) ≡ tables
                           unfolding workTests
-                          start-short l = rw (← rows-are, le-ltb hIndex rows h0, le-ltb jIndex rows h1, ← row-is, le-ltb mask row h2, le-ltb order len h3, ← slots-are, le-ltb heads slots h4, le-ltb nexts slots h5, ← starts-are, le-ltb placeOrder starts h6, le-ltb v len h7, le-ltb listValues len h8, le-ltb product len h9, le-ltb (grownWords / wordLanes) len h10, lt-ltb start len l)
+                          start-short l = rw (← rows-are, le-ltb hIndex rows h0, le-ltb jIndex rows h1, ← row-is, le-ltb mask row h2, le-ltb order len h3, ← slots-are, le-ltb heads slots h4, le-ltb nexts slots h5, ← starts-are, le-ltb placeOrder starts h6, le-ltb candSums len h7, le-ltb listValues len h8, le-ltb workSums len h9, le-ltb (grownWords / wordLanes) len h10, lt-ltb start len l)
 
                           module _ (h11 : len ≤ start) where
                             pub evolved-short : evolved < len → Refused (LengthMismatch len evolved) ≡ tables
                             unfolding workTests
-                            evolved-short l = rw (← rows-are, le-ltb hIndex rows h0, le-ltb jIndex rows h1, ← row-is, le-ltb mask row h2, le-ltb order len h3, ← slots-are, le-ltb heads slots h4, le-ltb nexts slots h5, ← starts-are, le-ltb placeOrder starts h6, le-ltb v len h7, le-ltb listValues len h8, le-ltb product len h9, le-ltb (grownWords / wordLanes) len h10, le-ltb start len h11, lt-ltb evolved len l)
+                            evolved-short l = rw (← rows-are, le-ltb hIndex rows h0, le-ltb jIndex rows h1, ← row-is, le-ltb mask row h2, le-ltb order len h3, ← slots-are, le-ltb heads slots h4, le-ltb nexts slots h5, ← starts-are, le-ltb placeOrder starts h6, le-ltb candSums len h7, le-ltb listValues len h8, le-ltb workSums len h9, le-ltb (grownWords / wordLanes) len h10, le-ltb start len h11, lt-ltb evolved len l)
 
                             module _ (h12 : len ≤ evolved) where
                               pub tables-accepted : Accepted ≡ tables
                               unfolding workTests
-                              tables-accepted = rw (← rows-are, le-ltb hIndex rows h0, le-ltb jIndex rows h1, ← row-is, le-ltb mask row h2, le-ltb order len h3, ← slots-are, le-ltb heads slots h4, le-ltb nexts slots h5, ← starts-are, le-ltb placeOrder starts h6, le-ltb v len h7, le-ltb listValues len h8, le-ltb product len h9, le-ltb (grownWords / wordLanes) len h10, le-ltb start len h11, le-ltb evolved len h12)
+                              tables-accepted = rw (← rows-are, le-ltb hIndex rows h0, le-ltb jIndex rows h1, ← row-is, le-ltb mask row h2, le-ltb order len h3, ← slots-are, le-ltb heads slots h4, le-ltb nexts slots h5, ← starts-are, le-ltb placeOrder starts h6, le-ltb candSums len h7, le-ltb listValues len h8, le-ltb workSums len h9, le-ltb (grownWords / wordLanes) len h10, le-ltb start len h11, le-ltb evolved len h12)
 
   pub record WorkPassed : Type 0 where
     pub h-long : 0 < len → rowLanes * n ≤ hIndex
@@ -195,9 +195,9 @@ module _ (n len count hIndex jIndex mask order heads nexts placeOrder v listValu
     pub heads-long : 0 < len → len + count ≤ heads
     pub nexts-long : 0 < len → len + count ≤ nexts
     pub starts-long : 0 < len → len < placeOrder
-    pub v-long : len ≤ v
+    pub cand-long : len ≤ candSums
     pub list-long : len ≤ listValues
-    pub product-long : len ≤ product
+    pub sums-long : len ≤ workSums
     pub grown-long : wordLanes * len ≤ grownWords
     pub start-long : len ≤ start
     pub evolved-long : len ≤ evolved
@@ -213,9 +213,9 @@ module _ (n len count hIndex jIndex mask order heads nexts placeOrder v listValu
       let e5 = lent-passed (whereAny len (len + count)) heads _ (e4 .1) in
       let e6 = lent-passed (whereAny len (len + count)) nexts _ (e5 .1) in
       let e7 = lent-passed (whereAny len (suc len)) placeOrder _ (e6 .1) in
-      let e8 = lent-passed len v _ (e7 .1) in
+      let e8 = lent-passed len candSums _ (e7 .1) in
       let e9 = lent-passed len listValues _ (e8 .1) in
-      let e10 = lent-passed len product _ (e9 .1) in
+      let e10 = lent-passed len workSums _ (e9 .1) in
       let e11 = lent-passed len (grownWords / wordLanes) _ (e10 .1) in
       let e12 = lent-passed len start _ (e11 .1) in
       let e13 = lent-passed len evolved _ (e12 .1) in
@@ -227,9 +227,9 @@ module _ (n len count hIndex jIndex mask order heads nexts placeOrder v listValu
         heads-long = λ a. need-some len (len + count) heads a (e5 .0);
         nexts-long = λ a. need-some len (len + count) nexts a (e6 .0);
         starts-long = λ a. need-some len (suc len) placeOrder a (e7 .0);
-        v-long = e8 .0;
+        cand-long = e8 .0;
         list-long = e9 .0;
-        product-long = e10 .0;
+        sums-long = e10 .0;
         grown-long = omega (arith, e11 .0);
         start-long = e12 .0;
         evolved-long = e13 .0;
@@ -326,12 +326,12 @@ module _ (len : ℕ) (basis heads nexts : List ℕ) (each : length basis ≡ len
   distinct-laid h = (rw (← (d .first), le-ltb r (length (words basis)) (omega (arith, size))), λ q e. absurd (refused-not q (sym e)))
 
 -- ---- one part of the tests after another
-module _ (m : Model) (t : ModelTables) (lanes : List ℕ) (coeffs : List Float) (len : ℕ) (protected : List ℕ) (l : Limits) (dt dropTol : Float) (hIndex jIndex mask order heads nexts placeOrder v listValues product grownWords start evolved : ℕ) where
+module _ (m : Model) (t : ModelTables) (lanes : List ℕ) (coeffs : List Float) (len : ℕ) (protected : List ℕ) (l : Limits) (dt dropTol : Float) (hIndex jIndex mask order heads nexts placeOrder candSums listValues workSums grownWords start evolved : ℕ) where
   abbrev all-tests : Answer
-  all-tests = stepTests m t lanes coeffs len protected l dt dropTol hIndex jIndex mask order heads nexts placeOrder v listValues product grownWords start evolved
+  all-tests = stepTests m t lanes coeffs len protected l dt dropTol hIndex jIndex mask order heads nexts placeOrder candSums listValues workSums grownWords start evolved
 
   abbrev work-tests : Answer
-  work-tests = workTests (m .qubits) len (length protected / wordLanes) hIndex jIndex mask order heads nexts placeOrder v listValues product grownWords start evolved
+  work-tests = workTests (m .qubits) len (length protected / wordLanes) hIndex jIndex mask order heads nexts placeOrder candSums listValues workSums grownWords start evolved
 
   abbrev number-tests : Answer
   number-tests = numberTests (m .qubits) lanes coeffs len protected l dt dropTol

@@ -52,25 +52,25 @@ unfolding limitTests
 limit-few l e = counted-passed maxWords (l .«max_basis») _ e .0
 
 -- ---- all tests
-module _ (m : Model) (t : ModelTables) (lanes : List ℕ) (coeffs : List Float) (len : ℕ) (protected : List ℕ) (l : Limits) (dt dropTol : Float) (hIndex jIndex mask order heads nexts placeOrder v listValues product grownWords start evolved : ℕ) where
+module _ (m : Model) (t : ModelTables) (lanes : List ℕ) (coeffs : List Float) (len : ℕ) (protected : List ℕ) (l : Limits) (dt dropTol : Float) (hIndex jIndex mask order heads nexts placeOrder candSums listValues workSums grownWords start evolved : ℕ) where
   pub record StepPassed : Type 0 where
     pub given : GivenPassed m t lanes coeffs len protected l
-    pub work : WorkPassed (m .qubits) len (length protected / wordLanes) hIndex jIndex mask order heads nexts placeOrder v listValues product grownWords start evolved
+    pub work : WorkPassed (m .qubits) len (length protected / wordLanes) hIndex jIndex mask order heads nexts placeOrder candSums listValues workSums grownWords start evolved
     pub numbers : NumbersPassed (m .qubits) lanes coeffs len protected l dt dropTol
     pub apart : distinct (basisOf lanes len) ≡ Accepted
 
-  pub step-passed : stepTests m t lanes coeffs len protected l dt dropTol hIndex jIndex mask order heads nexts placeOrder v listValues product grownWords start evolved ≡ Accepted → StepPassed
+  pub step-passed : stepTests m t lanes coeffs len protected l dt dropTol hIndex jIndex mask order heads nexts placeOrder candSums listValues workSums grownWords start evolved ≡ Accepted → StepPassed
   unfolding stepTests
   step-passed e =
       let given : Answer = givenTests m t lanes coeffs len protected l in
-      let tables : Answer = workTests (m .qubits) len (length protected / wordLanes) hIndex jIndex mask order heads nexts placeOrder v listValues product grownWords start evolved in
+      let tables : Answer = workTests (m .qubits) len (length protected / wordLanes) hIndex jIndex mask order heads nexts placeOrder candSums listValues workSums grownWords start evolved in
       let numbers : Answer = numberTests (m .qubits) lanes coeffs len protected l dt dropTol in
       let a = both given _ e in
       let b = both tables _ (a .1) in
       let d = both numbers _ (b .1) in
       record {
         given = given-passed m t lanes coeffs len protected l (a .0);
-        work = work-passed (m .qubits) len (length protected / wordLanes) hIndex jIndex mask order heads nexts placeOrder v listValues product grownWords start evolved (b .0);
+        work = work-passed (m .qubits) len (length protected / wordLanes) hIndex jIndex mask order heads nexts placeOrder candSums listValues workSums grownWords start evolved (b .0);
         numbers = numbers-passed (m .qubits) lanes coeffs len protected l dt dropTol (d .0);
         apart = d .1;
       }
@@ -123,9 +123,9 @@ lower a b = (omega arith, omega arith)
 least : (a b k : ℕ) → k ≤ a → k ≤ b → k ≤ min a b
 least a b k h i = omega arith
 
-module _ (lanes coeffs grownWords start evolved order heads nexts placeOrder v listValues product count : ℕ) where
+module _ (lanes coeffs grownWords start evolved order heads nexts placeOrder candSums listValues workSums count : ℕ) where
   abbrev places : ℕ
-  places = grownPlaces lanes coeffs grownWords start evolved order heads nexts placeOrder v listValues product count
+  places = grownPlaces lanes coeffs grownWords start evolved order heads nexts placeOrder candSums listValues workSums count
 
   -- no more than any table has
   pub record Within : Type 0 where
@@ -138,26 +138,26 @@ module _ (lanes coeffs grownWords start evolved order heads nexts placeOrder v l
     pub heads-within : places ≤ heads - count
     pub nexts-within : places ≤ nexts - count
     pub starts-within : places ≤ placeOrder - 1
-    pub v-within : places ≤ v
+    pub cand-within : places ≤ candSums
     pub list-within : places ≤ listValues
-    pub product-within : places ≤ product
+    pub sums-within : places ≤ workSums
 
   pub within : Within
   unfolding grownPlaces
   within =
       let k : ℕ = places in
       let e0 =
-      lower (min (min (lanes / wordLanes) coeffs) (min (min (grownWords / wordLanes) start) evolved)) (min (min (min order (heads - count)) (min (nexts - count) (placeOrder - 1))) (min (min v listValues) product)) in
+      lower (min (min (lanes / wordLanes) coeffs) (min (min (grownWords / wordLanes) start) evolved)) (min (min (min order (heads - count)) (min (nexts - count) (placeOrder - 1))) (min (min candSums listValues) workSums)) in
       let e1 = split (min (lanes / wordLanes) coeffs) (min (min (grownWords / wordLanes) start) evolved) k (e0 .0) in
-      let e2 = split (min (min order (heads - count)) (min (nexts - count) (placeOrder - 1))) (min (min v listValues) product) k (e0 .1) in
+      let e2 = split (min (min order (heads - count)) (min (nexts - count) (placeOrder - 1))) (min (min candSums listValues) workSums) k (e0 .1) in
       let e3 = split (lanes / wordLanes) coeffs k (e1 .0) in
       let e4 = split (min (grownWords / wordLanes) start) evolved k (e1 .1) in
       let e5 = split (grownWords / wordLanes) start k (e4 .0) in
       let e6 = split (min order (heads - count)) (min (nexts - count) (placeOrder - 1)) k (e2 .0) in
       let e7 = split order (heads - count) k (e6 .0) in
       let e8 = split (nexts - count) (placeOrder - 1) k (e6 .1) in
-      let e9 = split (min v listValues) product k (e2 .1) in
-      let e10 = split v listValues k (e9 .0) in
+      let e9 = split (min candSums listValues) workSums k (e2 .1) in
+      let e10 = split candSums listValues k (e9 .0) in
       record {
         lanes-within = omega (arith, e3 .0);
         coeffs-within = e3 .1;
@@ -168,31 +168,31 @@ module _ (lanes coeffs grownWords start evolved order heads nexts placeOrder v l
         heads-within = e7 .1;
         nexts-within = e8 .0;
         starts-within = e8 .1;
-        v-within = e10 .0;
+        cand-within = e10 .0;
         list-within = e10 .1;
-        product-within = e9 .1;
+        sums-within = e9 .1;
       }
 
   -- and a place for each word given
-  module _ (n len hIndex jIndex mask : ℕ) (words-long : wordLanes * len ≤ lanes) (coeffs-long : len ≤ coeffs) (w : WorkPassed n len count hIndex jIndex mask order heads nexts placeOrder v listValues product grownWords start evolved) where
+  module _ (n len hIndex jIndex mask : ℕ) (words-long : wordLanes * len ≤ lanes) (coeffs-long : len ≤ coeffs) (w : WorkPassed n len count hIndex jIndex mask order heads nexts placeOrder candSums listValues workSums grownWords start evolved) where
     any-within : 0 < len → len ≤ places
     unfolding grownPlaces
     any-within any =
         least _ _ len
         (least _ _ len (least _ _ len (omega (arith, words-long)) coeffs-long) (least _ _ len (least _ _ len (omega (arith, w .grown-long)) (w .start-long)) (w .evolved-long)))
-        (least _ _ len (least _ _ len (least _ _ len (w .order-long) (omega (arith, w .heads-long any))) (least _ _ len (omega (arith, w .nexts-long any)) (omega (arith, w .starts-long any)))) (least _ _ len (least _ _ len (w .v-long) (w .list-long)) (w .product-long)))
+        (least _ _ len (least _ _ len (least _ _ len (w .order-long) (omega (arith, w .heads-long any))) (least _ _ len (omega (arith, w .nexts-long any)) (omega (arith, w .starts-long any)))) (least _ _ len (least _ _ len (w .cand-long) (w .list-long)) (w .sums-long)))
 
     pub given-within : len ≤ places
     given-within = where-any len places any-within
 
 -- ---- tables that are long enough
-module _ (n len count lanes coeffs : ℕ) (w : Work) (p : WorkPassed n len count (length (w .hIndex)) (length (w .jIndex)) (length (w .mask)) (length (w .order)) (length (w .heads)) (length (w .nexts)) (length (w .placeOrder)) (length (w .v)) (length (w .listValues)) (length (w .product)) (length (w .grownWords)) (length (w .start)) (length (w .evolved))) where
+module _ (n len count lanes coeffs : ℕ) (w : Work) (p : WorkPassed n len count (length (w .hIndex)) (length (w .jIndex)) (length (w .mask)) (length (w .order)) (length (w .heads)) (length (w .nexts)) (length (w .placeOrder)) (length (w .candSums)) (length (w .listValues)) (length (w .workSums)) (length (w .grownWords)) (length (w .start)) (length (w .evolved))) where
   abbrev grownTo : ℕ
-  grownTo = grownPlaces lanes coeffs (length (w .grownWords)) (length (w .start)) (length (w .evolved)) (length (w .order)) (length (w .heads)) (length (w .nexts)) (length (w .placeOrder)) (length (w .v)) (length (w .listValues)) (length (w .product)) count
+  grownTo = grownPlaces lanes coeffs (length (w .grownWords)) (length (w .start)) (length (w .evolved)) (length (w .order)) (length (w .heads)) (length (w .nexts)) (length (w .placeOrder)) (length (w .candSums)) (length (w .listValues)) (length (w .workSums)) count
 
   pub ready-long : Long n count grownTo len w
   ready-long =
-      let i = within lanes coeffs (length (w .grownWords)) (length (w .start)) (length (w .evolved)) (length (w .order)) (length (w .heads)) (length (w .nexts)) (length (w .placeOrder)) (length (w .v)) (length (w .listValues)) (length (w .product)) count in
+      let i = within lanes coeffs (length (w .grownWords)) (length (w .start)) (length (w .evolved)) (length (w .order)) (length (w .heads)) (length (w .nexts)) (length (w .placeOrder)) (length (w .candSums)) (length (w .listValues)) (length (w .workSums)) count in
       record {
         hop = record {
           h-rows = p .h-long;
@@ -213,9 +213,9 @@ module _ (n len count lanes coeffs : ℕ) (w : Work) (p : WorkPassed n len count
           nexts-long = omega (arith, i .nexts-within);
           starts-long = λ any. omega (arith, i .starts-within, p .starts-long any);
           grown-long = i .grown-within;
-          v-long = i .v-within;
+          cand-long = i .cand-within;
           list-long = i .list-within;
-          product-long = i .product-within;
+          sums-long = i .sums-within;
           start-long = i .start-within;
           evolved-long = i .evolved-within;
         };
@@ -245,9 +245,9 @@ module _ {w w′ : Work} (s : SameLong w w′) where
       nexts-long = rw (s .nexts) (h .evolve .nexts-long);
       starts-long = λ any. rw (s .placeOrder) (h .evolve .starts-long (some any));
       grown-long = rw (s .grownWords) (h .evolve .grown-long);
-      v-long = rw (s .v) (h .evolve .v-long);
+      cand-long = rw (s .candSums) (h .evolve .cand-long);
       list-long = rw (s .listValues) (h .evolve .list-long);
-      product-long = rw (s .product) (h .evolve .product-long);
+      sums-long = rw (s .workSums) (h .evolve .sums-long);
       start-long = rw (s .start) (h .evolve .start-long);
       evolved-long = rw (s .evolved) (h .evolve .evolved-long);
     };
@@ -287,8 +287,6 @@ same-twice s t = record {
   stageColumns = t .stageColumns ∙ s .stageColumns;
   columns = t .columns ∙ s .columns;
   values = t .values ∙ s .values;
-  v = t .v ∙ s .v;
-  product = t .product ∙ s .product;
   grownWords = t .grownWords ∙ s .grownWords;
   start = t .start ∙ s .start;
   evolved = t .evolved ∙ s .evolved;

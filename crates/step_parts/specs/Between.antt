@@ -66,7 +66,7 @@ pub record HopLong (n count places len : ℕ) (hIndex jIndex mask order heads ne
   pub evolved-long : places ≤ length evolved
 
 -- and those of an evolution
-pub record EvolveLong (n places len : ℕ) (hIndex jIndex mask heads nexts placeOrder grownWords : List ℕ) (v listValues product start evolved : List Float) : Type 0 where
+pub record EvolveLong (n places len : ℕ) (hIndex jIndex mask heads nexts placeOrder grownWords : List ℕ) (candSums listValues workSums start evolved : List Float) : Type 0 where
   pub h-rows : 0 < len → rowLanes * n ≤ length hIndex
   pub j-rows : 0 < len → rowLanes * n ≤ length jIndex
   pub row : 0 < len → rowLanes ≤ length mask
@@ -74,15 +74,15 @@ pub record EvolveLong (n places len : ℕ) (hIndex jIndex mask heads nexts place
   pub nexts-long : places ≤ length nexts
   pub starts-long : 0 < len → places < length placeOrder
   pub grown-long : wordLanes * places ≤ length grownWords
-  pub v-long : places ≤ length v
+  pub cand-long : places ≤ length candSums
   pub list-long : places ≤ length listValues
-  pub product-long : places ≤ length product
+  pub sums-long : places ≤ length workSums
   pub start-long : places ≤ length start
   pub evolved-long : places ≤ length evolved
 
 pub record Long (n count places len : ℕ) (w : Work) : Type 0 where
   pub hop : HopLong n count places len (w .hIndex) (w .jIndex) (w .mask) (w .order) (w .heads) (w .nexts) (w .grownWords) (w .start) (w .evolved)
-  pub evolve : EvolveLong n places len (w .hIndex) (w .jIndex) (w .mask) (w .heads) (w .nexts) (w .placeOrder) (w .grownWords) (w .v) (w .listValues) (w .product) (w .start) (w .evolved)
+  pub evolve : EvolveLong n places len (w .hIndex) (w .jIndex) (w .mask) (w .heads) (w .nexts) (w .placeOrder) (w .grownWords) (w .candSums) (w .listValues) (w .workSums) (w .start) (w .evolved)
 
 -- tables as long as others
 pub record SameLong (w w′ : Work) : Type 0 where
@@ -104,8 +104,6 @@ pub record SameLong (w w′ : Work) : Type 0 where
   pub stageColumns : length (w′ .stageColumns) ≡ length (w .stageColumns)
   pub columns : length (w′ .columns) ≡ length (w .columns)
   pub values : length (w′ .values) ≡ length (w .values)
-  pub v : length (w′ .v) ≡ length (w .v)
-  pub product : length (w′ .product) ≡ length (w .product)
   pub grownWords : length (w′ .grownWords) ≡ length (w .grownWords)
   pub start : length (w′ .start) ≡ length (w .start)
   pub evolved : length (w′ .evolved) ≡ length (w .evolved)
@@ -210,6 +208,11 @@ pub record Outcomes (plain : Read Outcome) (len k : ℕ) (evolved′ : List Floa
 pub record Evolves (plain : Read Outcome) (len : ℕ) (r : Evolved) (evolved′ : List Float) : Type 0 where
   pub evolves : (k : ℕ) → r ≡ Evolutions.Products k → Outcomes plain len k evolved′
   pub stops : (q : Refusal) → r ≡ Evolutions.Refused q → plain ≡ refused q
+
+-- the same, told as a step over so many words
+pub record EvolvesTo (plain : Read Outcome) (len : ℕ) (r : Step) (evolved′ : List Float) : Type 0 where
+  pub taken : (k products : ℕ) → r ≡ Steps.Taken k products → (k ≡ len) × Outcomes plain len products evolved′
+  pub stops : (q : Refusal) → r ≡ Steps.Refused q → plain ≡ refused q
 
 -- ---- a hop, and the evolution over the basis that it leaves
 pub record PlacesOf (p : Places) (places : ℕ) (w : Work) : Type 0 where

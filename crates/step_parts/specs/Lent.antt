@@ -24,7 +24,7 @@ use Rattle.step_laws.specs.Steps.{Places}
 
 -- the tables of a leakage; its list; those of an evolution that share with none of these; the grown basis, with the numbers given, a zero for each
 -- word that entered, and the evolved ones. Where an evolution runs, place_order holds where rows start, cand_sums the values
--- while they are staged, and list_values the terms of a stage
+-- while they are staged and then the numbers of a stage, list_values its terms, and work_sums a product
 pub record Work : Type 0 where
   pub hIndex : List ℕ
   pub jIndex : List ℕ
@@ -44,14 +44,12 @@ pub record Work : Type 0 where
   pub stageColumns : List ℕ
   pub columns : List ℕ
   pub values : List Float
-  pub v : List Float
-  pub product : List Float
   pub grownWords : List ℕ
   pub start : List Float
   pub evolved : List Float
 
-abbrev pub workOf : List ℕ → List ℕ → List ℕ → List ℕ → List Float → List ℕ → List ℕ → List ℕ → List ℕ → List Float → List ℕ → List ℕ → List ℕ → List Float → List ℕ → List ℕ → List ℕ → List Float → List Float → List Float → List ℕ → List Float → List Float → Work
-workOf hIndex jIndex mask workWords workSums order heads nexts candWords candSums placeOrder placeWork listWords listValues stageRows stageColumns columns values v product grownWords start evolved = record {
+abbrev pub workOf : List ℕ → List ℕ → List ℕ → List ℕ → List Float → List ℕ → List ℕ → List ℕ → List ℕ → List Float → List ℕ → List ℕ → List ℕ → List Float → List ℕ → List ℕ → List ℕ → List Float → List ℕ → List Float → List Float → Work
+workOf hIndex jIndex mask workWords workSums order heads nexts candWords candSums placeOrder placeWork listWords listValues stageRows stageColumns columns values grownWords start evolved = record {
   hIndex = hIndex;
   jIndex = jIndex;
   mask = mask;
@@ -70,8 +68,6 @@ workOf hIndex jIndex mask workWords workSums order heads nexts candWords candSum
   stageColumns = stageColumns;
   columns = columns;
   values = values;
-  v = v;
-  product = product;
   grownWords = grownWords;
   start = start;
   evolved = evolved;
@@ -97,8 +93,6 @@ zeroed w = record {
   stageColumns = replicate (length (w .stageColumns)) 0;
   columns = replicate (length (w .columns)) 0;
   values = replicate (length (w .values)) float0;
-  v = replicate (length (w .v)) float0;
-  product = replicate (length (w .product)) float0;
   grownWords = replicate (length (w .grownWords)) 0;
   start = replicate (length (w .start)) float0;
   evolved = replicate (length (w .evolved)) float0;
@@ -114,10 +108,10 @@ rowPlaces candWords candSums placeOrder placeWork = min (min (candWords / wordLa
 
 -- table 3: the list; the grown basis, and every table with a place for each of its positions, beside count protected words; the entries of
 -- its matrix
-unfoldable pub grownPlaces : (lanes coeffs grownWords start evolved order heads nexts placeOrder v listValues product count : ℕ) → ℕ
-grownPlaces lanes coeffs grownWords start evolved order heads nexts placeOrder v listValues product count =
+unfoldable pub grownPlaces : (lanes coeffs grownWords start evolved order heads nexts placeOrder candSums listValues workSums count : ℕ) → ℕ
+grownPlaces lanes coeffs grownWords start evolved order heads nexts placeOrder candSums listValues workSums count =
     min (min (min (lanes / wordLanes) coeffs) (min (min (grownWords / wordLanes) start) evolved))
-    (min (min (min order (heads - count)) (min (nexts - count) (placeOrder - 1))) (min (min v listValues) product))
+    (min (min (min order (heads - count)) (min (nexts - count) (placeOrder - 1))) (min (min candSums listValues) workSums))
 
 unfoldable pub entryPlaces : (stageRows stageColumns candSums columns values : ℕ) → ℕ
 entryPlaces stageRows stageColumns candSums columns values = min (min (min stageRows stageColumns) candSums) (min columns values)
@@ -127,7 +121,7 @@ placesOf lanes coeffs protected w = record {
   touched = touchedPlaces (length (w .workWords)) (length (w .workSums));
   candidates = rowPlaces (length (w .candWords)) (length (w .candSums)) (length (w .placeOrder)) (length (w .placeWork));
   listed = min (length (w .listWords) / wordLanes) (length (w .listValues));
-  basis = grownPlaces (length lanes) (length coeffs) (length (w .grownWords)) (length (w .start)) (length (w .evolved)) (length (w .order)) (length (w .heads)) (length (w .nexts)) (length (w .placeOrder)) (length (w .v)) (length (w .listValues)) (length (w .product)) (length protected / wordLanes);
+  basis = grownPlaces (length lanes) (length coeffs) (length (w .grownWords)) (length (w .start)) (length (w .evolved)) (length (w .order)) (length (w .heads)) (length (w .nexts)) (length (w .placeOrder)) (length (w .candSums)) (length (w .listValues)) (length (w .workSums)) (length protected / wordLanes);
   entries = entryPlaces (length (w .stageRows)) (length (w .stageColumns)) (length (w .candSums)) (length (w .columns)) (length (w .values));
 }
 
@@ -147,8 +141,8 @@ givenTests m t lanes coeffs len protected l =
 
 -- 9 for the tables whose lengths the input fixes, beside count protected words: as in leakage, then as in evolution, then the copy. An empty basis asks for
 -- no place
-unfoldable pub workTests : (n len count hIndex jIndex mask order heads nexts placeOrder v listValues product grownWords start evolved : ℕ) → Answer
-workTests n len count hIndex jIndex mask order heads nexts placeOrder v listValues product grownWords start evolved =
+unfoldable pub workTests : (n len count hIndex jIndex mask order heads nexts placeOrder candSums listValues workSums grownWords start evolved : ℕ) → Answer
+workTests n len count hIndex jIndex mask order heads nexts placeOrder candSums listValues workSums grownWords start evolved =
     inTurn (
     lent (whereAny len (rowLanes * n)) hIndex
     ∷ lent (whereAny len (rowLanes * n)) jIndex
@@ -157,9 +151,9 @@ workTests n len count hIndex jIndex mask order heads nexts placeOrder v listValu
     ∷ lent (whereAny len (len + count)) heads
     ∷ lent (whereAny len (len + count)) nexts
     ∷ lent (whereAny len (suc len)) placeOrder
-    ∷ lent len v
+    ∷ lent len candSums
     ∷ lent len listValues
-    ∷ lent len product
+    ∷ lent len workSums
     ∷ lent len (grownWords / wordLanes)
     ∷ lent len start
     ∷ lent len evolved
@@ -177,10 +171,10 @@ numberTests n lanes coeffs len protected l dt dropTol =
     ∷ []) (tauTests len l)
 
 -- and 12, over tables of so many places
-unfoldable pub stepTests : Model → ModelTables → List ℕ → List Float → ℕ → List ℕ → Limits → Float → Float → (hIndex jIndex mask order heads nexts placeOrder v listValues product grownWords start evolved : ℕ) → Answer
-stepTests m t lanes coeffs len protected l dt dropTol hIndex jIndex mask order heads nexts placeOrder v listValues product grownWords start evolved =
+unfoldable pub stepTests : Model → ModelTables → List ℕ → List Float → ℕ → List ℕ → Limits → Float → Float → (hIndex jIndex mask order heads nexts placeOrder candSums listValues workSums grownWords start evolved : ℕ) → Answer
+stepTests m t lanes coeffs len protected l dt dropTol hIndex jIndex mask order heads nexts placeOrder candSums listValues workSums grownWords start evolved =
     inTurn (
     andThen (givenTests m t lanes coeffs len protected l)
-    ∷ andThen (workTests (m .qubits) len (length protected / wordLanes) hIndex jIndex mask order heads nexts placeOrder v listValues product grownWords start evolved)
+    ∷ andThen (workTests (m .qubits) len (length protected / wordLanes) hIndex jIndex mask order heads nexts placeOrder candSums listValues workSums grownWords start evolved)
     ∷ andThen (numberTests (m .qubits) lanes coeffs len protected l dt dropTol)
     ∷ []) (distinct (basisOf lanes len))

@@ -86,15 +86,15 @@ fn check_work(
     heads: usize,
     nexts: usize,
     place_order: usize,
-    v: usize,
+    cand_sums: usize,
     list_values: usize,
-    product: usize,
+    work_sums: usize,
     grown_words: usize,
     start: usize,
     evolved: usize,
 ) -> Answer
     requires { ⌜ (n ≤ maxQubits) × (len ≤ maxWords) × (count ≤ maxWords) ⌝ }
-    ensures { λ r. ⌜ r ≡ workTests n len count «h_index» «j_index» mask order heads nexts «place_order» v «list_values» product «grown_words» start evolved ⌝ }
+    ensures { λ r. ⌜ r ≡ workTests n len count «h_index» «j_index» mask order heads nexts «place_order» «cand_sums» «list_values» «work_sums» «grown_words» start evolved ⌝ }
 {
     let rows = where_any(len, ROW_LANES * n);
     let row = where_any(len, ROW_LANES);
@@ -121,14 +121,14 @@ fn check_work(
     if place_order < starts {
         return mismatch(starts, place_order);
     }
-    if v < len {
-        return mismatch(len, v);
+    if cand_sums < len {
+        return mismatch(len, cand_sums);
     }
     if list_values < len {
         return mismatch(len, list_values);
     }
-    if product < len {
-        return mismatch(len, product);
+    if work_sums < len {
+        return mismatch(len, work_sums);
     }
     if grown_words / WORD_LANES < len {
         return mismatch(len, grown_words / WORD_LANES);
@@ -206,14 +206,14 @@ pub fn check_step(
     heads: &mut [u64],
     nexts: &mut [u64],
     place_order: usize,
-    v: usize,
+    cand_sums: usize,
     list_values: usize,
-    product: usize,
+    work_sums: usize,
     grown_words: usize,
     start: usize,
     evolved: usize,
 ) -> Answer
-    ensures { λ r. ⌜ (r ≡ stepTests m (modelTables (now («h_words» .entry)) (now («h_coeffs» .entry)) (now (jumps .entry)) (now (rates .entry)) (now («t_words» .entry)) (now («t_numbers» .entry))) (now (words .entry)) (now (coeffs .entry)) len (now (protected .entry)) limits dt «drop_tol» «h_index» «j_index» mask order (length (now (heads .entry))) (length (now (nexts .entry))) «place_order» v «list_values» product «grown_words» start evolved) × Untouched r (now (heads .entry)) (now (nexts .entry)) (now (heads .exit)) (now (nexts .exit)) ⌝ }
+    ensures { λ r. ⌜ (r ≡ stepTests m (modelTables (now («h_words» .entry)) (now («h_coeffs» .entry)) (now (jumps .entry)) (now (rates .entry)) (now («t_words» .entry)) (now («t_numbers» .entry))) (now (words .entry)) (now (coeffs .entry)) len (now (protected .entry)) limits dt «drop_tol» «h_index» «j_index» mask order (length (now (heads .entry))) (length (now (nexts .entry))) «place_order» «cand_sums» «list_values» «work_sums» «grown_words» start evolved) × Untouched r (now (heads .entry)) (now (nexts .entry)) (now (heads .exit)) (now (nexts .exit)) ⌝ }
 {
     let given = check_given(
         m,
@@ -244,9 +244,9 @@ pub fn check_step(
         heads.len(),
         nexts.len(),
         place_order,
-        v,
+        cand_sums,
         list_values,
-        product,
+        work_sums,
         grown_words,
         start,
         evolved,

@@ -180,18 +180,14 @@ pub fn clear_rest(
     stage_columns: &mut [u32],
     columns: &mut [u32],
     values: &mut [f64],
-    v: &mut [f64],
-    product: &mut [f64],
     grown_words: &mut [u64],
     start: &mut [f64],
     evolved: &mut [f64],
 )
-    ensures { λ _. ⌜ (now («stage_rows» .exit) ≡ replicate (length (now («stage_rows» .entry))) 0) × (now («stage_columns» .exit) ≡ replicate (length (now («stage_columns» .entry))) 0) × (now (columns .exit) ≡ replicate (length (now (columns .entry))) 0) × (now (values .exit) ≡ replicate (length (now (values .entry))) float0) × (now (v .exit) ≡ replicate (length (now (v .entry))) float0) × (now (product .exit) ≡ replicate (length (now (product .entry))) float0) × (now («grown_words» .exit) ≡ replicate (length (now («grown_words» .entry))) 0) × (now (start .exit) ≡ replicate (length (now (start .entry))) float0) × (now (evolved .exit) ≡ replicate (length (now (evolved .entry))) float0) ⌝ }
+    ensures { λ _. ⌜ (now («stage_rows» .exit) ≡ replicate (length (now («stage_rows» .entry))) 0) × (now («stage_columns» .exit) ≡ replicate (length (now («stage_columns» .entry))) 0) × (now (columns .exit) ≡ replicate (length (now (columns .entry))) 0) × (now (values .exit) ≡ replicate (length (now (values .entry))) float0) × (now («grown_words» .exit) ≡ replicate (length (now («grown_words» .entry))) 0) × (now (start .exit) ≡ replicate (length (now (start .entry))) float0) × (now (evolved .exit) ≡ replicate (length (now (evolved .entry))) float0) ⌝ }
 {
     clear_entries(stage_rows, stage_columns, values);
     clear_places(columns);
-    clear_numbers(v);
-    clear_numbers(product);
     clear_lanes(grown_words);
     clear_numbers(start);
     clear_numbers(evolved);

@@ -19,18 +19,18 @@ pub fn grown_places(
     heads: usize,
     nexts: usize,
     place_order: usize,
-    v: usize,
+    cand_sums: usize,
     list_values: usize,
-    product: usize,
+    work_sums: usize,
     count: usize,
 ) -> usize
-    ensures { λ r. ⌜ r ≡ grownPlaces words coeffs «grown_words» start evolved order heads nexts «place_order» v «list_values» product count ⌝ }
+    ensures { λ r. ⌜ r ≡ grownPlaces words coeffs «grown_words» start evolved order heads nexts «place_order» «cand_sums» «list_values» «work_sums» count ⌝ }
 {
     let lent = smaller(words / WORD_LANES, coeffs);
     let copied = smaller(smaller(grown_words / WORD_LANES, start), evolved);
     let slots = smaller(order, room_left(heads, count));
     let rows = smaller(room_left(nexts, count), room_left(place_order, 1));
-    let numbers = smaller(smaller(v, list_values), product);
+    let numbers = smaller(smaller(cand_sums, list_values), work_sums);
     smaller(
         smaller(lent, copied),
         smaller(smaller(slots, rows), numbers),

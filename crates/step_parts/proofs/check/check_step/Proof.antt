@@ -21,7 +21,7 @@ returns : tie.Need-returns
 returns c =
     let a = c .before .before .before .before .before .before .before .before .before .before .before .before .before .before .args in
     let t : ModelTables = modelTables (a .h-words .now) (a .h-coeffs .now) (a .jumps .now) (a .rates .now) (a .t-words .now) (a .t-numbers .now) in
-    (given-refused (a .m) t (a .words .now) (a .coeffs .now) (a .len) (a .protected .now) (a .limits) (a .dt) (a .drop-tol) (a .h-index) (a .j-index) (a .mask) (a .order) (length (a .heads .now)) (length (a .nexts .now)) (a .place-order) (a .v) (a .list-values) (a .product) (a .grown-words) (a .start) (a .evolved) _ _ (c .before .before .check-given .ensures) (c .enum-told2 .given .1), λ q e. (refl, refl))
+    (given-refused (a .m) t (a .words .now) (a .coeffs .now) (a .len) (a .protected .now) (a .limits) (a .dt) (a .drop-tol) (a .h-index) (a .j-index) (a .mask) (a .order) (length (a .heads .now)) (length (a .nexts .now)) (a .place-order) (a .cand-sums) (a .list-values) (a .work-sums) (a .grown-words) (a .start) (a .evolved) _ _ (c .before .before .check-given .ensures) (c .enum-told2 .given .1), λ q e. (refl, refl))
 
 check-work-requires : tie.Need-check-work-requires
 check-work-requires c κs =
@@ -34,7 +34,7 @@ returns-2 : tie.Need-returns-2
 returns-2 c =
     let a = c .before .before .before .before .before .before .before .before .before .before .before .before .before .before .before .before .before .args in
     let t : ModelTables = modelTables (a .h-words .now) (a .h-coeffs .now) (a .jumps .now) (a .rates .now) (a .t-words .now) (a .t-numbers .now) in
-    (work-refused (a .m) t (a .words .now) (a .coeffs .now) (a .len) (a .protected .now) (a .limits) (a .dt) (a .drop-tol) (a .h-index) (a .j-index) (a .mask) (a .order) (length (a .heads .now)) (length (a .nexts .now)) (a .place-order) (a .v) (a .list-values) (a .product) (a .grown-words) (a .start) (a .evolved) (sym (c .before .before .before .before .before .check-given .ensures) ∙ c .before .before .before .enum-told .given .1) _ _ (c .before .before .check-work .ensures) (c .enum-told4 .given .1), λ q e. (refl, refl))
+    (work-refused (a .m) t (a .words .now) (a .coeffs .now) (a .len) (a .protected .now) (a .limits) (a .dt) (a .drop-tol) (a .h-index) (a .j-index) (a .mask) (a .order) (length (a .heads .now)) (length (a .nexts .now)) (a .place-order) (a .cand-sums) (a .list-values) (a .work-sums) (a .grown-words) (a .start) (a .evolved) (sym (c .before .before .before .before .before .check-given .ensures) ∙ c .before .before .before .enum-told .given .1) _ _ (c .before .before .check-work .ensures) (c .enum-told4 .given .1), λ q e. (refl, refl))
 
 check-numbers-requires : tie.Need-check-numbers-requires
 check-numbers-requires c κs =
@@ -47,7 +47,7 @@ returns-3 : tie.Need-returns-3
 returns-3 c =
     let a = c .before .before .before .before .before .before .before .before .before .before .before .before .before .before .before .before .before .before .before .before .args in
     let t : ModelTables = modelTables (a .h-words .now) (a .h-coeffs .now) (a .jumps .now) (a .rates .now) (a .t-words .now) (a .t-numbers .now) in
-    (numbers-refused (a .m) t (a .words .now) (a .coeffs .now) (a .len) (a .protected .now) (a .limits) (a .dt) (a .drop-tol) (a .h-index) (a .j-index) (a .mask) (a .order) (length (a .heads .now)) (length (a .nexts .now)) (a .place-order) (a .v) (a .list-values) (a .product) (a .grown-words) (a .start) (a .evolved) (sym (c .before .before .before .before .before .before .before .before .check-given .ensures) ∙ c .before .before .before .before .before .before .enum-told .given .1) (sym (c .before .before .before .before .before .check-work .ensures) ∙ c .before .before .before .enum-told3 .given .1) _ _ (c .before .before .check-numbers .ensures) (c .enum-told6 .given .1), λ q e. (refl, refl))
+    (numbers-refused (a .m) t (a .words .now) (a .coeffs .now) (a .len) (a .protected .now) (a .limits) (a .dt) (a .drop-tol) (a .h-index) (a .j-index) (a .mask) (a .order) (length (a .heads .now)) (length (a .nexts .now)) (a .place-order) (a .cand-sums) (a .list-values) (a .work-sums) (a .grown-words) (a .start) (a .evolved) (sym (c .before .before .before .before .before .before .before .before .check-given .ensures) ∙ c .before .before .before .before .before .before .enum-told .given .1) (sym (c .before .before .before .before .before .check-work .ensures) ∙ c .before .before .before .enum-told3 .given .1) _ _ (c .before .before .check-numbers .ensures) (c .enum-told6 .given .1), λ q e. (refl, refl))
 
 mul-check-distinct : tie.Need-mul-check-distinct
 mul-check-distinct c =
@@ -69,7 +69,7 @@ check-distinct-requires c κs =
     let a = c .before .before .before .before .before .before .before .before .before .before .before .before .before .before .before .before .before .before .before .before .before .before .before .args in
     let t : ModelTables = modelTables (a .h-words .now) (a .h-coeffs .now) (a .jumps .now) (a .rates .now) (a .t-words .now) (a .t-numbers .now) in
     let p = given-passed (a .m) t (a .words .now) (a .coeffs .now) (a .len) (a .protected .now) (a .limits) (sym (c .before .before .before .before .before .before .before .before .before .before .before .check-given .ensures) ∙ c .before .before .before .before .before .before .before .before .before .enum-told .given .1) in
-    let q = slots-passed (a .m .qubits) (a .len) (length (a .protected .now) / wordLanes) (a .h-index) (a .j-index) (a .mask) (a .order) (length (a .heads .now)) (length (a .nexts .now)) (a .place-order) (a .v) (a .list-values) (a .product) (a .grown-words) (a .start) (a .evolved) (work-passed (a .m .qubits) (a .len) (length (a .protected .now) / wordLanes) (a .h-index) (a .j-index) (a .mask) (a .order) (length (a .heads .now)) (length (a .nexts .now)) (a .place-order) (a .v) (a .list-values) (a .product) (a .grown-words) (a .start) (a .evolved) (sym (c .before .before .before .before .before .before .before .before .check-work .ensures) ∙ c .before .before .before .before .before .before .enum-told3 .given .1)) in
+    let q = slots-passed (a .m .qubits) (a .len) (length (a .protected .now) / wordLanes) (a .h-index) (a .j-index) (a .mask) (a .order) (length (a .heads .now)) (length (a .nexts .now)) (a .place-order) (a .cand-sums) (a .list-values) (a .work-sums) (a .grown-words) (a .start) (a .evolved) (work-passed (a .m .qubits) (a .len) (length (a .protected .now) / wordLanes) (a .h-index) (a .j-index) (a .mask) (a .order) (length (a .heads .now)) (length (a .nexts .now)) (a .place-order) (a .cand-sums) (a .list-values) (a .work-sums) (a .grown-words) (a .start) (a .evolved) (sym (c .before .before .before .before .before .before .before .before .check-work .ensures) ∙ c .before .before .before .before .before .before .enum-told3 .given .1)) in
     (length-take-le (a .len * wordLanes) (a .words .now) (omega (arith, p .words-long)), q .0, q .1)
 
 same-length : tie.Need-same-length
@@ -84,7 +84,7 @@ returns-4 c =
     let t : ModelTables = modelTables (a .h-words .now) (a .h-coeffs .now) (a .jumps .now) (a .rates .now) (a .t-words .now) (a .t-numbers .now) in
     let e : a .len * wordLanes ≡ wordLanes * a .len = omega arith in
     let d = c .before .before .before .before .check-distinct .ensures in
-    (all-tested (a .m) t (a .words .now) (a .coeffs .now) (a .len) (a .protected .now) (a .limits) (a .dt) (a .drop-tol) (a .h-index) (a .j-index) (a .mask) (a .order) (length (a .heads .now)) (length (a .nexts .now)) (a .place-order) (a .v) (a .list-values) (a .product) (a .grown-words) (a .start) (a .evolved) (sym (c .before .before .before .before .before .before .before .before .before .before .before .before .before .before .before .before .check-given .ensures) ∙ c .before .before .before .before .before .before .before .before .before .before .before .before .before .before .enum-told .given .1) (sym (c .before .before .before .before .before .before .before .before .before .before .before .before .before .check-work .ensures) ∙ c .before .before .before .before .before .before .before .before .before .before .before .enum-told3 .given .1) (sym (c .before .before .before .before .before .before .before .before .before .before .check-numbers .ensures) ∙ c .before .before .before .before .before .before .before .before .enum-told5 .given .1) _ (ap (λ (k : ℕ). wordsIn (take k (a .words .now))) e ∙ words-take (a .len) (a .words .now)) _ (d .0), d .1)
+    (all-tested (a .m) t (a .words .now) (a .coeffs .now) (a .len) (a .protected .now) (a .limits) (a .dt) (a .drop-tol) (a .h-index) (a .j-index) (a .mask) (a .order) (length (a .heads .now)) (length (a .nexts .now)) (a .place-order) (a .cand-sums) (a .list-values) (a .work-sums) (a .grown-words) (a .start) (a .evolved) (sym (c .before .before .before .before .before .before .before .before .before .before .before .before .before .before .before .before .check-given .ensures) ∙ c .before .before .before .before .before .before .before .before .before .before .before .before .before .before .enum-told .given .1) (sym (c .before .before .before .before .before .before .before .before .before .before .before .before .before .check-work .ensures) ∙ c .before .before .before .before .before .before .before .before .before .before .before .enum-told3 .given .1) (sym (c .before .before .before .before .before .before .before .before .before .before .check-numbers .ensures) ∙ c .before .before .before .before .before .before .before .before .enum-told5 .given .1) _ (ap (λ (k : ℕ). wordsIn (take k (a .words .now))) e ∙ words-take (a .len) (a .words .now)) _ (d .0), d .1)
 
 pub check-step-spec : {M : Type 1} → statement M
 check-step-spec =

@@ -16,7 +16,7 @@ returns c =
     let copied = c .before .before .before .before .before .before .before .before .before .before .before .smaller3 .ensures ∙ ap (λ (k : ℕ). min k (a .evolved)) (c .before .before .before .before .before .before .before .before .before .before .before .before .smaller2 .ensures) in
     let slots = c .before .before .before .before .before .before .before .before .before .smaller4 .ensures ∙ ap (min (a .order)) (c .before .before .before .before .before .before .before .before .before .before .room-left .ensures) in
     let rows = c .before .before .before .before .before .before .smaller5 .ensures ∙ ap₂ min (c .before .before .before .before .before .before .before .before .room-left2 .ensures) (c .before .before .before .before .before .before .before .room-left3 .ensures) in
-    let numbers = c .before .before .before .before .smaller7 .ensures ∙ ap (λ (k : ℕ). min k (a .product)) (c .before .before .before .before .before .smaller6 .ensures) in
+    let numbers = c .before .before .before .before .smaller7 .ensures ∙ ap (λ (k : ℕ). min k (a .work-sums)) (c .before .before .before .before .before .smaller6 .ensures) in
     c .smaller11 .ensures
     ∙ ap₂ min (c .before .before .before .smaller8 .ensures ∙ ap₂ min (c .before .before .before .before .before .before .before .before .before .before .before .before .before .smaller .ensures) copied) (c .before .smaller10 .ensures ∙ ap₂ min (c .before .before .smaller9 .ensures ∙ ap₂ min slots rows) numbers)
 
