@@ -80,7 +80,7 @@ fn evolve_built(
 }
 
 // The same, with zero in the tables of the matrix afterwards.
-fn evolve_and_clear(
+pub fn evolve_and_clear(
     built: Built,
     len: usize,
     offsets: &mut [u64],

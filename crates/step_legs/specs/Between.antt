@@ -4,7 +4,9 @@
 -- Contracts between functions: what the parts of a leg leave.
 use Prim.Native.Nat.{ℕ, _*_}
 use mathlib.Core.Path.{_≡_}
+use mathlib.Core.Bool.{Bool, true, not, _&&_}
 use mathlib.Core.List.{List, _++_}
+use lib.Dec.{eqb}
 use lib.Ieee.{Float}
 use lib.ListN.{take, drop}
 use Rattle.refusal.specs.declared.Refusal.{Refusal}
@@ -46,3 +48,8 @@ pub record Enters (leaked : Acted) (n limit places len : ℕ) (candWords placeOr
 abbrev pub stepFrom : ℕ → Evolved → Step
 stepFrom entries (Evolutions.Products k) = Steps.Taken entries k
 stepFrom entries (Evolutions.Refused q) = Steps.Refused q
+
+-- what follows a hop that was refused, or that no word entered and that is to be all: nothing
+pub record Follows (hopped : Kept) (always : Bool) (len : ℕ) (r : Step) (evolved evolved′ : List Float) : Type 0 where
+  pub turned : (q : Refusal) → hopped ≡ Kepts.Refused q → (r ≡ Steps.Refused q) × (evolved′ ≡ evolved)
+  pub stays : (k : ℕ) → hopped ≡ Kepts.Entries k → (not always && eqb k len) ≡ true → (r ≡ Steps.Taken k 0) × (evolved′ ≡ evolved)
