@@ -3,6 +3,7 @@
 
 // The tests of a predictor-corrector step, the copy of the basis on which it works, and its end: what is kept of the
 // copy, handed over.
+pub mod begin;
 pub mod check;
 pub mod copy;
 pub mod finish;
