@@ -75,6 +75,13 @@ module _ (m : Model) (t : ModelTables) (lanes : List ℕ) (coeffs : List Float) 
         apart = d .1;
       }
 
+  -- the given basis, and the tables for its copy, are long enough
+  pub copy-ready : stepTests m t lanes coeffs len protected l dt dropTol hIndex jIndex mask order heads nexts placeOrder candSums listValues workSums grownWords start evolved ≡ Accepted
+      → (wordLanes * len ≤ length lanes) × (len ≤ length coeffs) × (wordLanes * len ≤ grownWords) × (len ≤ start) × (len ≤ evolved)
+  copy-ready e =
+      let p = step-passed e in
+      (p .given .words-long, p .given .coeffs-long, p .work .grown-long, p .work .start-long, p .work .evolved-long)
+
 -- ---- what is given
 module _ (m : Model) (t : ModelTables) (lanes : List ℕ) (coeffs : List Float) (len : ℕ) (protected : List ℕ) (l : Limits) (dt dropTol : Float)
     (g : GivenPassed m t lanes coeffs len protected l) (s : NumbersPassed (m .qubits) lanes coeffs len protected l dt dropTol) where

@@ -6,11 +6,11 @@ ghost use mathlib.Core.Path.{_≡_};
 ghost use mathlib.Core.List.{_++_};
 ghost use Prim.Native.Nat.{_*_, _≤_};
 ghost use lib.ListN.{length, take, drop};
-ghost use Rattle.word.specs.Flat.{wordLanes};
+ghost use Rattle.word.specs.Flat.{wordLanes, words as wordsIn};
 use word::flat::WORD_LANES;
 
 // The first n lanes of a table over those of another.
-pub fn copy_lanes(from: &[u64], n: usize, to: &mut [u64])
+fn copy_lanes(from: &[u64], n: usize, to: &mut [u64])
     requires { ⌜ (n ≤ length (now from)) × (n ≤ length (now to)) ⌝ }
     ensures { λ _. ⌜ now (to .exit) ≡ take n (now (from .entry)) ++ drop n (now (to .entry)) ⌝ }
 {
@@ -21,7 +21,7 @@ pub fn copy_lanes(from: &[u64], n: usize, to: &mut [u64])
     }
 }
 
-pub fn copy_first(from: &[f64], n: usize, to: &mut [f64])
+fn copy_first(from: &[f64], n: usize, to: &mut [f64])
     requires { ⌜ (n ≤ length (now from)) × (n ≤ length (now to)) ⌝ }
     ensures { λ _. ⌜ now (to .exit) ≡ take n (now (from .entry)) ++ drop n (now (to .entry)) ⌝ }
 {
@@ -45,4 +45,20 @@ pub fn copy_basis(
 {
     copy_lanes(words, WORD_LANES * len, to_words);
     copy_first(coeffs, len, to_coeffs);
+}
+
+// The given basis copied: its words, the numbers that evolutions start from, and those that it has.
+pub fn copy_given(
+    words: &[u64],
+    coeffs: &[f64],
+    len: usize,
+    grown_words: &mut [u64],
+    start: &mut [f64],
+    evolved: &mut [f64],
+)
+    requires { ⌜ (wordLanes * len ≤ length (now words)) × (len ≤ length (now coeffs)) × (wordLanes * len ≤ length (now «grown_words»)) × (len ≤ length (now start)) × (len ≤ length (now evolved)) ⌝ }
+    ensures { λ _. ⌜ (take len (wordsIn (now («grown_words» .exit))) ≡ take len (wordsIn (now (words .entry)))) × (take len (now (start .exit)) ≡ take len (now (coeffs .entry))) × (take len (now (evolved .exit)) ≡ take len (now (coeffs .entry))) ⌝ }
+{
+    copy_basis(words, coeffs, len, grown_words, start);
+    copy_first(coeffs, len, evolved);
 }

@@ -130,7 +130,7 @@ fn finish(
 }
 
 // The end of a course: its refusal, with nothing handed over, or what is kept of the basis that it left.
-pub fn end_course(
+fn end_course(
     taken: Step,
     n: usize,
     protected: &[u64],
@@ -175,7 +175,7 @@ pub fn end_course(
 }
 
 // The tables of an evolution that no hop uses, and the copy, set to 0.
-pub fn clear_rest(
+fn clear_rest(
     stage_rows: &mut [u32],
     stage_columns: &mut [u32],
     columns: &mut [u32],
@@ -191,4 +191,55 @@ pub fn clear_rest(
     clear_lanes(grown_words);
     clear_numbers(start);
     clear_numbers(evolved);
+}
+
+// A course ended, and every table of the step left zero.
+pub fn end_step(
+    taken: Step,
+    n: usize,
+    protected: &[u64],
+    drop_tol: f64,
+    max_basis: usize,
+    words: &mut [u64],
+    coeffs: &mut [f64],
+    grown_words: &mut [u64],
+    start: &mut [f64],
+    evolved: &mut [f64],
+    order: &mut [u64],
+    heads: &mut [u64],
+    nexts: &mut [u64],
+    place_order: &mut [u64],
+    stage_rows: &mut [u32],
+    stage_columns: &mut [u32],
+    columns: &mut [u32],
+    values: &mut [f64],
+) -> Step
+    requires { ⌜ (((k products : ℕ) → taken ≡ Taken k products → EndReady n (now protected) «drop_tol» «max_basis» k (now «grown_words») (now evolved) (now order) (now heads) (now nexts) (now «place_order») × (wordLanes * k ≤ length (now words)) × (k ≤ length (now coeffs)))) × (now order ≡ replicate (length (now order)) 0) × (now heads ≡ replicate (length (now heads)) 0) × (now nexts ≡ replicate (length (now nexts)) 0) × (now «place_order» ≡ replicate (length (now «place_order»)) 0) ⌝ }
+    ensures { λ r. ⌜ ((course : Read Stepped) → Told course taken (now («grown_words» .entry)) (now (evolved .entry)) → record { answer = r; lanes = now (words .exit); coeffs = now (coeffs .exit) } ≡ ending (wordsIn (now (protected .entry))) «drop_tol» «max_basis» (now (words .entry)) (now (coeffs .entry)) course) × (now (order .exit) ≡ replicate (length (now (order .entry))) 0) × (now (heads .exit) ≡ replicate (length (now (heads .entry))) 0) × (now (nexts .exit) ≡ replicate (length (now (nexts .entry))) 0) × (now («place_order» .exit) ≡ replicate (length (now («place_order» .entry))) 0) × (now («stage_rows» .exit) ≡ replicate (length (now («stage_rows» .entry))) 0) × (now («stage_columns» .exit) ≡ replicate (length (now («stage_columns» .entry))) 0) × (now (columns .exit) ≡ replicate (length (now (columns .entry))) 0) × (now (values .exit) ≡ replicate (length (now (values .entry))) float0) × (now («grown_words» .exit) ≡ replicate (length (now («grown_words» .entry))) 0) × (now (start .exit) ≡ replicate (length (now (start .entry))) float0) × (now (evolved .exit) ≡ replicate (length (now (evolved .entry))) float0) ⌝ }
+{
+    let ended = end_course(
+        taken,
+        n,
+        protected,
+        drop_tol,
+        max_basis,
+        words,
+        coeffs,
+        grown_words,
+        evolved,
+        order,
+        heads,
+        nexts,
+        place_order,
+    );
+    clear_rest(
+        stage_rows,
+        stage_columns,
+        columns,
+        values,
+        grown_words,
+        start,
+        evolved,
+    );
+    ended
 }
