@@ -3,5 +3,6 @@
 
 -- Laws of the legs of a step.
 pub mod EvolveLaws
+pub mod FollowLaws
 pub mod EnterLaws
 pub mod HopLaws

@@ -25,8 +25,6 @@ use Rattle.lent.specs.Words.{maxWords}
 use Rattle.limits.specs.Defaults.{limitTests, tauTests}
 use Rattle.limits.specs.declared.Limits.{Limits}
 use Rattle.action.specs.Counts.{rowLanes}
-use Rattle.taylor.specs.declared.evolve.Evolved.{Evolved}
-use Rattle.taylor.specs.declared.evolve.Evolved.the-variants as Evolutions
 use Rattle.truncate.specs.declared.kept.Kept.{Kept}
 use Rattle.truncate.specs.declared.kept.Kept.the-variants as Kepts
 use Rattle.step_laws.specs.Steps.{Places, Outcome, Stepped, withZeros}
@@ -205,11 +203,7 @@ pub record Outcomes (plain : Read Outcome) (len k : ℕ) (evolved′ : List Floa
   pub few : k ≤ maxProducts
   pub finite : AreFinite (take len evolved′)
 
-pub record Evolves (plain : Read Outcome) (len : ℕ) (r : Evolved) (evolved′ : List Float) : Type 0 where
-  pub evolves : (k : ℕ) → r ≡ Evolutions.Products k → Outcomes plain len k evolved′
-  pub stops : (q : Refusal) → r ≡ Evolutions.Refused q → plain ≡ refused q
-
--- the same, told as a step over so many words
+-- what is told of an evolution as a step over so many words
 pub record EvolvesTo (plain : Read Outcome) (len : ℕ) (r : Step) (evolved′ : List Float) : Type 0 where
   pub taken : (k products : ℕ) → r ≡ Steps.Taken k products → (k ≡ len) × Outcomes plain len products evolved′
   pub stops : (q : Refusal) → r ≡ Steps.Refused q → plain ≡ refused q
