@@ -5,7 +5,7 @@
 use mathlib.Core.Path.{_≡_, refl, sym, ap, ap₂, subst, _∙_}
 use mathlib.Core.Bool.{Bool, true, false, cond}
 use mathlib.Core.List.{List, [], _++_}
-use Prim.Native.Nat.{ℕ, _+_, _≤_, _<_}
+use Prim.Native.Nat.{ℕ, _+_, _*_, _≤_, _<_}
 use native.Mathlib.Omega.{arith}
 use borrow.Author.Tests.{lt-ltb, le-ltb}
 use lib.Dec.{eqb, ltb}
@@ -17,30 +17,30 @@ use Rattle.word.specs.Flat.{words, wordLanes}
 use Rattle.word.specs.declared.word.Word.{Word}
 use Rattle.word.proofs.FlatLaws.{words-high}
 use Rattle.lent.specs.Read.{Read, got, refused, onward}
+use Rattle.limits.specs.Defaults.{limitOf}
 use Rattle.step_laws.specs.Steps.{Outcome, Stepped, withZeros, secondHop, corrector, predictor, courseBy}
 use Rattle.step_laws.proofs.CourseLaws.{no-value, same-value, through}
 use Rattle.step_laws.proofs.GrownLaws.{zeros-again}
 use Rattle.step_parts.specs.Lent.{Work}
-use Rattle.step_parts.specs.Between.{Holds, Told, legBy, Ended, Ends, grown}
+use Rattle.step_parts.specs.Between.{sharedOf, none, Holds, legBy, Ended, Ends, grown}
 use Rattle.step_parts.specs.declared.taken.Step.{Step}
 use Rattle.step_parts.specs.declared.taken.Step.the-variants.{Taken, Refused}
-use Rattle.step.specs.Between.{Courses}
+use Rattle.step.specs.Between.{Start, grownTo, givenWords, givenNumbers, entering, evolving, firstLeg, course, Courses, productsIn, addedTo}
 
 -- ---- over plain lists
 module _ (entering : List Word → List Float → Read (List Word)) (evolving : List Word → List Float → Read Outcome) (limit : ℕ) (ws : List Word) (cs : List Float) where
   abbrev first : Read Stepped
   first = legBy entering evolving true ws cs cs
 
-  abbrev course : Read Stepped
-  course = courseBy entering evolving limit ws cs
+  abbrev whole : Read Stepped
+  whole = courseBy entering evolving limit ws cs
 
-  course-stops : (q : Refusal) → first ≡ refused q → course ≡ refused q
-  unfolding legBy courseBy
+  course-stops : (q : Refusal) → first ≡ refused q → whole ≡ refused q
+  unfolding legBy courseBy predictor
   course-stops q e = hops (entering ws cs) refl e
     where
       evolves : (us : List Word) (r : Read Outcome) → evolving (ws ++ us) (withZeros cs (ws ++ us)) ≡ r
           → onward r (λ o. got (record { words = ws ++ us; numbers = o .numbers; products = o .products })) ≡ refused q → predictor entering evolving limit cs (ws ++ us) ≡ refused q
-      unfolding predictor
       evolves us (got o) i f = absurd (no-value q _ (sym f))
       evolves us (refused p) i f = rw i f
 
@@ -92,7 +92,7 @@ module _ (entering : List Word → List Float → Read (List Word)) (evolving : 
       room true = hops (entering vs (o .numbers))
       room false = refl
 
-  course-goes : length cs ≤ length ws → (s : Stepped) → first ≡ got s → course ≡ rest s
+  course-goes : length cs ≤ length ws → (s : Stepped) → first ≡ got s → whole ≡ rest s
   unfolding legBy courseBy predictor
   course-goes long s e =
       let a = through (entering ws cs) (λ (us : List Word). onward (evolving (ws ++ us) (withZeros cs (ws ++ us))) (λ o. got (record { words = ws ++ us; numbers = o .numbers; products = o .products }))) s e in
@@ -100,95 +100,78 @@ module _ (entering : List Word → List Float → Read (List Word)) (evolving : 
       rw (a .before, b .before) (predicted long (a .value) (b .value) ∙ ap rest (same-value _ s (b .behind)))
 
 -- ---- over tables
-taken-not : (q : Refusal) (k products : ℕ) → Refused q ≡ Taken k products → ⊥
+pub taken-not : (q : Refusal) (k products : ℕ) → Refused q ≡ Taken k products → ⊥
 taken-not q k products e = let z : _≡_ {A = ℕ} 0 1 = cc in omega arith
 
-same-taken : (j k a b : ℕ) → Taken j a ≡ Taken k b → (j ≡ k) × (a ≡ b)
+pub same-taken : (j k a b : ℕ) → Taken j a ≡ Taken k b → (j ≡ k) × (a ≡ b)
 same-taken j k a b e = (cc, cc)
 
-module _ (plain : Read Stepped) (n places len : ℕ) (w′ : Work) where
+module _ (s : Start) (w′ : Work) (clear : sharedOf w′ ≡ none (sharedOf (s .work))) where
   -- a refusal of a leg is that of the course
-  stopped : (r : Step) (q : Refusal) → r ≡ Refused q → ((p : Refusal) → r ≡ Refused p → plain ≡ refused p) → Courses plain n places len r w′
+  stopped : (r : Step) (q : Refusal) → r ≡ Refused q → ((p : Refusal) → r ≡ Refused p → course s ≡ refused p) → Courses s r w′
   stopped r q e f = record {
     told = record { taken = λ k products i. absurd (taken-not q k products (sym e ∙ i)); stops = f };
     holds = λ k products i. absurd (taken-not q k products (sym e ∙ i));
+    clear = clear;
   }
 
   -- what a leg left is what the course leaves
-  ended : (k products : ℕ) → plain ≡ got (grown k (w′ .grownWords) (w′ .evolved) products) → Holds n places k (w′ .grownWords) (w′ .start) (w′ .evolved) → (0 < k → 0 < len) → Courses plain n places len (Taken k products) w′
+  ended : (k products : ℕ) → course s ≡ got (grown k (w′ .grownWords) (w′ .evolved) products) → Holds (s .model .qubits) (grownTo s) k (w′ .grownWords) (w′ .start) (w′ .evolved) → (0 < k → 0 < s .len) → Courses s (Taken k products) w′
   ended k products is h any = record {
     told = record {
       taken = λ j more e.
-          let s = same-taken k j products more e in
-          is ∙ ap₂ (λ (i : ℕ) (p : ℕ). got (grown i (w′ .grownWords) (w′ .evolved) p)) (s .0) (s .1);
+          let t = same-taken k j products more e in
+          is ∙ ap₂ (λ (i : ℕ) (p : ℕ). got (grown i (w′ .grownWords) (w′ .evolved) p)) (t .0) (t .1);
       stops = λ q e. absurd (taken-not q k products (sym e));
     };
     holds = λ j more e.
-        let s = same-taken k j products more e in
-        subst (λ (i : ℕ). Holds n places i (w′ .grownWords) (w′ .start) (w′ .evolved) × (0 < i → 0 < len)) (s .0) (h, any);
+        let t = same-taken k j products more e in
+        subst (λ (i : ℕ). Holds (s .model .qubits) (grownTo s) i (w′ .grownWords) (w′ .start) (w′ .evolved) × (0 < i → 0 < s .len)) (t .0) (h, any);
+    clear = clear;
   }
 
-module _ (entering : List Word → List Float → Read (List Word)) (evolving : List Word → List Float → Read Outcome) (limit n places len : ℕ) (w : Work) (same : take len (w .start) ≡ take len (w .evolved))
-    (words-long : wordLanes * len ≤ length (w .grownWords)) (start-long : len ≤ length (w .start)) (w₁ : Work) (r₁ : Step) where
-  abbrev ws : List Word
-  ws = take len (words (w .grownWords))
+module _ (s : Start) (each : length (givenNumbers s) ≤ length (givenWords s)) (w₁ : Work) (r₁ : Step) (l : Ends (firstLeg s) (s .model .qubits) (grownTo s) (s .len) (givenNumbers s) r₁ w₁) where
+  pub course-refused : sharedOf w₁ ≡ none (sharedOf (s .work)) → (q : Refusal) → r₁ ≡ Refused q → Courses s r₁ w₁
+  course-refused clear q e = stopped s w₁ clear r₁ q e (λ p i. course-stops (entering s) (evolving s) (limitOf (s .limits)) (givenWords s) (givenNumbers s) p (l .stops p i))
 
-  abbrev cs : List Float
-  cs = take len (w .start)
+  module _ (k products : ℕ) (told : r₁ ≡ Taken k products) (long : wordLanes * k ≤ length (w₁ .grownWords)) where
+    h : Ended (firstLeg s) (s .model .qubits) (grownTo s) (s .len) k products (givenNumbers s) w₁
+    h = l .ended k products told
 
-  abbrev plain : Read Stepped
-  plain = courseBy entering evolving limit ws (take len (w .evolved))
+    abbrev now : Stepped
+    now = grown k (w₁ .grownWords) (w₁ .evolved) products
 
-  module _ (l : Ends (legBy entering evolving true ws cs (take len (w .evolved))) n places len cs r₁ w₁) where
-    plain-is : plain ≡ courseBy entering evolving limit ws cs
-    plain-is = ap (courseBy entering evolving limit ws) (sym same)
+    abbrev again : Read Stepped
+    again = onward (second (entering s) (evolving s) (limitOf (s .limits)) (givenWords s) (givenNumbers s) now) (λ r. got (both (entering s) (evolving s) (limitOf (s .limits)) (givenWords s) (givenNumbers s) products r))
 
-    leg-is : legBy entering evolving true ws cs (take len (w .evolved)) ≡ legBy entering evolving true ws cs cs
-    leg-is = ap (legBy entering evolving true ws cs) (sym same)
+    course-rest : course s ≡ rest (entering s) (evolving s) (limitOf (s .limits)) (givenWords s) (givenNumbers s) now
+    course-rest = course-goes (entering s) (evolving s) (limitOf (s .limits)) (givenWords s) (givenNumbers s) each now (h .is)
 
-    each : length cs ≤ length ws
-    each = omega (arith, length-take-le len (w .start) start-long, length-take-le len (words (w .grownWords)) (omega (arith, words-long, words-high (w .grownWords))))
+    words-count : length (take k (words (w₁ .grownWords))) ≡ k
+    words-count = length-take-le k (words (w₁ .grownWords)) (omega (arith, long, words-high (w₁ .grownWords)))
 
-    pub course-refused : (q : Refusal) → r₁ ≡ Refused q → Courses plain n places len r₁ w₁
-    course-refused q e = stopped plain n places len w₁ r₁ q e (λ p i. plain-is ∙ course-stops entering evolving limit ws cs p (sym leg-is ∙ l .stops p i))
+    -- no room for a second hop
+    pub course-full : sharedOf w₁ ≡ none (sharedOf (s .work)) → limitOf (s .limits) ≤ k → Courses s r₁ w₁
+    course-full clear full =
+        subst (λ (r : Step). Courses s r w₁) (sym told)
+        (ended s w₁ clear k products
+        (course-rest ∙ ap (λ (b : Bool). cond b again (got now)) (le-ltb (length (now .words)) (limitOf (s .limits)) (omega (arith, full, words-count))))
+        (h .holds) (h .any))
 
-    module _ (k products : ℕ) (told : r₁ ≡ Taken k products) where
-      h : Ended (legBy entering evolving true ws cs (take len (w .evolved))) n places len k products cs w₁
-      h = l .ended k products told
+    module _ (room : k < limitOf (s .limits)) (w₂ : Work) (clear : sharedOf w₂ ≡ none (sharedOf (s .work))) where
+      course-second : course s ≡ again
+      course-second = course-rest ∙ ap (λ (b : Bool). cond b again (got now)) (lt-ltb (length (now .words)) (limitOf (s .limits)) (omega (arith, room, words-count)))
 
-      abbrev s : Stepped
-      s = grown k (w₁ .grownWords) (w₁ .evolved) products
+      second-is : second (entering s) (evolving s) (limitOf (s .limits)) (givenWords s) (givenNumbers s) now ≡ legBy (entering s) (evolving s) false (take k (words (w₁ .grownWords))) (take k (w₁ .start)) (take k (w₁ .evolved))
+      second-is = ap (λ (xs : List Float). legBy (entering s) (evolving s) false (take k (words (w₁ .grownWords))) xs (take k (w₁ .evolved))) (sym (h .start-is))
 
-      plain-rest : plain ≡ rest entering evolving limit ws cs s
-      plain-rest = plain-is ∙ course-goes entering evolving limit ws cs each s (sym leg-is ∙ h .is)
-
-      words-count : wordLanes * k ≤ length (w₁ .grownWords) → length (take k (words (w₁ .grownWords))) ≡ k
-      words-count long = length-take-le k (words (w₁ .grownWords)) (omega (arith, long, words-high (w₁ .grownWords)))
-
-      module _ (long : wordLanes * k ≤ length (w₁ .grownWords)) where
-        -- no room for a second hop
-        pub course-full : limit ≤ k → Courses plain n places len r₁ w₁
-        course-full full =
-            subst (λ (r : Step). Courses plain n places len r w₁) (sym told)
-            (ended plain n places len w₁ k products
-            (plain-rest ∙ ap (λ (b : Bool). cond b (onward (second entering evolving limit ws cs s) (λ r. got (both entering evolving limit ws cs products r))) (got s)) (le-ltb (length (s .words)) limit (omega (arith, full, words-count long))))
-            (h .holds) (h .any))
-
-        module _ (room : k < limit) (w₂ : Work) (r₂ : Step) (l₂ : Ends (legBy entering evolving false (take k (words (w₁ .grownWords))) (take k (w₁ .start)) (take k (w₁ .evolved))) n places k (take k (w₁ .start)) r₂ w₂) where
-          plain-second : plain ≡ onward (second entering evolving limit ws cs s) (λ r. got (both entering evolving limit ws cs products r))
-          plain-second = plain-rest ∙ ap (λ (b : Bool). cond b (onward (second entering evolving limit ws cs s) (λ r. got (both entering evolving limit ws cs products r))) (got s)) (lt-ltb (length (s .words)) limit (omega (arith, room, words-count long)))
-
-          second-is : second entering evolving limit ws cs s ≡ legBy entering evolving false (take k (words (w₁ .grownWords))) (take k (w₁ .start)) (take k (w₁ .evolved))
-          second-is = ap (λ (xs : List Float). legBy entering evolving false (take k (words (w₁ .grownWords))) xs (take k (w₁ .evolved))) (sym (h .start-is))
-
-          pub course-second-refused : (q : Refusal) → r₂ ≡ Refused q → Courses plain n places len r₂ w₂
-          course-second-refused q e =
-              stopped plain n places len w₂ r₂ q e
-              (λ p i. plain-second ∙ ap (λ (x : Read Stepped). onward x (λ r. got (both entering evolving limit ws cs products r))) (second-is ∙ l₂ .stops p i))
-
-          pub course-ended : (j more : ℕ) → r₂ ≡ Taken j more → Courses plain n places len (Taken j (products + more)) w₂
-          course-ended j more e =
-              let h₂ = l₂ .ended j more e in
-              ended plain n places len w₂ j (products + more)
-              (plain-second ∙ ap (λ (x : Read Stepped). onward x (λ r. got (both entering evolving limit ws cs products r))) (second-is ∙ h₂ .is))
-              (h₂ .holds) (λ a. h .any (h₂ .any a))
+      pub course-both : (r₂ : Step) → Ends (legBy (entering s) (evolving s) false (take k (words (w₁ .grownWords))) (take k (w₁ .start)) (take k (w₁ .evolved))) (s .model .qubits) (grownTo s) k (take k (w₁ .start)) r₂ w₂ → Courses s (addedTo r₁ r₂) w₂
+      course-both (Refused q) l₂ =
+          stopped s w₂ clear (Refused q) q refl
+          (λ p i. course-second ∙ ap (λ (x : Read Stepped). onward x (λ r. got (both (entering s) (evolving s) (limitOf (s .limits)) (givenWords s) (givenNumbers s) products r))) (second-is ∙ l₂ .stops p i))
+      course-both (Taken j more) l₂ =
+          let h₂ = l₂ .ended j more refl in
+          subst (λ (i : ℕ). Courses s (Taken j (i + more)) w₂) (sym (ap productsIn told))
+          (ended s w₂ clear j (products + more)
+          (course-second ∙ ap (λ (x : Read Stepped). onward x (λ r. got (both (entering s) (evolving s) (limitOf (s .limits)) (givenWords s) (givenNumbers s) products r))) (second-is ∙ h₂ .is))
+          (h₂ .holds) (λ a. h .any (h₂ .any a)))

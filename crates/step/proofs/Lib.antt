@@ -3,3 +3,4 @@
 
 -- The laws of the step.
 pub mod CourseLaws
+pub mod StandingLaws

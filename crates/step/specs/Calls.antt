@@ -34,6 +34,6 @@ tested lanes coeffs w (Tests.Refused q) e = record { answer = Refused q; lanes =
 unfoldable pub step : Model → ModelTables → List ℕ → List Float → ℕ → List ℕ → Limits → Float → Float → Work → Stepping
 step m t lanes coeffs len protected l dt dropTol w =
     tested lanes coeffs w
-    (stepTests m t lanes coeffs len protected l dt dropTol (length (w .hIndex)) (length (w .jIndex)) (length (w .mask)) (length (w .order)) (length (w .heads)) (length (w .nexts)) (length (w .placeOrder)) (length (w .v)) (length (w .listValues)) (length (w .product)) (length (w .grownWords)) (length (w .start)) (length (w .evolved)))
+    (stepTests m t lanes coeffs len protected l dt dropTol (length (w .hIndex)) (length (w .jIndex)) (length (w .mask)) (length (w .order)) (length (w .heads)) (length (w .nexts)) (length (w .placeOrder)) (length (w .candSums)) (length (w .listValues)) (length (w .workSums)) (length (w .grownWords)) (length (w .start)) (length (w .evolved)))
     (ending (words protected) dropTol (l .«max_basis») lanes coeffs
     (courseOf m t (words protected) dt (placesOf lanes coeffs protected w) l dropTol (take len (words lanes)) (take len coeffs)))

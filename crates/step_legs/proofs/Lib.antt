@@ -6,3 +6,4 @@ pub mod EvolveLaws
 pub mod FollowLaws
 pub mod EnterLaws
 pub mod HopLaws
+pub mod LegLaws

@@ -16,9 +16,9 @@ use Rattle.action.specs.Counts.{rowLanes}
 use Rattle.step_parts.specs.Lent.{Work}
 use Rattle.step_parts.specs.declared.taken.Step.{Step}
 use Rattle.step_parts.specs.declared.taken.Step.the-variants.{Taken, Refused}
 use Rattle.step.specs.Calls.{Stepping}
-use Rattle.pebblelinen_step.specs.declared.SteppedBasis.{SteppedBasis}
-use Rattle.pebblelinen_step.specs.declared.StepSizes.{StepSizes}
+use Rattle.step.specs.declared.steps.SteppedBasis.{SteppedBasis}
+use Rattle.step.specs.declared.sizes.StepSizes.{StepSizes}
 
 -- the number of entries and of products, or the refusal and 0
 abbrev pub steppedOf : Step → SteppedBasis
@@ -37,8 +37,8 @@ abbrev pub maxPlaces : ℕ
 maxPlaces = 4294967295
 
 -- the lengths for a register, a basis that grows to so many words, so many protected words, actions that touch so many words, so many
--- candidates at a time, and so many entries of the generator: those of leakage and evolution, of each shared table the longer, a list as long as the basis, and the
--- copy
+-- candidates at a time, and so many entries of the generator: those of leakage and evolution, of each table that both use the longer, a list as long
+-- as the basis, and the copy
 unfoldable pub stepSizes : (qubits words protected touched candidates entries : ℕ) → StepSizes
 stepSizes qubits words protected touched candidates entries =
     let rows : ℕ = whereAny words (rowLanes * min qubits maxQubits) in
@@ -52,12 +52,12 @@ stepSizes qubits words protected touched candidates entries =
       «j_index» = rows;
       mask = whereAny words rowLanes;
       «work_words» = wordLanes * t;
-      «work_sums» = 2 * t;
+      «work_sums» = max (2 * t) n;
       order = n;
       heads = 2 * (n + p);
       nexts = n + p;
       «cand_words» = wordLanes * c;
-      «cand_sums» = max c e;
+      «cand_sums» = max (max c e) n;
       «place_order» = max (2 * c) (whereAny n (n + 1));
       «place_work» = c;
       «list_words» = wordLanes * n;
@@ -66,8 +66,6 @@ stepSizes qubits words protected touched candidates entries =
       «stage_columns» = e;
       columns = e;
       values = e;
-      v = n;
-      product = n;
       «grown_words» = wordLanes * n;
       start = n;
       evolved = n;
