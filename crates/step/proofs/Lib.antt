@@ -4,3 +4,4 @@
 -- The laws of the step.
 pub mod CourseLaws
 pub mod StandingLaws
+pub mod SizesLaws
