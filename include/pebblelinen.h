@@ -998,8 +998,6 @@ typedef struct {
     size_t stage_columns;
     size_t columns;
     size_t values;
-    size_t v;
-    size_t product;
     size_t grown_words;
     size_t start;
     size_t evolved;
@@ -1032,17 +1030,18 @@ pebblelinen_step_lengths pebblelinen_step_sizes(size_t qubits, size_t words, siz
  *   protected_words      the protected words; its length is in lanes
  *   h_index .. place_work     work tables, as for pebblelinen_leakage_with_prune
  *   list_words, list_values   work tables: what a leakage lists
- *   stage_rows .. product     work tables, as for pebblelinen_evolve; place_order, cand_sums and
- *                        list_values serve as its offsets, stage_values and b
+ *   stage_rows .. values  work tables, as for pebblelinen_evolve, which finds its other tables among
+ *                        those above: offsets in place_order, stage_values and then v in cand_sums, b
+ *                        in list_values, product in work_sums
  *   grown_words, start, evolved   work tables: the copy; its words, the coefficients that evolutions
  *                        start from, and those that they end with
  *   table 1              words that one action touches: work_words, work_sums
  *   table 2              candidates: cand_words, cand_sums, place_order, place_work
  *   table 3              what a leakage lists: list_words, list_values. What admission appends to: a place
- *                        in words, coeffs, grown_words, start, evolved, order, v, list_values and
- *                        product for each word that the copy grows to, one more in place_order, and in
- *                        heads and nexts as many more as there are protected words. Entries: stage_rows,
- *                        stage_columns, cand_sums, columns, values
+ *                        in words, coeffs, grown_words, start, evolved, order, cand_sums, list_values
+ *                        and work_sums for each word that the copy grows to, one more in place_order,
+ *                        and in heads and nexts as many more as there are protected words. Entries:
+ *                        stage_rows, stage_columns, cand_sums, columns, values
  *
  * Refusals, in this order:
  *
@@ -1051,8 +1050,8 @@ pebblelinen_step_lengths pebblelinen_step_sizes(size_t qubits, size_t words, siz
  *       admit_basis that is given
  *    9  (len, places lent) for words, then for coeffs; (lanes of whole words, lanes) where the last
  *       protected word is cut off; then (needed, lent) for h_index, j_index, mask, order, heads, nexts,
- *       place_order (len + 1), v, list_values, product, grown_words, start, evolved; no words need no
- *       place
+ *       place_order (len + 1), cand_sums, list_values, work_sums, grown_words, start, evolved; no words
+ *       need no place
  *   11  (position): the first basis word with a letter at or above the register; then, with its place
  *       in the list, the first such protected word
  *    7  (position): the first coefficient that is infinite or NaN; then (len) for such a dt, drop_tol or
@@ -1078,8 +1077,7 @@ pebblelinen_stepped pebblelinen_step(
     uint64_t *place_order, size_t place_order_len, uint64_t *place_work, size_t place_work_len,
     uint64_t *list_words, size_t list_words_len, double *list_values, size_t list_values_len,
     uint32_t *stage_rows, size_t stage_rows_len, uint32_t *stage_columns, size_t stage_columns_len,
-    uint32_t *columns, size_t columns_len, double *values, size_t values_len, double *v,
-    size_t v_len, double *product, size_t product_len, uint64_t *grown_words,
+    uint32_t *columns, size_t columns_len, double *values, size_t values_len, uint64_t *grown_words,
     size_t grown_words_len, double *start, size_t start_len, double *evolved, size_t evolved_len);
 
 #ifdef __cplusplus

@@ -222,6 +222,42 @@ class Evolved(Structure):
 
 
 @_struct
+class StepLengths(Structure):
+    """The lengths of the work tables of a step: those of leakage, of its list, of an evolution, and of the copy."""
+
+    h_index: Size
+    j_index: Size
+    mask: Size
+    work_words: Size
+    work_sums: Size
+    order: Size
+    heads: Size
+    nexts: Size
+    cand_words: Size
+    cand_sums: Size
+    place_order: Size
+    place_work: Size
+    list_words: Size
+    list_values: Size
+    stage_rows: Size
+    stage_columns: Size
+    columns: Size
+    values: Size
+    grown_words: Size
+    start: Size
+    evolved: Size
+
+
+@_struct
+class Stepped(Structure):
+    """How many entries a basis has after a step, and how many products it took."""
+
+    status: Status
+    entries: Size
+    products: Size
+
+
+@_struct
 class Written(Structure):
     """How long the text is that was written."""
 
@@ -319,6 +355,11 @@ _FUNCTIONS: dict[str, tuple[Any, list[Any]]] = {
     "evolve": (
         Evolved,
         [*_LENT_MODEL, *slices(2), c_size_t, c_double, c_double, *slices(16), *slices(1)],
+    ),
+    "step_sizes": (StepLengths, [c_size_t] * 6),
+    "step": (
+        Stepped,
+        [*_LENT_MODEL, *slices(2), c_size_t, *slices(1), Limits, c_double, c_double, *slices(21)],
     ),
 }
 

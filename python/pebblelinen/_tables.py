@@ -16,7 +16,7 @@ from numpy.typing import DTypeLike, NDArray
 # Of tables whose numbers are not of 64 bits without sign.
 _TYPES: dict[str, DTypeLike] = {
     **dict.fromkeys(
-        "work_sums work_numbers cand_sums stage_values raws diags values v b product".split(),
+        "work_sums work_numbers cand_sums stage_values raws diags values v b product list_values start evolved".split(),
         np.float64,
     ),
     **dict.fromkeys("stage_rows stage_columns columns".split(), np.uint32),

@@ -21,6 +21,8 @@ ROOT = Path(__file__).resolve().parent.parent.parent
 NAME = "libpebblelinen.so"
 _STATIC = "libpebblelinen.a"
 _FOLDERS = "dist", "target/shared"
+# The crates whose functions the library has.
+_EXPORTS = "pebblelinen", "step"
 
 
 class NotBuilt(OSError):
@@ -38,7 +40,7 @@ def sources() -> str:
     lines = (line.partition("#")[0].partition(":") for line in (ROOT / "crates.txt").read_text().splitlines())
     needs = {name.strip(): needed.split() for name, colon, needed in lines if colon}
     below: list[str] = []
-    left = ["pebblelinen"]
+    left = [*_EXPORTS]
     while left:
         name = left.pop(0)
         if name not in below:

@@ -28,7 +28,7 @@ from .leakage import TAU_ADD, Leakage
 from .plan import AnyTimes
 from .run import begun, settings_of, tolerance_of
 from .state import AnyState
-from .step import Stepped, rules_of, take_step
+from .step import Rules, Stepped, rules_of, take_step
 from .terms import AnyTerms, Terms
 from .words import (
     MAX_WORDS,
@@ -648,6 +648,53 @@ class Model(Shown, Sealed):
         )
         with basis._lock:
             return take_step(self, basis, _given.real(dt, "dt", ("dt",)), rules)
+
+    def _step(self, basis: Basis, dt: float, rules: Rules) -> tuple[_library.Stepped, Basis]:
+        """What the library answers to a step of a copy of a basis, and the copy."""
+        limits = _library.Limits(
+            rules.max_basis,
+            rules.admit_basis is not None,
+            rules.admit_basis or 0,
+            rules.tau_add is not None,
+            TAU_ADD if rules.tau_add is None else rules.tau_add,
+        )
+        len_, fixed = len(basis), len(rules.protected) // WORD_LANES
+        most = max(len_, min(rules.room, MAX_WORDS))
+        # How far the copy may grow is not known: few words first, and few entries for each.
+        words, each, candidates = min(4 * len_ + 256, most), 8, max(32 * min(len_, _PASS), self._candidates)
+        while True:
+            after = basis.copy()
+            after._reserve(words)
+            entries = min(max(words * min(each, words), self._entries), words * words)
+            lengths = _library.call("step_sizes", self.n, words, fixed, self._touched, candidates, entries)
+            with work_tables() as work:
+                answer: _library.Stepped = _library.call(
+                    "step",
+                    *self._lent(),
+                    after._lanes,
+                    after._coefficients,
+                    len_,
+                    rules.protected,
+                    limits,
+                    dt,
+                    rules.drop_tol,
+                    *work.lend(lengths),
+                )
+            status = answer.status
+            if status.refusal != 13:
+                break
+            if status.first == 1 and self._touched < MOST_TOUCHED:
+                self._touched = min(4 * self._touched, MOST_TOUCHED)
+            elif status.first == 2 and candidates < most * MOST_TOUCHED:
+                candidates = 2 * candidates + 64
+            elif status.first == 3 and (words < most or each < words):
+                words, each = min(4 * words, most), 4 * each
+            else:
+                break
+        if not status.refusal:
+            self._candidates, self._entries = max(self._candidates, candidates), max(self._entries, entries)
+            after._len = answer.entries
+        return answer, after
 
     # ---- runs ----
 

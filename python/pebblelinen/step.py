@@ -2,8 +2,8 @@
 # SPDX-License-Identifier: Apache-2.0
 """The predictor-corrector step: a basis that grows, is evolved over one time step, and is shortened again.
 
-The library has the parts, each proved, and no call for the whole yet. So the order of the parts stands here, and the
-tests hold it to a program written from the definition. All parts work on a copy: the basis given never changes."""
+The step is one call of the library. Its parts stand here too, in their order, for those who need what a step has before
+it is shortened, and for what is to be said of a refusal. All parts work on a copy: the basis given never changes."""
 import random
 from typing import TYPE_CHECKING, Any, NamedTuple
 
@@ -145,10 +145,13 @@ def _first_again(words: LaneTable) -> int | None:
 
 def take_step(model: "Model", basis: Basis, dt: float, rules: Rules) -> Stepped:
     """The whole step."""
+    answer, after = model._step(basis, dt, rules)
+    if not answer.status.refusal:
+        return Stepped(after, answer.products)
+    # One of the parts refuses too, and says of which word or number.
     test(basis, dt, rules)
-    grown = grow(model, basis, dt, rules)
-    shorten(grown.evolved, rules)
-    return Stepped(grown.evolved, grown.products)
+    grow(model, basis, dt, rules)
+    raise refusal(answer.status, basis)
 
 
 def grow(model: "Model", basis: Basis, dt: float, rules: Rules) -> Grown:

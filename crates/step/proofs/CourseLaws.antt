@@ -35,17 +35,20 @@ module _ (entering : List Word → List Float → Read (List Word)) (evolving : 
   abbrev whole : Read Stepped
   whole = courseBy entering evolving limit ws cs
 
+  abbrev over : List Word → Outcome → Stepped
+  over us o = record { words = us; numbers = o .numbers; products = o .products }
+
   course-stops : (q : Refusal) → first ≡ refused q → whole ≡ refused q
   unfolding legBy courseBy predictor
   course-stops q e = hops (entering ws cs) refl e
     where
       evolves : (us : List Word) (r : Read Outcome) → evolving (ws ++ us) (withZeros cs (ws ++ us)) ≡ r
-          → onward r (λ o. got (record { words = ws ++ us; numbers = o .numbers; products = o .products })) ≡ refused q → predictor entering evolving limit cs (ws ++ us) ≡ refused q
+          → onward r (λ o. got (over (ws ++ us) o)) ≡ refused q → predictor entering evolving limit cs (ws ++ us) ≡ refused q
       evolves us (got o) i f = absurd (no-value q _ (sym f))
       evolves us (refused p) i f = rw i f
 
       hops : (r : Read (List Word)) → entering ws cs ≡ r
-          → onward r (λ us. onward (evolving (ws ++ us) (withZeros cs (ws ++ us))) (λ o. got (record { words = ws ++ us; numbers = o .numbers; products = o .products }))) ≡ refused q
+          → onward r (λ us. onward (evolving (ws ++ us) (withZeros cs (ws ++ us))) (λ o. got (over (ws ++ us) o))) ≡ refused q
           → onward r (λ us. predictor entering evolving limit cs (ws ++ us)) ≡ refused q
       hops (got us) i f = evolves us (evolving (ws ++ us) (withZeros cs (ws ++ us))) refl f
       hops (refused p) i f = f
@@ -60,43 +63,44 @@ module _ (entering : List Word → List Float → Read (List Word)) (evolving : 
   abbrev rest : Stepped → Read Stepped
   rest s = cond (ltb (length (s .words)) limit) (onward (second s) (λ r. got (both (s .products) r))) (got s)
 
-  predicted : length cs ≤ length ws → (us : List Word) (o : Outcome) → onward (secondHop entering evolving limit (ws ++ us) (o .numbers)) (corrector entering evolving limit cs (ws ++ us) o)
-      ≡ rest (record { words = ws ++ us; numbers = o .numbers; products = o .products })
-  unfolding legBy secondHop corrector
-  predicted long us o = room (ltb (length vs) limit)
-    where
-      abbrev vs : List Word
-      vs = ws ++ us
+  module _ (long : length cs ≤ length ws) (us : List Word) (o : Outcome) where
+    abbrev vs : List Word
+    vs = ws ++ us
 
-      abbrev now : Stepped
-      now = record { words = vs; numbers = o .numbers; products = o .products }
+    abbrev now : Stepped
+    now = record { words = vs; numbers = o .numbers; products = o .products }
 
-      evolves : (xs : List Word) (r : Read Outcome) → onward r (λ c. got (record { words = vs ++ xs; numbers = c .numbers; products = o .products + c .products }))
-          ≡ onward (onward r (λ c. got (record { words = vs ++ xs; numbers = c .numbers; products = c .products }))) (λ s. got (both (o .products) s))
-      evolves xs (got c) = refl
-      evolves xs (refused q) = refl
+    evolves : (xs : List Word) (r : Read Outcome) → onward r (λ c. got (record { words = vs ++ xs; numbers = c .numbers; products = o .products + c .products }))
+        ≡ onward (onward r (λ c. got (record { words = vs ++ xs; numbers = c .numbers; products = c .products }))) (λ s. got (both (o .products) s))
+    evolves xs (got c) = refl
+    evolves xs (refused q) = refl
 
-      corrects : (xs : List Word) (b : Bool) → cond b (got now) (onward (evolving (vs ++ xs) (withZeros cs (vs ++ xs))) (λ c. got (record { words = vs ++ xs; numbers = c .numbers; products = o .products + c .products })))
-          ≡ onward (cond b (got (record { words = vs; numbers = o .numbers; products = 0 })) (onward (evolving (vs ++ xs) (withZeros (withZeros cs vs) (vs ++ xs))) (λ c. got (record { words = vs ++ xs; numbers = c .numbers; products = c .products })))) (λ s. got (both (o .products) s))
-      corrects xs true = ap (λ (k : ℕ). got (record { words = vs; numbers = o .numbers; products = k })) (omega arith)
-      corrects xs false =
-          rw (zeros-again cs vs (vs ++ xs) (omega (arith, long, length-append ws us)) (omega (arith, length-append vs xs))) (evolves xs (evolving (vs ++ xs) (withZeros cs (vs ++ xs))))
+    corrects : (xs : List Word) (b : Bool) → cond b (got now) (onward (evolving (vs ++ xs) (withZeros cs (vs ++ xs))) (λ c. got (record { words = vs ++ xs; numbers = c .numbers; products = o .products + c .products })))
+        ≡ onward (cond b (got (record { words = vs; numbers = o .numbers; products = 0 })) (onward (evolving (vs ++ xs) (withZeros (withZeros cs vs) (vs ++ xs))) (λ c. got (record { words = vs ++ xs; numbers = c .numbers; products = c .products })))) (λ s. got (both (o .products) s))
+    corrects xs true = ap (λ (k : ℕ). got (record { words = vs; numbers = o .numbers; products = k })) (omega arith)
+    corrects xs false =
+        rw (zeros-again cs vs (vs ++ xs) (omega (arith, long, length-append ws us)) (omega (arith, length-append vs xs))) (evolves xs (evolving (vs ++ xs) (withZeros cs (vs ++ xs))))
 
-      hops : (r : Read (List Word)) → onward r (λ xs. cond (eqb (length xs) 0) (got now) (onward (evolving (vs ++ xs) (withZeros cs (vs ++ xs))) (λ c. got (record { words = vs ++ xs; numbers = c .numbers; products = o .products + c .products }))))
-          ≡ onward (onward r (λ xs. cond (eqb (length xs) 0) (got (record { words = vs; numbers = o .numbers; products = 0 })) (onward (evolving (vs ++ xs) (withZeros (withZeros cs vs) (vs ++ xs))) (λ c. got (record { words = vs ++ xs; numbers = c .numbers; products = c .products }))))) (λ s. got (both (o .products) s))
-      hops (got xs) = corrects xs (eqb (length xs) 0)
-      hops (refused q) = refl
+    hops : (r : Read (List Word)) → onward r (λ xs. cond (eqb (length xs) 0) (got now) (onward (evolving (vs ++ xs) (withZeros cs (vs ++ xs))) (λ c. got (record { words = vs ++ xs; numbers = c .numbers; products = o .products + c .products }))))
+        ≡ onward (onward r (λ xs. cond (eqb (length xs) 0) (got (record { words = vs; numbers = o .numbers; products = 0 })) (onward (evolving (vs ++ xs) (withZeros (withZeros cs vs) (vs ++ xs))) (λ c. got (record { words = vs ++ xs; numbers = c .numbers; products = c .products }))))) (λ s. got (both (o .products) s))
+    hops (got xs) = corrects xs (eqb (length xs) 0)
+    hops (refused q) = refl
 
-      room : (b : Bool) → onward (cond b (entering vs (o .numbers)) (got [])) (λ xs. cond (eqb (length xs) 0) (got now) (onward (evolving (vs ++ xs) (withZeros cs (vs ++ xs))) (λ c. got (record { words = vs ++ xs; numbers = c .numbers; products = o .products + c .products }))))
-          ≡ cond b (onward (onward (entering vs (o .numbers)) (λ xs. cond (eqb (length xs) 0) (got (record { words = vs; numbers = o .numbers; products = 0 })) (onward (evolving (vs ++ xs) (withZeros (withZeros cs vs) (vs ++ xs))) (λ c. got (record { words = vs ++ xs; numbers = c .numbers; products = c .products }))))) (λ s. got (both (o .products) s))) (got now)
-      room true = hops (entering vs (o .numbers))
-      room false = refl
+    room : (b : Bool) → onward (cond b (entering vs (o .numbers)) (got [])) (λ xs. cond (eqb (length xs) 0) (got now) (onward (evolving (vs ++ xs) (withZeros cs (vs ++ xs))) (λ c. got (record { words = vs ++ xs; numbers = c .numbers; products = o .products + c .products }))))
+        ≡ cond b (onward (onward (entering vs (o .numbers)) (λ xs. cond (eqb (length xs) 0) (got (record { words = vs; numbers = o .numbers; products = 0 })) (onward (evolving (vs ++ xs) (withZeros (withZeros cs vs) (vs ++ xs))) (λ c. got (record { words = vs ++ xs; numbers = c .numbers; products = c .products }))))) (λ s. got (both (o .products) s))) (got now)
+    room true = hops (entering vs (o .numbers))
+    room false = refl
+
+    predicted : onward (secondHop entering evolving limit (ws ++ us) (o .numbers)) (corrector entering evolving limit cs (ws ++ us) o)
+        ≡ rest (record { words = ws ++ us; numbers = o .numbers; products = o .products })
+    unfolding legBy secondHop corrector
+    predicted = room (ltb (length vs) limit)
 
   course-goes : length cs ≤ length ws → (s : Stepped) → first ≡ got s → whole ≡ rest s
   unfolding legBy courseBy predictor
   course-goes long s e =
-      let a = through (entering ws cs) (λ (us : List Word). onward (evolving (ws ++ us) (withZeros cs (ws ++ us))) (λ o. got (record { words = ws ++ us; numbers = o .numbers; products = o .products }))) s e in
-      let b = through (evolving (ws ++ a .value) (withZeros cs (ws ++ a .value))) (λ o. got (record { words = ws ++ a .value; numbers = o .numbers; products = o .products })) s (a .behind) in
+      let a = through (entering ws cs) (λ (us : List Word). onward (evolving (ws ++ us) (withZeros cs (ws ++ us))) (λ o. got (over (ws ++ us) o))) s e in
+      let b = through (evolving (ws ++ a .value) (withZeros cs (ws ++ a .value))) (λ o. got (over (ws ++ a .value) o)) s (a .behind) in
       rw (a .before, b .before) (predicted long (a .value) (b .value) ∙ ap rest (same-value _ s (b .behind)))
 
 -- ---- over tables
@@ -138,14 +142,14 @@ module _ (s : Start) (each : length (givenNumbers s) ≤ length (givenWords s)) 
     h : Ended (firstLeg s) (s .model .qubits) (grownTo s) (s .len) k products (givenNumbers s) w₁
     h = l .ended k products told
 
-    abbrev now : Stepped
-    now = grown k (w₁ .grownWords) (w₁ .evolved) products
+    abbrev stood : Stepped
+    stood = grown k (w₁ .grownWords) (w₁ .evolved) products
 
     abbrev again : Read Stepped
-    again = onward (second (entering s) (evolving s) (limitOf (s .limits)) (givenWords s) (givenNumbers s) now) (λ r. got (both (entering s) (evolving s) (limitOf (s .limits)) (givenWords s) (givenNumbers s) products r))
+    again = onward (second (entering s) (evolving s) (limitOf (s .limits)) (givenWords s) (givenNumbers s) stood) (λ r. got (both (entering s) (evolving s) (limitOf (s .limits)) (givenWords s) (givenNumbers s) products r))
 
-    course-rest : course s ≡ rest (entering s) (evolving s) (limitOf (s .limits)) (givenWords s) (givenNumbers s) now
-    course-rest = course-goes (entering s) (evolving s) (limitOf (s .limits)) (givenWords s) (givenNumbers s) each now (h .is)
+    course-rest : course s ≡ rest (entering s) (evolving s) (limitOf (s .limits)) (givenWords s) (givenNumbers s) stood
+    course-rest = course-goes (entering s) (evolving s) (limitOf (s .limits)) (givenWords s) (givenNumbers s) each stood (h .is)
 
     words-count : length (take k (words (w₁ .grownWords))) ≡ k
     words-count = length-take-le k (words (w₁ .grownWords)) (omega (arith, long, words-high (w₁ .grownWords)))
@@ -155,14 +159,14 @@ module _ (s : Start) (each : length (givenNumbers s) ≤ length (givenWords s)) 
     course-full clear full =
         subst (λ (r : Step). Courses s r w₁) (sym told)
         (ended s w₁ clear k products
-        (course-rest ∙ ap (λ (b : Bool). cond b again (got now)) (le-ltb (length (now .words)) (limitOf (s .limits)) (omega (arith, full, words-count))))
+        (course-rest ∙ ap (λ (b : Bool). cond b again (got stood)) (le-ltb (length (stood .words)) (limitOf (s .limits)) (omega (arith, full, words-count))))
         (h .holds) (h .any))
 
     module _ (room : k < limitOf (s .limits)) (w₂ : Work) (clear : sharedOf w₂ ≡ none (sharedOf (s .work))) where
       course-second : course s ≡ again
-      course-second = course-rest ∙ ap (λ (b : Bool). cond b again (got now)) (lt-ltb (length (now .words)) (limitOf (s .limits)) (omega (arith, room, words-count)))
+      course-second = course-rest ∙ ap (λ (b : Bool). cond b again (got stood)) (lt-ltb (length (stood .words)) (limitOf (s .limits)) (omega (arith, room, words-count)))
 
-      second-is : second (entering s) (evolving s) (limitOf (s .limits)) (givenWords s) (givenNumbers s) now ≡ legBy (entering s) (evolving s) false (take k (words (w₁ .grownWords))) (take k (w₁ .start)) (take k (w₁ .evolved))
+      second-is : second (entering s) (evolving s) (limitOf (s .limits)) (givenWords s) (givenNumbers s) stood ≡ legBy (entering s) (evolving s) false (take k (words (w₁ .grownWords))) (take k (w₁ .start)) (take k (w₁ .evolved))
       second-is = ap (λ (xs : List Float). legBy (entering s) (evolving s) false (take k (words (w₁ .grownWords))) xs (take k (w₁ .evolved))) (sym (h .start-is))
 
       pub course-both : (r₂ : Step) → Ends (legBy (entering s) (evolving s) false (take k (words (w₁ .grownWords))) (take k (w₁ .start)) (take k (w₁ .evolved))) (s .model .qubits) (grownTo s) k (take k (w₁ .start)) r₂ w₂ → Courses s (addedTo r₁ r₂) w₂

@@ -6,14 +6,13 @@
 use mathlib.Core.Path.{_≡_, refl, sym, ap, ap₂, subst, _∙_}
 use mathlib.Core.Bool.{Bool, true, false, cond, not, _&&_, _||_}
 use mathlib.Core.List.{List}
-use Prim.Native.Nat.{ℕ, suc, _+_, _*_, _/_, _≤_, _<_}
+use Prim.Native.Nat.{ℕ, zero, suc, _+_, _*_, _/_, _≤_, _<_}
 use native.Mathlib.Omega.{arith}
 use borrow.Author.Tests.{eqb-true, eqb-false, eq-eqb, leb-true, leb-false}
 use lib.Dec.{eqb, leb}
 use lib.Ieee.{Float}
 use lib.ListN.{length, take, replicate, length-replicate}
 use lib.Seq.{length-take-le}
-use Rattle.refusal.specs.Cause.{statusOf}
 use Rattle.refusal.specs.declared.Refusal.{Refusal}
 use Rattle.refusal.specs.declared.Answer.{Answer}
 use Rattle.refusal.specs.declared.Answer.the-variants as Tests
@@ -29,9 +28,9 @@ use Rattle.truncate.specs.declared.kept.Kept.{Kept}
 use Rattle.truncate.specs.declared.kept.Kept.the-variants.{Entries}
 use Rattle.step_laws.specs.Steps.{Places, Stepped, hop, evolution, courseOf}
 use Rattle.step_laws.specs.Passing.{GoodWords, AreFinite}
-use Rattle.step_parts.specs.Lent.{Work, workOf, zeroed, placesOf, grownPlaces, touchedPlaces, rowPlaces, entryPlaces, stepTests}
+use Rattle.step_parts.specs.Lent.{Work, workOf, zeroed, stepTests}
 use Rattle.step_parts.specs.Ends.{Ending, ending}
-use Rattle.step_parts.specs.Between.{Given, FiniteStep, HopLong, EvolveLong, Long, SameLong, Shared, shared, sharedOf, none, Holds, HopPlaces, Hops, EvolvePlaces, EvolvesTo, PlacesOf, legBy, Ended, Ends, EndReady, Told}
+use Rattle.step_parts.specs.Between.{Given, FiniteStep, EvolveLong, Long, SameLong, Shared, sharedOf, none, Holds, HopPlaces, Hops, EvolvePlaces, EvolvesTo, PlacesOf, legBy, Ends, EndReady, Told}
 use Rattle.step_parts.specs.declared.taken.Step.{Step}
 use Rattle.step_parts.specs.declared.taken.Step.the-variants.{Taken, Refused}
 use Rattle.step_parts.proofs.ReadyLaws.{Within, within, StepPassed, step-passed, ready-given, ready-step, ready-holds, given-within, ready-long, long-same, places-same, same-twice, ready-end}
@@ -41,7 +40,7 @@ use Rattle.step.specs.Between.{afterFirst, dueOf, entriesIn, productsIn,
 use Rattle.step.specs.Calls.{Stepping, step}
 use Rattle.step.specs.Exports.{steppedOf, LeavesStep}
 use Rattle.step.specs.declared.steps.SteppedBasis.{SteppedBasis}
-use Rattle.step.proofs.CourseLaws.{taken-not, same-taken, course-refused, course-full, course-both}
+use Rattle.step.proofs.CourseLaws.{course-refused, course-full, course-both}
 
 -- ---- tables
 -- a table that is zero is so over its own length
@@ -95,6 +94,8 @@ module _ (s : Start) (taken : Step) (hopped : Kept) (w : Work) (same : SameLong 
   stands-1 h = record {
     few = omega arith;
     same = same;
+    lanes-long = refl;
+    coeffs-long = refl;
     lanes-stay = λ e. refl;
     coeffs-stay = λ e. refl;
     accepted = λ e. accepted;
@@ -111,6 +112,8 @@ module _ (s : Start) (taken : Step) (hopped : Kept) (w : Work) (same : SameLong 
   stands-2 h = record {
     few = omega arith;
     same = same;
+    lanes-long = refl;
+    coeffs-long = refl;
     lanes-stay = λ e. refl;
     coeffs-stay = λ e. refl;
     accepted = λ e. accepted;
@@ -127,6 +130,8 @@ module _ (s : Start) (taken : Step) (hopped : Kept) (w : Work) (same : SameLong 
   stands-3 h = record {
     few = omega arith;
     same = same;
+    lanes-long = refl;
+    coeffs-long = refl;
     lanes-stay = λ e. refl;
     coeffs-stay = λ e. refl;
     accepted = λ e. accepted;
@@ -143,6 +148,8 @@ module _ (s : Start) (taken : Step) (hopped : Kept) (w : Work) (same : SameLong 
   stands-4 h = record {
     few = omega arith;
     same = same;
+    lanes-long = refl;
+    coeffs-long = refl;
     lanes-stay = λ e. refl;
     coeffs-stay = λ e. refl;
     accepted = λ e. accepted;
@@ -159,6 +166,8 @@ module _ (s : Start) (taken : Step) (hopped : Kept) (w : Work) (same : SameLong 
   stands-5 h = record {
     few = omega arith;
     same = same;
+    lanes-long = refl;
+    coeffs-long = refl;
     lanes-stay = λ e. refl;
     coeffs-stay = λ e. refl;
     accepted = λ e. accepted;
@@ -235,21 +244,32 @@ due-stands s part taken hopped lanes coeffs w st below limit due is e = go (eqb 
           room = λ y. absurd (eqb-false part 3 p (sym z ∙ y));
         }
 
+-- the lent basis is the given one as long as nothing is handed over
+pub back : (s : Start) (k : ℕ) (taken : Step) (hopped : Kept) (lanes : List ℕ) (coeffs : List Float) (w : Work) → lanes ≡ s .lanes → coeffs ≡ s .coeffs → Standing s k taken hopped (s .lanes) (s .coeffs) w → Standing s k taken hopped lanes coeffs w
+back s k taken hopped lanes coeffs w e f h = subst (λ (c : List Float). Standing s k taken hopped lanes c w) (sym f) (subst (λ (l : List ℕ). Standing s k taken hopped l (s .coeffs) w) (sym e) h)
+
+-- tables that the beginning left as they were
+pub work-same : (w : Work) (heads nexts grownWords : List ℕ) (start evolved : List Float) → heads ≡ w .heads → nexts ≡ w .nexts → grownWords ≡ w .grownWords → start ≡ w .start → evolved ≡ w .evolved
+    → workOf (w .hIndex) (w .jIndex) (w .mask) (w .workWords) (w .workSums) (w .order) heads nexts (w .candWords) (w .candSums) (w .placeOrder) (w .placeWork) (w .listWords) (w .listValues) (w .stageRows) (w .stageColumns) (w .columns) (w .values) grownWords start evolved ≡ w
+work-same w heads nexts grownWords start evolved eh en eg es ee = rw (eh, en, eg, es, ee)
+
 -- ---- before anything
 pub starts : (s : Start) (hopped : Kept) → Standing s 0 (Taken (s .len) 0) hopped (s .lanes) (s .coeffs) (s .work)
 starts s hopped = record {
   few = omega arith;
-  same = record { hIndex = refl; jIndex = refl; mask = refl; workWords = refl; workSums = refl; order = refl; heads = refl; nexts = refl; candWords = refl; candSums = refl; placeOrder = refl; placeWork = refl; listWords = refl; listValues = refl; stageRows = refl; stageColumns = refl; columns = refl; values = refl; grownWords = refl; start = refl; evolved = refl; };
+  same = record { hIndex = refl; jIndex = refl; mask = refl; workWords = refl; workSums = refl; order = refl; heads = refl; nexts = refl; candWords = refl; candSums = refl; placeOrder = refl; placeWork = refl; listWords = refl; listValues = refl; stageRows = refl; stageColumns = refl; columns = refl; values = refl; grownWords = refl; start = refl; evolved = refl };
+  lanes-long = refl;
+  coeffs-long = refl;
   lanes-stay = λ e. refl;
   coeffs-stay = λ e. refl;
   accepted = λ e. absurd (omega (arith, e));
-    nothing = λ e. (refl, refl);
-    copied = λ e. absurd (omega (arith, e));
-    first-hop = λ e. absurd (omega (arith, e));
-    predicted = λ e. absurd (omega (arith, e));
-    second-hop = λ e. absurd (omega (arith, e));
-    course-done = λ e. absurd (omega (arith, e));
-    done = λ e. absurd (omega (arith, e));
+  nothing = λ e. (refl, refl);
+  copied = λ e. absurd (omega (arith, e));
+  first-hop = λ e. absurd (omega (arith, e));
+  predicted = λ e. absurd (omega (arith, e));
+  second-hop = λ e. absurd (omega (arith, e));
+  course-done = λ e. absurd (omega (arith, e));
+  done = λ e. absurd (omega (arith, e));
 }
 
 -- ---- the tests and the copy
@@ -272,15 +292,15 @@ module _ (s : Start) (due : ℕ) (taken : Step) (hopped : Kept) (w : Work) (st :
 
 -- ---- a hop
 module _ (s : Start) (due : ℕ) (taken : Step) (hopped : Kept) (w : Work) (st : Standing s due taken hopped (s .lanes) (s .coeffs) w) (hops : (eqb due 1 || eqb due 3) ≡ true) (room : due ≡ 3 → Room s taken) where
-  some : 0 < due
-  some = go (eqb due 1) refl hops
+  hop-some : 0 < due
+  hop-some = go (eqb due 1) refl hops
     where
       go : (b : Bool) → eqb due 1 ≡ b → (b || eqb due 3) ≡ true → 0 < due
       go true e f = omega (arith, eqb-true due 1 e)
       go false e f = omega (arith, eqb-true due 3 f)
 
-  ok : testsOf s ≡ Tests.Accepted
-  ok = st .accepted some
+  hop-ok : testsOf s ≡ Tests.Accepted
+  hop-ok = st .accepted hop-some
 
   pub record Poised : Type 0 where
     pub held : Holds (s .model .qubits) (grownTo s) (entriesIn taken) (w .grownWords) (w .start) (w .evolved)
@@ -293,7 +313,7 @@ module _ (s : Start) (due : ℕ) (taken : Step) (hopped : Kept) (w : Work) (st :
       go true e f =
           let c = st .copied (eqb-true due 1 e) in
           let n : entriesIn taken ≡ s .len = ap entriesIn (c .taken-is) in
-          record { held = subst (λ (k : ℕ). Holds (s .model .qubits) (grownTo s) k (w .grownWords) (w .start) (w .evolved)) (sym n) (copied-holds s ok taken w c); any = λ a. omega (arith, a, n) }
+          record { held = subst (λ (k : ℕ). Holds (s .model .qubits) (grownTo s) k (w .grownWords) (w .start) (w .evolved)) (sym n) (copied-holds s hop-ok taken w c); any = λ a. omega (arith, a, n) }
       go false e f =
           let z = eqb-true due 3 f in
           let r = room z in
@@ -302,10 +322,10 @@ module _ (s : Start) (due : ℕ) (taken : Step) (hopped : Kept) (w : Work) (st :
           record { held = subst (λ (k : ℕ). Holds (s .model .qubits) (grownTo s) k (w .grownWords) (w .start) (w .evolved)) (sym n) (h .holds); any = λ a. h .any (omega (arith, a, n)) }
 
   pub hop-long : Long (s .model .qubits) (length (s .protected) / wordLanes) (grownTo s) (entriesIn taken) w
-  hop-long = long-same (st .same) (long s ok) (entriesIn taken) (poised .any)
+  hop-long = long-same (st .same) (long s hop-ok) (entriesIn taken) (poised .any)
 
   pub hop-given : Given (s .model) (s .tables) (s .protected) (s .limits)
-  hop-given = given s ok
+  hop-given = given s hop-ok
 
   module _ (hopped′ : Kept) (w′ : Work) (same : SameLong w w′)
       (hops′ : (p : Places) (dt : Float) → HopPlaces p (grownTo s) (w .workWords) (w .workSums) (w .candWords) (w .candSums) (w .placeOrder) (w .placeWork) (w .listWords) (w .listValues)
@@ -315,7 +335,7 @@ module _ (s : Start) (due : ℕ) (taken : Step) (hopped : Kept) (w : Work) (st :
     leaves = record {
       same = st .same;
       held = poised .held;
-      hops = hops′ (placesIn s) (s .dt) (places-in s ok w (st .same) .hop);
+      hops = hops′ (placesIn s) (s .dt) (places-in s hop-ok w (st .same) .hop);
       unchanged = unchanged;
       clear = clear ∙ none-same (st .same);
     }
@@ -328,13 +348,13 @@ module _ (s : Start) (due : ℕ) (taken : Step) (hopped : Kept) (w : Work) (st :
             let c = st .copied (eqb-true due 1 e) in
             let z : 2 ≡ due + 1 = omega (arith, eqb-true due 1 e) in
             subst (λ (d : ℕ). Standing s d taken hopped′ (s .lanes) (s .coeffs) w′) z
-            (stands-2 s taken hopped′ w′ (same-twice (st .same) same) ok (record { before = w; copied = c; leaves = subst (λ (k : ℕ). Hopped s k hopped′ w w′) (ap entriesIn (c .taken-is)) leaves }))
+            (stands-2 s taken hopped′ w′ (same-twice (st .same) same) hop-ok (record { before = w; copied = c; leaves = subst (λ (k : ℕ). Hopped s k hopped′ w w′) (ap entriesIn (c .taken-is)) leaves }))
         go false e f =
             let y = eqb-true due 3 f in
             let r = room y in
             let z : 4 ≡ due + 1 = omega (arith, y) in
             subst (λ (d : ℕ). Standing s d taken hopped′ (s .lanes) (s .coeffs) w′) z
-            (stands-4 s taken hopped′ w′ (same-twice (st .same) same) ok (record {
+            (stands-4 s taken hopped′ w′ (same-twice (st .same) same) hop-ok (record {
               before = w;
               k = r .k;
               products = r .products;
@@ -345,19 +365,23 @@ module _ (s : Start) (due : ℕ) (taken : Step) (hopped : Kept) (w : Work) (st :
             }))
 
 -- ---- an evolution
+last : (d : ℕ) → d < 6 → (d ≡ 0 → ⊥) → (d ≡ 1 → ⊥) → (d ≡ 2 → ⊥) → (d ≡ 3 → ⊥) → (d ≡ 5 → ⊥) → d ≡ 4
+last zero h a b c d e = absurd (a refl)
+last (suc zero) h a b c d e = absurd (b refl)
+last (suc (suc zero)) h a b c d e = absurd (c refl)
+last (suc (suc (suc zero))) h a b c d e = absurd (d refl)
+last (suc (suc (suc (suc zero)))) h a b c d e = refl
+last (suc (suc (suc (suc (suc zero))))) h a b c d e = absurd (e refl)
+last (suc (suc (suc (suc (suc (suc n)))))) h a b c d e = absurd (omega (arith, h))
+
 products-few : (plain : Read Stepped) (n places len : ℕ) (start : List Float) (r : Step) (w : Work) → Ends plain n places len start r w → productsIn r ≤ maxProducts
 products-few plain n places len start (Refused q) w e = omega arith
 products-few plain n places len start (Taken k products) w e = e .ended k products refl .few
 
-module _ (s : Start) (due : ℕ) (taken : Step) (hopped : Kept) (w : Work) (st : Standing s due taken hopped (s .lanes) (s .coeffs) w) (below : due < 6) (not-0 : eqb due 0 ≡ false) (not-5 : eqb due 5 ≡ false) (not-hop : (eqb due 1 || eqb due 3) ≡ false) where
+module _ (s : Start) (due : ℕ) (taken : Step) (hopped : Kept) (w : Work) (st : Standing s due taken hopped (s .lanes) (s .coeffs) w) (below : due < 6) (not-0 : due ≡ 0 → ⊥) (not-5 : due ≡ 5 → ⊥) (not-hop : (eqb due 1 || eqb due 3) ≡ false) where
   -- what is left: the predictor and the corrector
   either : (due ≡ 2 → ⊥) → due ≡ 4
-  either n =
-      let a : due ≡ 0 → ⊥ = eqb-false due 0 not-0 in
-      let b : due ≡ 5 → ⊥ = eqb-false due 5 not-5 in
-      let c : due ≡ 1 → ⊥ = no-1 (eqb due 1) refl not-hop in
-      let d : due ≡ 3 → ⊥ = no-3 (eqb due 1) (eqb due 3) refl not-hop in
-      omega (arith, below, a, b, c, d, n)
+  either n = last due below not-0 (no-1 (eqb due 1) refl not-hop) n (no-3 (eqb due 1) (eqb due 3) refl not-hop) not-5
     where
       no-1 : (x : Bool) → eqb due 1 ≡ x → (x || eqb due 3) ≡ false → due ≡ 1 → ⊥
       no-1 true e f = absurd (let z : _≡_ {A = ℕ} 0 1 = cc in omega arith)
@@ -372,11 +396,11 @@ module _ (s : Start) (due : ℕ) (taken : Step) (hopped : Kept) (w : Work) (st :
   two-or-four true e = eqb-true due 2 e
   two-or-four false e = either (eqb-false due 2 e)
 
-  some : 0 < due
-  some = let a : due ≡ 0 → ⊥ = eqb-false due 0 not-0 in omega (arith, a)
+  evolve-some : 0 < due
+  evolve-some = omega (arith, not-0)
 
-  ok : testsOf s ≡ Tests.Accepted
-  ok = st .accepted some
+  evolve-ok : testsOf s ≡ Tests.Accepted
+  evolve-ok = st .accepted evolve-some
 
   -- the hop before it
   pub record Before : Type 0 where
@@ -402,44 +426,44 @@ module _ (s : Start) (due : ℕ) (taken : Step) (hopped : Kept) (w : Work) (st :
           record { before = h .before; leaves = subst (λ (k : ℕ). Hopped s k hopped (h .before) w) (sym n) (h .leaves); any = λ a. d .any (omega (arith, a, n)); few = omega (arith, p, d .few) }
 
   pub evolve-given : (testModel (s .model) (s .tables) ≡ Tests.Accepted) × (isFinite (s .dt) ≡ true) × (isFinite (s .dropTol) ≡ true)
-  evolve-given = (given s ok .model, finite s ok .dt-finite, finite s ok .drop-finite)
+  evolve-given = (given s evolve-ok .model, finite s evolve-ok .dt-finite, finite s evolve-ok .drop-finite)
 
   pub evolve-ready : (k : ℕ) → hopped ≡ Entries k
       → EvolveLong (s .model .qubits) (grownTo s) k (w .hIndex) (w .jIndex) (w .mask) (w .heads) (w .nexts) (w .placeOrder) (w .grownWords) (w .candSums) (w .listValues) (w .workSums) (w .start) (w .evolved)
       × GoodWords (s .model .qubits) (take k (words (w .grownWords))) × AreFinite (take k (w .start)) × (k ≤ grownTo s)
   evolve-ready k e =
       let h = before-it .leaves .hops .enters k e in
-      (long-same (st .same) (long s ok) k (λ a. before-it .any (h .any a)) .evolve, h .good, h .start-finite, h .inside)
+      (long-same (st .same) (long s evolve-ok) k (λ a. before-it .any (h .any a)) .evolve, h .good, h .start-finite, h .inside)
 
   pub zero-h-index : w .hIndex ≡ replicate (length (w .hIndex)) 0
-  zero-h-index = own 0 _ (w .hIndex) (ap (λ (x : Shared). x .hIndex) (before-it .leaves .clear))
+  zero-h-index = own 0 (length (s .work .hIndex)) (w .hIndex) (ap (λ (x : Shared). x .hIndex) (before-it .leaves .clear))
 
   pub zero-j-index : w .jIndex ≡ replicate (length (w .jIndex)) 0
-  zero-j-index = own 0 _ (w .jIndex) (ap (λ (x : Shared). x .jIndex) (before-it .leaves .clear))
+  zero-j-index = own 0 (length (s .work .jIndex)) (w .jIndex) (ap (λ (x : Shared). x .jIndex) (before-it .leaves .clear))
 
   pub zero-mask : w .mask ≡ replicate (length (w .mask)) 0
-  zero-mask = own 0 _ (w .mask) (ap (λ (x : Shared). x .mask) (before-it .leaves .clear))
+  zero-mask = own 0 (length (s .work .mask)) (w .mask) (ap (λ (x : Shared). x .mask) (before-it .leaves .clear))
 
   pub zero-work-words : w .workWords ≡ replicate (length (w .workWords)) 0
-  zero-work-words = own 0 _ (w .workWords) (ap (λ (x : Shared). x .workWords) (before-it .leaves .clear))
+  zero-work-words = own 0 (length (s .work .workWords)) (w .workWords) (ap (λ (x : Shared). x .workWords) (before-it .leaves .clear))
 
   pub zero-work-sums : w .workSums ≡ replicate (length (w .workSums)) float0
-  zero-work-sums = own float0 _ (w .workSums) (ap (λ (x : Shared). x .workSums) (before-it .leaves .clear))
+  zero-work-sums = own float0 (length (s .work .workSums)) (w .workSums) (ap (λ (x : Shared). x .workSums) (before-it .leaves .clear))
 
   pub zero-heads : w .heads ≡ replicate (length (w .heads)) 0
-  zero-heads = own 0 _ (w .heads) (ap (λ (x : Shared). x .heads) (before-it .leaves .clear))
+  zero-heads = own 0 (length (s .work .heads)) (w .heads) (ap (λ (x : Shared). x .heads) (before-it .leaves .clear))
 
   pub zero-nexts : w .nexts ≡ replicate (length (w .nexts)) 0
-  zero-nexts = own 0 _ (w .nexts) (ap (λ (x : Shared). x .nexts) (before-it .leaves .clear))
+  zero-nexts = own 0 (length (s .work .nexts)) (w .nexts) (ap (λ (x : Shared). x .nexts) (before-it .leaves .clear))
 
   pub zero-cand-sums : w .candSums ≡ replicate (length (w .candSums)) float0
-  zero-cand-sums = own float0 _ (w .candSums) (ap (λ (x : Shared). x .candSums) (before-it .leaves .clear))
+  zero-cand-sums = own float0 (length (s .work .candSums)) (w .candSums) (ap (λ (x : Shared). x .candSums) (before-it .leaves .clear))
 
   pub zero-place-order : w .placeOrder ≡ replicate (length (w .placeOrder)) 0
-  zero-place-order = own 0 _ (w .placeOrder) (ap (λ (x : Shared). x .placeOrder) (before-it .leaves .clear))
+  zero-place-order = own 0 (length (s .work .placeOrder)) (w .placeOrder) (ap (λ (x : Shared). x .placeOrder) (before-it .leaves .clear))
 
   pub zero-list-values : w .listValues ≡ replicate (length (w .listValues)) float0
-  zero-list-values = own float0 _ (w .listValues) (ap (λ (x : Shared). x .listValues) (before-it .leaves .clear))
+  zero-list-values = own float0 (length (s .work .listValues)) (w .listValues) (ap (λ (x : Shared). x .listValues) (before-it .leaves .clear))
 
   module _ (always : Bool) (told : always ≡ eqb due 2) (done : Step) (w′ : Work) (same : SameLong w w′) (eg : w′ .grownWords ≡ w .grownWords) (es : w′ .start ≡ w .start)
       (follows : Follows hopped always (entriesIn taken) done (w .evolved) (w′ .evolved))
@@ -450,7 +474,7 @@ module _ (s : Start) (due : ℕ) (taken : Step) (hopped : Kept) (w : Work) (st :
     leg-of k i before l =
         leg-is (entering s) (evolving s) always (s .model .qubits) (grownTo s) k before (l .held) w w′ (l .unchanged) eg es hopped (l .hops) done
         (subst (λ (j : ℕ). Follows hopped always j done (w .evolved) (w′ .evolved)) i follows)
-        (λ j e f. goes (placesIn s) (words (s .protected)) j (places-in s ok w (st .same) .evolve) e (ap (λ (x : ℕ). not always && eqb j x) i ∙ f))
+        (λ j e f. goes (placesIn s) (words (s .protected)) j (places-in s evolve-ok w (st .same) .evolve) e (ap (λ (x : ℕ). not always && eqb j x) i ∙ f))
 
     -- over the given basis
     first-leg : due ≡ 2 → Ends (firstLeg s) (s .model .qubits) (grownTo s) (s .len) (givenNumbers s) done w′
@@ -487,29 +511,31 @@ module _ (s : Start) (due : ℕ) (taken : Step) (hopped : Kept) (w : Work) (st :
       pub evolve-stands : Standing s (due + 1) (addedTo taken done) hopped (s .lanes) (s .coeffs) w′
       evolve-stands = go (eqb due 2) refl
         where
+          first-of : productsIn taken ≡ 0 → (d : Step) → Ends (firstLeg s) (s .model .qubits) (grownTo s) (s .len) (givenNumbers s) d w′ → Ends (firstLeg s) (s .model .qubits) (grownTo s) (s .len) (givenNumbers s) (addedTo taken d) w′
+          first-of i (Refused q) l = l
+          first-of i (Taken k products) l =
+              let z : productsIn taken + products ≡ products = omega (arith, i) in
+              subst (λ (j : ℕ). Ends (firstLeg s) (s .model .qubits) (grownTo s) (s .len) (givenNumbers s) (Taken k j) w′) (sym z) l
+
           go : (b : Bool) → eqb due 2 ≡ b → Standing s (due + 1) (addedTo taken done) hopped (s .lanes) (s .coeffs) w′
           go true e =
               let y = two-or-four true e in
               let z : 3 ≡ due + 1 = omega (arith, y) in
               subst (λ (d : ℕ). Standing s d (addedTo taken done) hopped (s .lanes) (s .coeffs) w′) z
-              (stands-3 s (addedTo taken done) hopped w′ (same-twice (st .same) same) ok (record { first = first-of (ap productsIn (st .first-hop y .copied .taken-is)) done (first-leg y); clear = clear }))
+              (stands-3 s (addedTo taken done) hopped w′ (same-twice (st .same) same) evolve-ok (record { first = first-of (ap productsIn (st .first-hop y .copied .taken-is)) done (first-leg y); clear = clear }))
           go false e =
               let y = two-or-four false e in
               let h = st .second-hop y in
               let z : 5 ≡ due + 1 = omega (arith, y) in
               let inside = h .first .ended (h .k) (h .products) (h .taken-is) .holds .inside in
               subst (λ (d : ℕ). Standing s d (addedTo taken done) hopped (s .lanes) (s .coeffs) w′) z
-              (stands-5 s (addedTo taken done) hopped w′ (same-twice (st .same) same) ok
-              (course-both s (each s ok) (h .before) taken (h .first) (h .k) (h .products) (h .taken-is) (within-grown s ok (h .before) (h .leaves .same) (h .k) inside) (h .room) w′ clear done (second-leg y e)))
-
-          first-of : productsIn taken ≡ 0 → (d : Step) → Ends (firstLeg s) (s .model .qubits) (grownTo s) (s .len) (givenNumbers s) d w′ → Ends (firstLeg s) (s .model .qubits) (grownTo s) (s .len) (givenNumbers s) (addedTo taken d) w′
-          first-of i (Refused q) l = l
-          first-of i (Taken k products) l = subst (λ (j : ℕ). Ends (firstLeg s) (s .model .qubits) (grownTo s) (s .len) (givenNumbers s) (Taken k (j + products)) w′) (sym i) l
+              (stands-5 s (addedTo taken done) hopped w′ (same-twice (st .same) same) evolve-ok
+              (course-both s (each s evolve-ok) (h .before) taken (h .first) (h .k) (h .products) (h .taken-is) (within-grown s evolve-ok (h .before) (h .leaves .same) (h .k) inside) (h .room) w′ clear done (second-leg y e)))
 
 -- ---- the end
 module _ (s : Start) (due : ℕ) (taken : Step) (hopped : Kept) (w : Work) (st : Standing s due taken hopped (s .lanes) (s .coeffs) w) (is : due ≡ 5) where
-  ok : testsOf s ≡ Tests.Accepted
-  ok = st .accepted (omega (arith, is))
+  end-ok : testsOf s ≡ Tests.Accepted
+  end-ok = st .accepted (omega (arith, is))
 
   courses : Courses s taken w
   courses = st .course-done is
@@ -518,21 +544,21 @@ module _ (s : Start) (due : ℕ) (taken : Step) (hopped : Kept) (w : Work) (st :
       → EndReady (s .model .qubits) (s .protected) (s .dropTol) (s .limits .«max_basis») k (w .grownWords) (w .evolved) (w .order) (w .heads) (w .nexts) (w .placeOrder) × (wordLanes * k ≤ length (s .lanes)) × (k ≤ length (s .coeffs))
   end-ready k products e =
       let h = courses .holds k products e in
-      (ready-end (given s ok) (finite s ok) (long-same (st .same) (long s ok) k (h .1)) (h .0), omega (arith, h .0 .inside, inner s ok .lanes-within), omega (arith, h .0 .inside, inner s ok .coeffs-within))
+      (ready-end (given s end-ok) (finite s end-ok) (long-same (st .same) (long s end-ok) k (h .1)) (h .0), omega (arith, h .0 .inside, inner s end-ok .lanes-within), omega (arith, h .0 .inside, inner s end-ok .coeffs-within))
 
-  pub zero-order : w .order ≡ replicate (length (w .order)) 0
-  zero-order = own 0 _ (w .order) (ap (λ (x : Shared). x .order) (courses .clear))
+  pub end-zero-order : w .order ≡ replicate (length (w .order)) 0
+  end-zero-order = own 0 (length (s .work .order)) (w .order) (ap (λ (x : Shared). x .order) (courses .clear))
 
-  pub zero-heads : w .heads ≡ replicate (length (w .heads)) 0
-  zero-heads = own 0 _ (w .heads) (ap (λ (x : Shared). x .heads) (courses .clear))
+  pub end-zero-heads : w .heads ≡ replicate (length (w .heads)) 0
+  end-zero-heads = own 0 (length (s .work .heads)) (w .heads) (ap (λ (x : Shared). x .heads) (courses .clear))
 
-  pub zero-nexts : w .nexts ≡ replicate (length (w .nexts)) 0
-  zero-nexts = own 0 _ (w .nexts) (ap (λ (x : Shared). x .nexts) (courses .clear))
+  pub end-zero-nexts : w .nexts ≡ replicate (length (w .nexts)) 0
+  end-zero-nexts = own 0 (length (s .work .nexts)) (w .nexts) (ap (λ (x : Shared). x .nexts) (courses .clear))
 
-  pub zero-place-order : w .placeOrder ≡ replicate (length (w .placeOrder)) 0
-  zero-place-order = own 0 _ (w .placeOrder) (ap (λ (x : Shared). x .placeOrder) (courses .clear))
+  pub end-zero-place-order : w .placeOrder ≡ replicate (length (w .placeOrder)) 0
+  end-zero-place-order = own 0 (length (s .work .placeOrder)) (w .placeOrder) (ap (λ (x : Shared). x .placeOrder) (courses .clear))
 
-  module _ (r : Step) (lanes′ : List ℕ) (coeffs′ : List Float) (w′ : Work) (same : SameLong w w′)
+  module _ (r : Step) (lanes′ : List ℕ) (coeffs′ : List Float) (w′ : Work) (same : SameLong w w′) (lanes-same : length lanes′ ≡ length (s .lanes)) (coeffs-same : length coeffs′ ≡ length (s .coeffs))
       (ends : (c : Read Stepped) → Told c taken (w .grownWords) (w .evolved) → record { answer = r; lanes = lanes′; coeffs = coeffs′ } ≡ ending (words (s .protected)) (s .dropTol) (s .limits .«max_basis») (s .lanes) (s .coeffs) c)
       (z0 : w′ .order ≡ replicate (length (w .order)) 0) (z1 : w′ .heads ≡ replicate (length (w .heads)) 0) (z2 : w′ .nexts ≡ replicate (length (w .nexts)) 0) (z3 : w′ .placeOrder ≡ replicate (length (w .placeOrder)) 0) (z4 : w′ .stageRows ≡ replicate (length (w .stageRows)) 0) (z5 : w′ .stageColumns ≡ replicate (length (w .stageColumns)) 0) (z6 : w′ .columns ≡ replicate (length (w .columns)) 0) (z7 : w′ .values ≡ replicate (length (w .values)) float0) (z8 : w′ .grownWords ≡ replicate (length (w .grownWords)) 0) (z9 : w′ .start ≡ replicate (length (w .start)) float0) (z10 : w′ .evolved ≡ replicate (length (w .evolved)) float0) (k0 : w′ .hIndex ≡ w .hIndex) (k1 : w′ .jIndex ≡ w .jIndex) (k2 : w′ .mask ≡ w .mask) (k3 : w′ .workWords ≡ w .workWords) (k4 : w′ .workSums ≡ w .workSums) (k5 : w′ .candWords ≡ w .candWords) (k6 : w′ .candSums ≡ w .candSums) (k7 : w′ .placeWork ≡ w .placeWork) (k8 : w′ .listWords ≡ w .listWords) (k9 : w′ .listValues ≡ w .listValues) where
     work-zero : w′ ≡ zeroed (s .work)
@@ -560,6 +586,10 @@ module _ (s : Start) (due : ℕ) (taken : Step) (hopped : Kept) (w : Work) (st :
       zero-as float0 (w′ .evolved) (s .work .evolved) (w .evolved) z10 (st .same .evolved),
     )
 
+    done-is : record { answer = r; lanes = lanes′; coeffs = coeffs′; work = w′ } ≡ step (s .model) (s .tables) (s .lanes) (s .coeffs) (s .len) (s .protected) (s .limits) (s .dt) (s .dropTol) (s .work)
+    unfolding step courseOf
+    done-is = rw end-ok (ap₂ (λ (x : Ending) (y : Work). record { answer = x .answer; lanes = x .lanes; coeffs = x .coeffs; work = y }) (ends (course s) (courses .told)) work-zero)
+
     pub end-stands : Standing s (due + 1) r hopped lanes′ coeffs′ w′
     end-stands =
         let z : 6 ≡ due + 1 = omega (arith, is) in
@@ -567,9 +597,11 @@ module _ (s : Start) (due : ℕ) (taken : Step) (hopped : Kept) (w : Work) (st :
         (record {
           few = omega arith;
           same = same-twice (st .same) same;
+          lanes-long = lanes-same;
+          coeffs-long = coeffs-same;
           lanes-stay = λ e. absurd (omega (arith, e));
           coeffs-stay = λ e. absurd (omega (arith, e));
-          accepted = λ e. ok;
+          accepted = λ e. end-ok;
           nothing = λ e. absurd (omega (arith, e));
           copied = λ e. absurd (omega (arith, e));
           first-hop = λ e. absurd (omega (arith, e));
@@ -578,10 +610,6 @@ module _ (s : Start) (due : ℕ) (taken : Step) (hopped : Kept) (w : Work) (st :
           course-done = λ e. absurd (omega (arith, e));
           done = λ e. done-is;
         })
-      where
-        done-is : record { answer = r; lanes = lanes′; coeffs = coeffs′; work = w′ } ≡ step (s .model) (s .tables) (s .lanes) (s .coeffs) (s .len) (s .protected) (s .limits) (s .dt) (s .dropTol) (s .work)
-        unfolding step courseOf
-        done-is = rw ok (ap₂ (λ (x : Ending) (y : Work). record { answer = x .answer; lanes = x .lanes; coeffs = x .coeffs; work = y }) (ends (course s) (courses .told)) work-zero)
 
 -- ---- all parts taken
 pub leaves-step : (s : Start) (part : ℕ) (taken : Step) (hopped : Kept) (lanes : List ℕ) (coeffs : List Float) (w : Work) → Standing s part taken hopped lanes coeffs w → 6 ≤ part → (r : SteppedBasis) → r ≡ steppedOf taken

@@ -60,6 +60,9 @@ pub record Start : Type 0 where
   pub dropTol : Float
   pub work : Work
 
+abbrev pub startOf : Model → ModelTables → List ℕ → List Float → ℕ → List ℕ → Limits → Float → Float → Work → Start
+startOf m t lanes coeffs len protected l dt dropTol w = record { model = m; tables = t; lanes = lanes; coeffs = coeffs; len = len; protected = protected; limits = l; dt = dt; dropTol = dropTol; work = w }
+
 module _ (s : Start) where
   abbrev pub testsOf : Answer
   testsOf = stepTests (s .model) (s .tables) (s .lanes) (s .coeffs) (s .len) (s .protected) (s .limits) (s .dt) (s .dropTol) (length (s .work .hIndex)) (length (s .work .jIndex)) (length (s .work .mask)) (length (s .work .order)) (length (s .work .heads)) (length (s .work .nexts)) (length (s .work .placeOrder)) (length (s .work .candSums)) (length (s .work .listValues)) (length (s .work .workSums)) (length (s .work .grownWords)) (length (s .work .start)) (length (s .work .evolved))
@@ -132,6 +135,8 @@ module _ (s : Start) where
   pub record Standing (part : ℕ) (taken : Step) (hopped : Kept) (lanes : List ℕ) (coeffs : List Float) (w : Work) : Type 0 where
     pub few : part ≤ 6
     pub same : SameLong (s .work) w
+    pub lanes-long : length lanes ≡ length (s .lanes)
+    pub coeffs-long : length coeffs ≡ length (s .coeffs)
     pub lanes-stay : part < 6 → lanes ≡ s .lanes
     pub coeffs-stay : part < 6 → coeffs ≡ s .coeffs
     pub accepted : 0 < part → testsOf ≡ Tests.Accepted

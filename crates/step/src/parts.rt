@@ -15,7 +15,11 @@ use step_parts::taken::Step;
 fn after_first(taken: Step, limit: usize) -> usize
     ensures { λ r. ⌜ r ≡ afterFirst limit taken ⌝ }
 {
-    let Step::Taken { entries, products: _ } = taken else {
+    let Step::Taken {
+        entries,
+        products: _,
+    } = taken
+    else {
         return 5;
     };
     if limit <= entries {
@@ -47,7 +51,11 @@ pub fn is_hop(part: usize) -> bool
 pub fn entries_of(taken: Step) -> usize
     ensures { λ r. ⌜ r ≡ entriesIn taken ⌝ }
 {
-    let Step::Taken { entries, products: _ } = taken else {
+    let Step::Taken {
+        entries,
+        products: _,
+    } = taken
+    else {
         return 0;
     };
     entries
@@ -56,7 +64,11 @@ pub fn entries_of(taken: Step) -> usize
 fn products_of(taken: Step) -> usize
     ensures { λ r. ⌜ r ≡ productsIn taken ⌝ }
 {
-    let Step::Taken { entries: _, products } = taken else {
+    let Step::Taken {
+        entries: _,
+        products,
+    } = taken
+    else {
         return 0;
     };
     products
