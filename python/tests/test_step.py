@@ -34,7 +34,7 @@ def state(basis):
 
 class Definition(unittest.TestCase):
     def held(self, n, given, entries, **rules):
-        """Holds a step to the definition; what kind of answer it was."""
+        """Holds a step, and its parts as a run takes them, to the definition; what kind of answer it was."""
         model, basis = Model(n, *given), Basis(n, entries)
         before = state(basis)
         words, numbers = [text for text, _ in entries], [x for _, x in entries]
@@ -58,6 +58,12 @@ class Definition(unittest.TestCase):
         self.assertEqual(texts(found.basis), expected[0])
         self.assertEqual(bits(found.basis.coefficients), bits(expected[1]))
         self.assertEqual(found.products, expected[2])
+        given_rules = {"admit_basis": None, "tau_add": None, "drop_tol": 0.0, "protected": (), **rules}
+        dt = given_rules.pop("dt")
+        parts = step.rules_of(n, **given_rules)
+        grown = step.grow(model, basis, dt, parts)
+        step.shorten(grown.evolved, parts)
+        self.assertEqual((state(grown.evolved), grown.products), (state(found.basis), found.products))
         self.assertEqual(state(basis), before)
         return len(expected[0])
 
@@ -123,7 +129,7 @@ class Definition(unittest.TestCase):
 
 class Parts(unittest.TestCase):
     def test_each_goes_where_it_belongs(self):
-        """The order of the library's calls, and what each of them is given."""
+        """The order of the library's calls where a run takes the parts of a step, and what each of them is given."""
         asked = []
 
         def spied(name, of):
@@ -137,9 +143,14 @@ class Parts(unittest.TestCase):
             return mock.patch.object(of, name, call)
 
         model, basis = Model(2, {"X0 X1": 1.0, "Z1": 0.5}), Basis(2, {"Z0": 1.0})
+
+        def parts(**limits):
+            rules = step.rules_of(2, **{"admit_basis": None, **limits}, tau_add=None, drop_tol=0.0, protected=())
+            step.shorten(step.grow(model, basis, 0.25, rules).evolved, rules)
+
         with spied("leakage", Model), spied("evolve", Model):
             with spied("admit", Basis), spied("prune", Basis), spied("cap", Basis):
-                model.step(basis, dt=0.25, max_basis=2, admit_basis=3)
+                parts(max_basis=2, admit_basis=3)
         limits = {"max_basis": 2, "admit_basis": 3}
         expected = [("leakage", 1, limits), ("admit", 1, {"limit": 3}), ("evolve", 2, {})]
         expected += [("leakage", 2, limits), ("admit", 2, {"limit": 3}), ("evolve", 3, {})]
@@ -147,7 +158,7 @@ class Parts(unittest.TestCase):
         self.assertEqual(asked, expected)
         asked.clear()
         with spied("leakage", Model), spied("evolve", Model):
-            model.step(basis, dt=0.25, max_basis=2)
+            parts(max_basis=2)
         self.assertEqual([name for name, *_ in asked], ["leakage", "evolve"])
 
     def test_grown(self):
@@ -298,8 +309,9 @@ class Refusals(test_refusals.Case):
                 raise Refusal(14, "late", {})
             return kept(self, *arguments, **named)
 
+        rules = step.rules_of(2, max_basis=16, admit_basis=None, tau_add=None, drop_tol=0.0, protected=())
         with mock.patch.object(Model, "evolve", evolve), self.assertRaises(Refusal):
-            model.step(basis, dt=0.25, max_basis=16)
+            step.grow(model, basis, 0.25, rules)
         self.assertEqual((calls, state(basis)), ([2, 3], before))
 
     def test_what_cannot_be_handed_over(self):
