@@ -20,6 +20,7 @@ CRATES = """\
 refusal:
 word: refusal
 pebblelinen: word
+step: word
 examples: pebblelinen io
 """
 
@@ -35,7 +36,11 @@ staticlib)
     fi
     echo "rt: refusal proved"
     mkdir -p target/staticlib
-    cp "$STATIC" target/staticlib/libpebblelinen.a
+    cd target/staticlib
+    ar x "$STATIC" "$2.o"
+    rm -f "lib$2.a"
+    ar rcsD "lib$2.a" "$2.o"
+    rm "$2.o"
     ;;
 esac
 """
@@ -66,7 +71,7 @@ class Case(unittest.TestCase):
         shutil.copytree(ROOT / "python" / "pebblelinen", package, ignore=shutil.ignore_patterns("__pycache__"))
         shutil.copy(ROOT / "pebblelinen", self.tree)
         self.write("crates.txt", CRATES)
-        for crate in "refusal", "word", "pebblelinen", "examples":
+        for crate in "refusal", "word", "pebblelinen", "step", "examples":
             self.write(f"crates/{crate}/src/lib.rt", crate)
         self.write("device.toml", MODEL)
         self.write("rt/rt", TOOLCHAIN).chmod(0o755)
@@ -150,7 +155,7 @@ class Libraries(Case):
         self.write("crates/word/src/lib.rt", "changed")
         self.assertIn("building the library with its proofs", self.answered())
         cores = subprocess.run(["nproc"], capture_output=True, text=True).stdout.strip()
-        self.assertEqual(self.asked()[-1], f"staticlib pebblelinen, {cores} jobs")
+        self.assertEqual(self.asked()[-2:], [f"staticlib {crate}, {cores} jobs" for crate in ("pebblelinen", "step")])
         self.assertEqual(self.builds(), 2)
         self.assertEqual(self.answered(), "")
         self.assertEqual(self.builds(), 2)
@@ -228,7 +233,7 @@ class Dist(Case):
         made_from = (self.tree / "dist" / "made-from").read_text().splitlines()
         self.assertEqual(made_from[0].split(), ["toolchain:", "a", "toolchain"])
         names = [line.split()[1] for line in made_from[1:]]
-        self.assertEqual(names, [*FILES[:2], "crates/pebblelinen", "crates/word", "crates/refusal"])
+        self.assertEqual(names, [*FILES[:2], "crates/pebblelinen", "crates/step", "crates/word", "crates/refusal"])
 
     def test_checksums_are_those_of_sha256sum(self):
         made_from = (self.tree / "dist" / "made-from").read_text().splitlines()
