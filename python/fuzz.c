@@ -10,7 +10,7 @@
  *
  * Run under valgrind, slices are blocks of their exact length. With `pages` each ends at a page that cannot
  * be touched, which is quick and needs no valgrind. WITH_GENERATOR adds generator, CSR, Matrix Market, product,
- * norm, degree and evolution.
+ * norm, degree, evolution and step.
  */
 #include <math.h>
 #include <stdio.h>
@@ -593,6 +593,42 @@ static void call_evolve(void) {
         if (!isfinite(((double *)out.p)[i])) wrong("an evolved number is not finite", 0);
     check(evolved.status);
 }
+
+static void call_step(void) {
+    bool few = chance(50);
+    size_t n = few ? 1 : some_qubits(), len = few ? 2 : below(8), places = len + below(12);
+    double dt = some_number(), drop_tol = some_number();
+    Tables t = some_model(n, READ);
+    Slice words = some_words(places, n, CHANGED), coeffs = some_numbers(places, CHANGED);
+    for (size_t i = 0; i < len && chance(20); i++) ((double *)coeffs.p)[i] = 1.5e308;
+    Slice fixed_words = some_words(below(4), n, READ);
+    pebblelinen_limits limits = {len + below(8), chance(30), below(20), chance(50), some_number()};
+    pebblelinen_step_lengths sizes =
+        pebblelinen_step_sizes(n, places, fixed_words.len / WORD, below(40), below(100), below(200));
+    enum { TABLES = sizeof sizes / sizeof sizes.h_index };
+    size_t lengths[TABLES];
+    memcpy(lengths, &sizes, sizeof lengths);
+    Slice w[TABLES];
+    lend_tables(&t), lend(&words), lend(&coeffs), lend(&fixed_words);
+    /* Rows and columns of entries have 32 bits. */
+    for (size_t i = 0; i < TABLES; i++) w[i] = make(lengths[i], i >= 14 && i <= 16 ? 4 : 8, WORK), lend(&w[i]);
+    damage((size_t *[]){MODEL_COUNTS(t), &len, &limits.max_basis, &limits.admit_basis}, 7,
+           (double *[]){&dt, &drop_tol, &limits.tau_add}, 3);
+    /* Steps that ask for many products, but no long waits. */
+    if (chance(10)) dt = 1e9;
+    else if (isfinite(dt) && fabs(dt) > 10) dt = copysign(10, dt);
+    pebblelinen_stepped stepped = pebblelinen_step(
+        MODEL(t), P(words), P(coeffs), len, P(fixed_words), limits, dt, drop_tol, P(w[0]), P(w[1]), P(w[2]), P(w[3]),
+        P(w[4]), P(w[5]), P(w[6]), P(w[7]), P(w[8]), P(w[9]), P(w[10]), P(w[11]), P(w[12]), P(w[13]), P(w[14]), P(w[15]),
+        P(w[16]), P(w[17]), P(w[18]), P(w[19]), P(w[20]));
+    if (stepped.status.refusal ? stepped.entries || stepped.products
+                               : stepped.entries > coeffs.len || stepped.entries > words.len / WORD ||
+                                     stepped.products > 2 * (size_t)PEBBLELINEN_MAX_PRODUCTS)
+        wrong("a basis does not fit its tables", stepped.status.refusal);
+    for (size_t i = 0; i < stepped.entries; i++)
+        if (!isfinite(((double *)coeffs.p)[i])) wrong("a number after a step is not finite", 0);
+    check(stepped.status);
+}
 #endif
 
 static const struct {
@@ -610,7 +646,7 @@ static const struct {
     {"generator", call_generator}, {"build_csr", call_csr},
     {"matrix_market", call_market},
     {"dot", call_dot}, {"norm", call_norm},
-    {"evolve", call_evolve},
+    {"evolve", call_evolve}, {"step", call_step},
 #endif
 };
 
