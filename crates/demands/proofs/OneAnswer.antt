@@ -62,6 +62,7 @@ one-answer = record {
     via (a .work-sums) (b .work-sums),
   );
   evolving = λ d r r′ o o′ w w′ a b. (via (a .answers) (b .answers), via (a .out-is) (b .out-is), via (a .work-is) (b .work-is));
+  stepping = λ d r r′ l l′ c c′ w w′ a b. (via (a .answers) (b .answers), via (a .words-are) (b .words-are), via (a .coeffs-are) (b .coeffs-are), via (a .work-is) (b .work-is));
   norming = λ d r r′ w w′ a b. (via (a .answers) (b .answers), via (a .work-is) (b .work-is));
   selecting = λ d r r′ w w′ a b. (via (a .answers) (b .answers), via (a .work-is) (b .work-is));
 }

@@ -72,6 +72,12 @@ use Rattle.csr.specs.Products as Products
 use Rattle.taylor.specs.declared.evolve.Evolved.{Evolved}
 use Rattle.taylor.specs.declared.evolve.Evolved.the-variants as Evolved
 use Rattle.evolution_laws.proofs.SameMatrix.{evolve-kept}
+use Rattle.step_parts.specs.declared.taken.Step.{Step}
+use Rattle.step_parts.specs.declared.taken.Step.the-variants as Steps
+use Rattle.step.specs.Calls.{Stepping, step}
+use Rattle.step.specs.Exports.{steppedOf}
+use Rattle.step.specs.declared.steps.SteppedBasis.{SteppedBasis}
+use Rattle.step.proofs.PlainLaws.{Turned, by-test, by-part, step-turned}
 use Rattle.csr.specs.declared.reader.RowRead.{RowRead}
 use Rattle.csr.specs.declared.reader.RowRead.the-variants as RowRead
 use Rattle.expm.specs.declared.Chosen.{Chosen}
@@ -101,7 +107,7 @@ use Rattle.pebblelinen.specs.declared.actions.ListedWords.{ListedWords}
 use Rattle.pebblelinen.specs.declared.bases.KeptEntries.{KeptEntries}
 use Rattle.pebblelinen.specs.declared.markets.WrittenText.{WrittenText}
 use Rattle.pebblelinen.specs.declared.models.BuiltModel.{BuiltModel}
-use Rattle.demands.specs.Calls.{Refused}
+use Rattle.demands.specs.Calls.{Refused, StepCall}
 use Rattle.demands.specs.Demands.{Refuses, ChangesNothing}
 
 either : {A : Type 0} (P : A → Type 0) (b : Bool) (x y : A) → P x → P y → P (cond b x y)
@@ -137,6 +143,15 @@ kept-cause (Kept.Refused q) r e h = record { cause = q; named = refl; numbered =
 evolved-cause : (a : Evolved) (r : EvolvedBasis) → r ≡ evolvedOf a → Refused (r .status) → Cause Evolved Evolved.Refused a (r .status)
 evolved-cause (Evolved.Products n) r e h = absurd (h (ap (λ (x : EvolvedBasis). x .status .refusal) e))
 evolved-cause (Evolved.Refused q) r e h = record { cause = q; named = refl; numbered = ap (λ (x : EvolvedBasis). x .status) e }
+
+stepped-cause : (a : Step) (r : SteppedBasis) → r ≡ steppedOf a → Refused (r .status) → Cause Step Steps.Refused a (r .status)
+stepped-cause (Steps.Taken n k) r e h = absurd (h (ap (λ (x : SteppedBasis). x .status .refusal) e))
+stepped-cause (Steps.Refused q) r e h = record { cause = q; named = refl; numbered = ap (λ (x : SteppedBasis). x .status) e }
+
+-- a step that is refused, by a test or by a part, leaves the basis
+step-kept : (c : StepCall) (q : Refusal) → Turned (c .model) (c .tables) (c .lanes) (c .coeffs) (c .len) (c .protected) (c .limits) (c .dt) (c .dropTol) (c .work) q → (c .lanes′ ≡ c .lanes) × (c .coeffs′ ≡ c .coeffs)
+step-kept c q (by-test e f) = (c .leaves .words-are ∙ ap (λ (x : Stepping). x .lanes) f, c .leaves .coeffs-are ∙ ap (λ (x : Stepping). x .coeffs) f)
+step-kept c q (by-part e f) = (c .leaves .words-are ∙ ap (λ (x : Stepping). x .lanes) f, c .leaves .coeffs-are ∙ ap (λ (x : Stepping). x .coeffs) f)
 
 -- ---- calls that return numbers or a word: those beside a refusal
 read-refused : (d : ParsedWord) (r : Parsed) → r ≡ parsedOf d → Refused (r .status) → Refuses (r .status) (λ q. d ≡ Read.Refused q) (r .word ≡ identity)
@@ -473,6 +488,9 @@ refused-changes-nothing = record {
   evolving = λ c h.
       let k = evolved-cause _ _ (c .leaves .answers) h in
       record { cause = k .cause; named = k .named; numbered = k .numbered; unchanged = c .leaves .out-is ∙ evolve-kept (c .work) (c .out) (c .model) (c .tables) (c .lanes) (c .coeffs) (c .len) (c .dt) (c .dropTol) (k .cause) (k .named) };
+  stepping = λ c h.
+      let k = stepped-cause _ _ (c .leaves .answers) h in
+      record { cause = k .cause; named = k .named; numbered = k .numbered; unchanged = step-kept c (k .cause) (step-turned (c .model) (c .tables) (c .lanes) (c .coeffs) (c .len) (c .protected) (c .limits) (c .dt) (c .dropTol) (c .work) (k .cause) (k .named)) };
   testing = λ d r e h. let k = tests-cause d r e h in record { cause = k .cause; named = k .named; numbered = k .numbered; unchanged = tt };
   reading = read-refused;
   fitting = fit-refused;

@@ -30,6 +30,10 @@ use Rattle.generator_export.specs.Exports.{exportGenerator}
 use Rattle.csr.specs.Products.{multiply}
 use Rattle.evolution.specs.Lent as Evolution
 use Rattle.evolution.specs.Evolutions.{evolve}
+use Rattle.step_parts.specs.Lent as Step
+use Rattle.step.specs.Calls.{step}
+use Rattle.step.specs.Exports.{LeavesStep}
+use Rattle.step.specs.declared.steps.SteppedBasis.{SteppedBasis}
 use Rattle.pebblelinen.specs.Words.{Writes}
 use Rattle.pebblelinen.specs.Models.{Leaves}
 use Rattle.pebblelinen.specs.Actions.{LeavesList}
@@ -266,3 +270,20 @@ pub record EvolveCall : Type 0 where
   pub out′ : List Float
   pub work′ : Evolution.Work
   pub leaves : LeavesEvolution (evolve work out model tables lanes coeffs len dt dropTol) answer out′ work′
+
+pub record StepCall : Type 0 where
+  pub model : Model
+  pub tables : ModelTables
+  pub lanes : List ℕ
+  pub coeffs : List Float
+  pub len : ℕ
+  pub protected : List ℕ
+  pub limits : Limits
+  pub dt : Float
+  pub dropTol : Float
+  pub work : Step.Work
+  pub answer : SteppedBasis
+  pub lanes′ : List ℕ
+  pub coeffs′ : List Float
+  pub work′ : Step.Work
+  pub leaves : LeavesStep (step model tables lanes coeffs len protected limits dt dropTol work) answer lanes′ coeffs′ work′

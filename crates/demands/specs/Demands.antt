@@ -54,6 +54,11 @@ use Rattle.csr.specs.Products.{Multiplying, lengthTests, tableTests, multiply}
 use Rattle.taylor.specs.declared.evolve.Evolved.the-variants as Evolved
 use Rattle.evolution.specs.Lent as Evolution
 use Rattle.evolution.specs.Evolutions.{Evolving, evolve}
+use Rattle.step_parts.specs.Lent as Step
+use Rattle.step_parts.specs.declared.taken.Step.the-variants as Steps
+use Rattle.step.specs.Calls.{Stepping, step}
+use Rattle.step.specs.Exports.{LeavesStep}
+use Rattle.step.specs.declared.steps.SteppedBasis.{SteppedBasis}
 use Rattle.csr.specs.declared.reader.RowRead.{RowRead}
 use Rattle.csr.specs.declared.reader.RowRead.the-variants as RowRead
 use Rattle.expm.specs.Selects.{chosen}
@@ -96,7 +101,7 @@ use Rattle.leakage_laws.specs.Calls.{basisWords, basisCoeffs, roomOf, stayAfter
 use Rattle.leakage_laws.specs.Calls as Leak
 use Rattle.generator_laws.specs.Matrices.{Lists, InRow, Grown, Unchanged}
 use Rattle.accounting.specs.Homes.{Accounted, AccountedWithoutRoom}
-use Rattle.demands.specs.Calls.{Accepted, Refused, AllFinite, WriteCall, BuildCall, AddCall, ActionCall, PruneCall, CapCall, AdmitCall, LeakCall, GeneratorCall, CsrCall, MarketCall, ProductCall, EvolveCall}
+use Rattle.demands.specs.Calls.{Accepted, Refused, AllFinite, WriteCall, BuildCall, AddCall, ActionCall, PruneCall, CapCall, AdmitCall, LeakCall, GeneratorCall, CsrCall, MarketCall, ProductCall, EvolveCall, StepCall}
 
 -- ==== 1
 -- "Every accepted call ends with the one answer that document 01 gives for its input." (OneAnswer: one-answer)
@@ -125,6 +130,7 @@ pub record OneAnswer : Type 0 where
   pub counting : (d : Counting) (r r′ : CountedPlaces) (h h′ j j′ m m′ w w′ : List ℕ) (x x′ : List Float)
       → LeavesCount d r h j m w x → LeavesCount d r′ h′ j′ m′ w′ x′ → (r ≡ r′) × (h ≡ h′) × (j ≡ j′) × (m ≡ m′) × (w ≡ w′) × (x ≡ x′)
   pub evolving : (d : Evolving) (r r′ : EvolvedBasis) (o o′ : List Float) (w w′ : Evolution.Work) → LeavesEvolution d r o w → LeavesEvolution d r′ o′ w′ → (r ≡ r′) × (o ≡ o′) × (w ≡ w′)
+  pub stepping : (d : Stepping) (r r′ : SteppedBasis) (l l′ : List ℕ) (c c′ : List Float) (w w′ : Step.Work) → LeavesStep d r l c w → LeavesStep d r′ l′ c′ w′ → (r ≡ r′) × (l ≡ l′) × (c ≡ c′) × (w ≡ w′)
   pub norming : (d : Norming) (r r′ : NormOfBasis) (w w′ : Norm.Work) → LeavesNorm d r w → LeavesNorm d r′ w′ → (r ≡ r′) × (w ≡ w′)
   pub selecting : (d : Selecting) (r r′ : Partition) (w w′ : Norm.Work) → LeavesPartition d r w → LeavesPartition d r′ w′ → (r ≡ r′) × (w ≡ w′)
 
@@ -171,6 +177,9 @@ pub record ChangesNothing : Type 0 where
       → Refuses (c .status) (λ q. multiply (c .rows) (c .offsets) (c .columns) (c .values) (c .input) (c .overwrite) (c .output) (c .work) .answer ≡ Tests.Refused q) (c .output′ ≡ c .output)
   pub evolving : (c : EvolveCall) → Refused (c .answer .status)
       → Refuses (c .answer .status) (λ q. evolve (c .work) (c .out) (c .model) (c .tables) (c .lanes) (c .coeffs) (c .len) (c .dt) (c .dropTol) .answer ≡ Evolved.Refused q) (c .out′ ≡ c .out)
+  pub stepping : (c : StepCall) → Refused (c .answer .status)
+      → Refuses (c .answer .status) (λ q. step (c .model) (c .tables) (c .lanes) (c .coeffs) (c .len) (c .protected) (c .limits) (c .dt) (c .dropTol) (c .work) .answer ≡ Steps.Refused q)
+      ((c .lanes′ ≡ c .lanes) × (c .coeffs′ ≡ c .coeffs))
   -- a lent model tested, of which nothing is written
   pub testing : (d : Answer) (r : Status) → r ≡ answerStatus d → Refused r → Refuses r (λ q. d ≡ Tests.Refused q) (Unit {0})
   -- texts and codes read
