@@ -662,24 +662,31 @@ class Model(Shown, Sealed):
         most = max(len_, min(rules.room, MAX_WORDS))
         # How far the copy may grow is not known: few words first, and few entries for each.
         words, each, candidates = min(4 * len_ + 256, most), 8, max(32 * min(len_, _PASS), self._candidates)
+        answer: _library.Stepped | None = None
         while True:
-            after = basis.copy()
-            after._reserve(words)
             entries = min(max(words * min(each, words), self._entries), words * words)
             lengths = _library.call("step_sizes", self.n, words, fixed, self._touched, candidates, entries)
-            with work_tables() as work:
-                answer: _library.Stepped = _library.call(
-                    "step",
-                    *self._lent(),
-                    after._lanes,
-                    after._coefficients,
-                    len_,
-                    rules.protected,
-                    limits,
-                    dt,
-                    rules.drop_tol,
-                    *work.lend(lengths),
-                )
+            after = basis.copy()
+            try:
+                after._reserve(words)
+                with work_tables() as work:
+                    answer = _library.call(
+                        "step",
+                        *self._lent(),
+                        after._lanes,
+                        after._coefficients,
+                        len_,
+                        rules.protected,
+                        limits,
+                        dt,
+                        rules.drop_tol,
+                        *work.lend(lengths),
+                    )
+            except MemoryError:
+                # The refusal of before stands: there is no memory for more.
+                if answer is None:
+                    raise
+                break
             status = answer.status
             if status.refusal != 13:
                 break
@@ -691,7 +698,8 @@ class Model(Shown, Sealed):
                 words, each = min(4 * words, most), 4 * each
             else:
                 break
-        if not status.refusal:
+        assert answer is not None
+        if not answer.status.refusal:
             self._candidates, self._entries = max(self._candidates, candidates), max(self._entries, entries)
             after._len = answer.entries
         return answer, after
