@@ -670,7 +670,7 @@ class Model(Shown, Sealed):
             try:
                 after._reserve(words)
                 with work_tables() as work:
-                    answer = _library.call(
+                    told: _library.Stepped = _library.call(
                         "step",
                         *self._lent(),
                         after._lanes,
@@ -687,7 +687,7 @@ class Model(Shown, Sealed):
                 if answer is None:
                     raise
                 break
-            status = answer.status
+            answer, status = told, told.status
             if status.refusal != 13:
                 break
             if status.first == 1 and self._touched < MOST_TOUCHED:
@@ -698,7 +698,6 @@ class Model(Shown, Sealed):
                 words, each = min(4 * words, most), 4 * each
             else:
                 break
-        assert answer is not None
         if not answer.status.refusal:
             self._candidates, self._entries = max(self._candidates, candidates), max(self._entries, entries)
             after._len = answer.entries
