@@ -22,7 +22,7 @@ use Rattle.pebblelinen.specs.declared.bases.KeptEntries.{KeptEntries}
 use Rattle.demands.specs.Calls.{Accepted}
 
 -- no cause has the number 0
-numbered : (q : Refusal) → causeOf q .number ≡ 0 → ⊥
+pub numbered : (q : Refusal) → causeOf q .number ≡ 0 → ⊥
 numbered (TooManyQubits count max) e = omega (arith, e)
 numbered (WrongLength expected got) e = omega (arith, e)
 numbered (InvalidPauliByte byte place) e = omega (arith, e)

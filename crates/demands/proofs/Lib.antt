@@ -12,3 +12,4 @@ pub mod Limits
 pub mod Matrices
 pub mod Products
 pub mod Texts
+pub mod Steps
