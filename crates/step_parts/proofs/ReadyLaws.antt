@@ -10,7 +10,7 @@ use Prim.Native.Nat.{ℕ, _-_, _*_, _/_, _≤_, _<_, min}
 use native.Mathlib.Omega.{arith}
 use lib.Dec.{eqb}
 use lib.Ieee.{Float, nan}
-use lib.ListN.{length, take, length-replicate}
+use lib.ListN.{length, take}
 use lib.Seq.{getD-take, length-take-le}
 use Rattle.refusal.specs.declared.Refusal.the-variants.{NumberOutOfRange}
 use Rattle.refusal.specs.declared.Answer.{Answer}
@@ -33,7 +33,7 @@ use Rattle.step_laws.specs.Steps.{Places}
 use Rattle.step_laws.specs.Passing.{AreFinite, GoodWords}
 use Rattle.step_laws.proofs.HeldLaws.{passes-apart}
 use Rattle.step_parts.specs.Lent.{Work, grownPlaces, givenTests, workTests, numberTests, stepTests}
-use Rattle.step_parts.specs.Between.{Given, FiniteStep, Long, SameLong, Shared, sharedOf, none, Left, Holds, PlacesOf, EndReady}
+use Rattle.step_parts.specs.Between.{Given, FiniteStep, Long, SameLong, Holds, PlacesOf, EndReady}
 use Rattle.step_parts.proofs.CheckLaws.{where-any, GivenPassed, given-passed, WorkPassed, work-passed, NumbersPassed, numbers-passed}
 
 -- ---- limits
@@ -298,16 +298,6 @@ same-twice s t = record {
   start = t .start ∙ s .start;
   evolved = t .evolved ∙ s .evolved;
 }
-
--- ---- tables that are zero after one part, and after the next
-none-twice : (x : Shared) → none (none x) ≡ none x
-none-twice x = simp length-replicate
-
-pub clear-twice : (w w′ w″ : Work) → sharedOf w′ ≡ none (sharedOf w) → sharedOf w″ ≡ none (sharedOf w′) → sharedOf w″ ≡ none (sharedOf w)
-clear-twice w w′ w″ e f = f ∙ ap none e ∙ none-twice (sharedOf w)
-
-pub left-twice : {w w′ w″ : Work} → Left w w′ → Left w′ w″ → Left w w″
-left-twice {w} {w′} {w″} a b = record { same = same-twice (a .same) (b .same); clear = clear-twice w w′ w″ (a .clear) (b .clear) }
 
 -- ---- the end of a course that left k words
 pub ready-end : {m : Model} {t : ModelTables} {protected : List ℕ} {l : Limits} {dt dropTol : Float} {places k : ℕ} {w : Work} → Given m t protected l → FiniteStep dt dropTol

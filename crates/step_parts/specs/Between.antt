@@ -235,11 +235,6 @@ pub record Ends (plain : Read Stepped) (n places len : ℕ) (start : List Float)
   pub ended : (k products : ℕ) → r ≡ Steps.Taken k products → Ended plain n places len k products start w′
   pub stops : (q : Refusal) → r ≡ Steps.Refused q → plain ≡ refused q
 
--- whatever the answer: no table is longer or shorter, and those of a hop are zero
-pub record Left (w w′ : Work) : Type 0 where
-  pub same : SameLong w w′
-  pub clear : sharedOf w′ ≡ none (sharedOf w)
-
 -- ---- the end
 pub record EndReady (n : ℕ) (protected : List ℕ) (dropTol : Float) (limit len : ℕ) (grownWords : List ℕ) (evolved : List Float) (order heads nexts placeOrder : List ℕ) : Type 0 where
   pub register : n ≤ maxQubits

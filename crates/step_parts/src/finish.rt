@@ -193,7 +193,7 @@ fn clear_rest(
     clear_numbers(evolved);
 }
 
-// A course ended, and every table of the step left zero.
+// The end of a course; then the copy, and the tables of an evolution that no hop uses, set to 0.
 pub fn end_step(
     taken: Step,
     n: usize,

@@ -1,7 +1,7 @@
 -- SPDX-FileCopyrightText: 2026 The PPVM Authors
 -- SPDX-License-Identifier: Apache-2.0
 
--- `finish::end_step` meets its contract: what the end of a course leaves, and zero in every table behind it. Assumes nothing.
+-- `finish::end_step` meets its contract: what the end of a course leaves, and zero in the tables that are cleared then. Assumes nothing.
 use mathlib.Core.Path.{ap, _∙_}
 use Prim.Native.Nat.{ℕ}
 use lib.ListN.{replicate}
