@@ -21,7 +21,7 @@ use word::flat::WORD_LANES;
 use word::word::{Word, reaches_beyond};
 
 // How many words are listed.
-#[derive(Drop)]
+#[derive(Clone, Copy)]
 pub enum Acted {
     Listed(usize),
     Refused(Refusal),

@@ -2,6 +2,8 @@
 // SPDX-License-Identifier: Apache-2.0
 
 // The action of a lent model on a word, with its tests and its list.
+#![tactic(auto)]
+
 pub mod act;
 pub mod count;
 pub mod list;

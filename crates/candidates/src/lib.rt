@@ -3,6 +3,8 @@
 
 // The candidates of leakage: sums of real numbers beside their words, put where the word stands and found
 // by slots. They stand in the order in which they came; where word order decides, their words are compared.
+#![tactic(auto)]
+
 pub mod bad;
 pub mod beside;
 pub mod cut;

@@ -3,6 +3,8 @@
 
 // The columns of the generator over a basis: each basis word's action, its terms whose words are in the
 // basis staged as entries; and the search for a basis word that comes again.
+#![tactic(auto)]
+
 pub mod repeat;
 pub mod stage;
 pub mod terms;

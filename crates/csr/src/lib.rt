@@ -2,6 +2,8 @@
 // SPDX-License-Identifier: Apache-2.0
 
 // A lent matrix by rows: offsets, columns and values. Its rows read, and its product with a vector.
+#![tactic(auto)]
+
 pub mod check;
 pub mod product;
 pub mod reader;

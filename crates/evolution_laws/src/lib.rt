@@ -3,3 +3,4 @@
 
 // What an accepted evolution says is proved in proofs/: it multiplies the matrix by rows of the same model and
 // basis, and takes m times s products. Nothing here runs.
+#![tactic(auto)]

@@ -6,38 +6,38 @@ use crate::print;
 use pebblelinen::bases::KeptEntries;
 use word::flat::{WORD_LANES, word_at};
 
-fn print_entry(words: &[u64], i: usize, value: f64) {
+fn print_entry(rt: &impl Print, words: &[u64], i: usize, value: f64) {
     if i < words.len() / WORD_LANES {
-        print::word(word_at(words, i), 2);
-        print::text(b" ");
-        print::value(value);
+        print::word(rt, word_at(words, i), 2);
+        print::text(rt, b" ");
+        print::value(rt, value);
     }
 }
 
 // The words of a list with their numbers, of the first count places.
-fn print_list(words: &[u64], values: &[f64], count: usize) {
+fn print_list(rt: &impl Print, words: &[u64], values: &[f64], count: usize) {
     let mut i = 0;
     while i < values.len() {
         if count <= i {
             return;
         }
         if i != 0 {
-            print::text(b", ");
+            print::text(rt, b", ");
         }
-        print_entry(words, i, values[i]);
+        print_entry(rt, words, i, values[i]);
         i += 1;
     }
 }
 
 // The entries that the basis has, or the refusal.
-fn print_kept(answer: KeptEntries, words: &[u64], coeffs: &[f64]) {
+fn print_kept(rt: &impl Print, answer: KeptEntries, words: &[u64], coeffs: &[f64]) {
     let status = answer.status;
     if status.refusal != 0 {
-        print::refusal(status);
+        print::refusal(rt, status);
     } else {
-        print_list(words, coeffs, answer.entries);
+        print_list(rt, words, coeffs, answer.entries);
     }
-    print::end_line();
+    print::end_line(rt);
 }
 
 // XI, YI, ZI, IX: the first x lane and the first z lane of each.
@@ -52,7 +52,7 @@ fn basis() -> [u64; WORD_LANES * 4] {
 }
 
 // The basis XI 3, YI -1, ZI 1, IX 0.5 with this limit; the protected words are in lanes.
-fn capped(protected: &[u64], limit: usize) {
+fn capped(rt: &impl Print, protected: &[u64], limit: usize) {
     let mut words = basis();
     let mut coeffs = [3.0, -1.0, 1.0, 0.5];
     let mut order = [0u64; 4];
@@ -71,11 +71,11 @@ fn capped(protected: &[u64], limit: usize) {
         &mut fixed,
         &mut kept,
     );
-    print_kept(answer, &words, &coeffs);
+    print_kept(rt, answer, &words, &coeffs);
 }
 
 // The same basis with this threshold and no protected words.
-fn pruned(drop_tol: f64) {
+fn pruned(rt: &impl Print, drop_tol: f64) {
     let mut words = basis();
     let mut coeffs = [3.0, -1.0, 1.0, 0.5];
     let mut order = [0u64; 4];
@@ -94,11 +94,11 @@ fn pruned(drop_tol: f64) {
         &mut fixed,
         &mut kept,
     );
-    print_kept(answer, &words, &coeffs);
+    print_kept(rt, answer, &words, &coeffs);
 }
 
 // The basis XI 3, in a table of four places, and the words XX 1, YY -2, ZZ 2 listed; with this limit.
-fn admitted(limit: usize) {
+fn admitted(rt: &impl Print, limit: usize) {
     let mut words = [0u64; WORD_LANES * 4];
     words[0] = 1;
     let mut coeffs = [3.0, 0.0, 0.0, 0.0];
@@ -123,24 +123,24 @@ fn admitted(limit: usize) {
         &mut work,
         &mut kept,
     );
-    print_kept(answer, &words, &coeffs);
+    print_kept(rt, answer, &words, &coeffs);
 }
 
-pub fn run() {
-    print::text(b"basis XI 3, YI -1, ZI 1, IX 0.5 capped at 2: ");
-    capped(&[0u64; 0], 2);
-    print::text(b"the same with IX protected: ");
-    capped(&[2u64, 0, 0, 0, 0, 0, 0, 0], 2);
-    print::text(b"capped at 0 with IX protected: ");
-    capped(&[2u64, 0, 0, 0, 0, 0, 0, 0], 0);
-    print::text(b"capped at 65537: ");
-    capped(&[0u64; 0], 65537);
-    print::text(b"pruned at 1: ");
-    pruned(1.0);
-    print::text(b"basis XI 3 with XX 1, YY -2, ZZ 2 listed, limit 3: ");
-    admitted(3);
-    print::text(b"the same, limit 2: ");
-    admitted(2);
-    print::text(b"the same, limit 1: ");
-    admitted(1);
+pub fn run(rt: &impl Print) {
+    print::text(rt, b"basis XI 3, YI -1, ZI 1, IX 0.5 capped at 2: ");
+    capped(rt, &[0u64; 0], 2);
+    print::text(rt, b"the same with IX protected: ");
+    capped(rt, &[2u64, 0, 0, 0, 0, 0, 0, 0], 2);
+    print::text(rt, b"capped at 0 with IX protected: ");
+    capped(rt, &[2u64, 0, 0, 0, 0, 0, 0, 0], 0);
+    print::text(rt, b"capped at 65537: ");
+    capped(rt, &[0u64; 0], 65537);
+    print::text(rt, b"pruned at 1: ");
+    pruned(rt, 1.0);
+    print::text(rt, b"basis XI 3 with XX 1, YY -2, ZZ 2 listed, limit 3: ");
+    admitted(rt, 3);
+    print::text(rt, b"the same, limit 2: ");
+    admitted(rt, 2);
+    print::text(rt, b"the same, limit 1: ");
+    admitted(rt, 1);
 }

@@ -1,15 +1,17 @@
 // SPDX-FileCopyrightText: 2026 The PPVM Authors
 // SPDX-License-Identifier: Apache-2.0
 
-// The Taylor partition of exp(typeof.t.A): the degree m and the number of steps s of least cost m·s, by the
+// The Taylor partition of exp(t·A): the degree m and the number of steps s of least cost m·s, by the
 // thresholds of Al-Mohy and Higham (2011), refused where it costs more products than the ceiling.
+#![tactic(auto)]
+
 ghost use Rattle.std.specs.Prelude.{◌≡◌, ◌<◌, ◌≤◌, length};
 ghost use Rattle.expm.specs.Theta.{theta, theta_loose};
 ghost use Rattle.expm.specs.Selects.{steps_of, cost, better, degree_by, table_for, rows_from, under_ceiling, chosen};
 
 use refusal::Refusal;
 
-#[derive(Drop)]
+#[derive(Clone, Copy)]
 pub struct Degree {
     pub m: u32,
     pub s: u32,

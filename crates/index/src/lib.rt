@@ -4,6 +4,8 @@
 // Which of up to 4,096 items share a qubit with a word, by a row of bits for each qubit. An item is a
 // list of words. A row has as many lanes as the items need, at most 64. Both tables are lent: 64 lanes
 // for each qubit, of which the rows take the first, one after another, and 64 lanes for the mask.
+#![tactic(auto)]
+
 ghost use Rattle.std.specs.Prelude.{◌≡◌, ◌∷◌, [], ℕ, ◌+◌, ◌*◌, ◌<◌, ◌≤◌, min, length, get_or};
 ghost use Rattle.std.specs.Int.Bits.{bit_or};
 ghost use Rattle.word.specs.Word.{max_qubits};

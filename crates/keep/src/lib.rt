@@ -2,6 +2,8 @@
 // SPDX-License-Identifier: Apache-2.0
 
 // What a basis forgets and takes in: entries kept in their order, by flags.
+#![tactic(auto)]
+
 pub mod admit;
 pub mod choose;
 pub mod flags;

@@ -3,6 +3,8 @@
 
 // The Kossakowski form of a dissipator: a matrix K over operators, compiled into pairs and added to a
 // model that stands.
+#![tactic(auto)]
+
 pub mod check;
 pub mod kossakowski;
 pub mod operators;

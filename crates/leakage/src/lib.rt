@@ -2,6 +2,8 @@
 // SPDX-License-Identifier: Apache-2.0
 
 // Leakage as a call: its tests, and how a model moves a basis onto words outside it.
+#![tactic(auto)]
+
 pub mod check;
 pub mod clear;
 pub mod lay;

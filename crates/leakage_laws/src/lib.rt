@@ -3,3 +3,4 @@
 
 // What leakage lists is proved in proofs/: pass by pass, that the largest stay and how many, that a raised
 // limit or a lowered tau_add loses nobody, and which words are listed. Nothing here runs.
+#![tactic(auto)]

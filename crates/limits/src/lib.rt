@@ -3,6 +3,8 @@
 
 // What a run may take in: its word limits and the threshold of what it lists, their tests, and the defaults of
 // what is not given.
+#![tactic(auto)]
+
 ghost use Rattle.std.specs.Prelude.{◌≡◌, ◌-◌};
 ghost use Rattle.limits.specs.Defaults.{limit_of, tau_of, is_above, limit_tests, tau_tests};
 
@@ -14,7 +16,7 @@ use refusal::{Answer, Refusal};
 // max_basis, and beside it an admit_basis and a tau_add; each of the two counts where the number before
 // it is not 0.
 #[repr(C)]
-#[derive(Drop)]
+#[derive(Clone, Copy)]
 pub struct Limits {
     pub max_basis: usize,
     pub admit_given: u64,

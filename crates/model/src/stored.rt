@@ -8,7 +8,7 @@ ghost use Rattle.model.specs.Stored.{jump_at, entry, lay_entry};
 
 // The qubits of a model's register and the entries of its three tables.
 #[repr(C)]
-#[derive(Drop)]
+#[derive(Clone, Copy)]
 pub struct Model {
     pub qubits: usize,
     pub hamiltonian: usize,
@@ -17,7 +17,7 @@ pub struct Model {
 }
 
 // Places of the terms table, from start to before end.
-#[derive(Drop)]
+#[derive(Clone, Copy)]
 pub struct Range {
     pub start: usize,
     pub end: usize,
@@ -25,7 +25,7 @@ pub struct Range {
 
 // An entry of the table of jumps and pairs. A Pauli's word is that of its term; the terms, factors
 // and products of the others stand in the terms table too.
-#[derive(Drop)]
+#[derive(Clone, Copy)]
 pub enum Jump {
     Pauli {
         rate: f64,

@@ -13,7 +13,7 @@ use word::flat::word_at;
 use word::word::Word;
 
 // A complex number onto a word.
-#[derive(Drop)]
+#[derive(Clone, Copy)]
 pub struct Term {
     pub word: Word,
     pub number: Complex,

@@ -2,6 +2,8 @@
 // SPDX-License-Identifier: Apache-2.0
 
 // Models built in lent tables from texts and numbers.
+#![tactic(auto)]
+
 pub mod check;
 pub mod compile;
 pub mod items;

@@ -1,7 +1,7 @@
 // SPDX-FileCopyrightText: 2026 The PPVM Authors
 // SPDX-License-Identifier: Apache-2.0
 
-// The Taylor degree and the number of steps for exp(typeof.dt.M) over a lent basis, M being the generator with
+// The Taylor degree and the number of steps for exp(dt·M) over a lent basis, M being the generator with
 // its diagonal shifted by mu.
 ghost use Rattle.std.specs.Prelude.{◌≡◌};
 ghost use Rattle.model.specs.Between.{model_tables};

@@ -3,3 +3,4 @@
 
 // What the norm over a basis has to do with the generator over it, and with the norm that counted words
 // outside the basis too, is proved in proofs/. Nothing here runs.
+#![tactic(auto)]

@@ -8,7 +8,7 @@ ghost use Rattle.number.specs.Numbers.{add_c, sub_c, neg_c, mul_c, conj_c, real_
 ghost use Rattle.number.specs.Floats.{floats, cx, magnitude, is_finite, in_range, bounded};
 
 #[repr(C)]
-#[derive(Drop)]
+#[derive(Clone, Copy)]
 pub struct Complex {
     pub re: f64,
     pub im: f64,

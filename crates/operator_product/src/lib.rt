@@ -2,4 +2,6 @@
 // SPDX-License-Identifier: Apache-2.0
 
 // The product of two operators, formed in a work table.
+#![tactic(auto)]
+
 pub mod product;

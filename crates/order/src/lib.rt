@@ -3,6 +3,8 @@
 
 // Positions of a basis in an order: by falling magnitude of their coefficients, or by their words.
 // Both are made by halves: each half is ordered, then the two are merged.
+#![tactic(auto)]
+
 pub mod magnitudes;
 pub mod places;
 pub mod positions;

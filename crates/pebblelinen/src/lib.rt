@@ -3,6 +3,8 @@
 
 // The library for programs in other languages, as include/pebblelinen.h documents it. Each function
 // takes any input, calls the crate that does the work and puts the answer into plain numbers.
+#![tactic(auto)]
+
 pub mod actions;
 pub mod bases;
 pub mod evolutions;

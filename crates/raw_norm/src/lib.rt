@@ -2,6 +2,8 @@
 // SPDX-License-Identifier: Apache-2.0
 
 // The unshifted norm of a matrix whose entries stand column by column: the largest raw of any column.
+#![tactic(auto)]
+
 ghost use Rattle.std.specs.Prelude.{◌≡◌, ◌≤◌, length};
 ghost use Rattle.column_norm.specs.Columns.{largest};
 ghost use Rattle.raw_norm.specs.Between.{raws_from, ColumnSummed};

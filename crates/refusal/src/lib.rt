@@ -3,10 +3,12 @@
 
 // Why a call is not accepted: one enum for the causes of the whole product, each with the values
 // that it returns, and the status by which a caller in another language learns of it.
+#![tactic(auto)]
+
 ghost use Rattle.std.specs.Prelude.{◌≡◌};
 ghost use Rattle.refusal.specs.Cause.{status_of, answer_status};
 
-#[derive(Drop)]
+#[derive(Clone, Copy)]
 pub enum Refusal {
     TooManyQubits { got: usize, max: usize },
     WrongLength { expected: usize, got: usize },

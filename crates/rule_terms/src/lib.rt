@@ -3,5 +3,7 @@
 
 // What one term of an item adds for a word: its number with phase and sign, onto the product of the
 // words.
+#![tactic(auto)]
+
 pub mod accumulate;
 pub mod terms;

@@ -2,6 +2,8 @@
 // SPDX-License-Identifier: Apache-2.0
 
 // The rules over what is stored: what each item of a model adds for a word, onto sums in word order.
+#![tactic(auto)]
+
 pub mod general;
 pub mod items;
 pub mod pair;

@@ -3,6 +3,8 @@
 
 // Where a word stands in a flat list of words, by chains of places whose words have the same slot. More
 // slots than words keep the chains short; the answers do not depend on their number.
+#![tactic(auto)]
+
 ghost use Rattle.std.specs.Prelude.{◌≡◌, List, [], ◌∷◌, ◌++◌, ◌+◌, ◌*◌, ◌≤◌, ◌<◌, length, get_or, take};
 ghost use Rattle.word.specs.Word.{identity};
 ghost use Rattle.word.specs.Flat.{word_lanes, words};

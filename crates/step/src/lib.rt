@@ -2,6 +2,8 @@
 // SPDX-License-Identifier: Apache-2.0
 
 // The predictor-corrector step across the C interface: its parts in their order, and the lengths of its work tables.
+#![tactic(auto)]
+
 mod parts;
 pub mod sizes;
 pub mod steps;

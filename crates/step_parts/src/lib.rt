@@ -3,6 +3,8 @@
 
 // The tests of a predictor-corrector step, the copy of the basis on which it works, and its end: what is kept of the
 // copy, handed over.
+#![tactic(auto)]
+
 pub mod begin;
 mod check;
 mod copy;

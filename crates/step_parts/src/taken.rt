@@ -5,7 +5,7 @@
 use refusal::Refusal;
 
 // How many entries the basis has, and how many matrix products it took.
-#[derive(Drop)]
+#[derive(Clone, Copy)]
 pub enum Step {
     Taken { entries: usize, products: usize },
     Refused(Refusal),

@@ -3,5 +3,7 @@
 
 // Lent tables: words with complex sums beside them, in word order. The layers above see a list of
 // rows and never a flat slice.
+#![tactic(auto)]
+
 pub mod numbers;
 pub mod sums;

@@ -5,7 +5,7 @@
 use refusal::Refusal;
 
 // How many entries the basis has.
-#[derive(Drop)]
+#[derive(Clone, Copy)]
 pub enum Kept {
     Entries(usize),
     Refused(Refusal),

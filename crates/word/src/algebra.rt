@@ -3,7 +3,7 @@
 
 // Pauli products and commutators on word lanes.
 //
-// P.Q = i^phase · R, with phase 0 to 3. A product needs its phases only modulo 4, so the phases of
+// P·Q = i^phase · R, with phase 0 to 3. A product needs its phases only modulo 4, so the phases of
 // the qubits are added in two bit planes, 64 counts modulo 4 side by side, and are counted once at
 // the end, however many lanes there are.
 ghost use Rattle.std.specs.Prelude.{◌≡◌, ◌+◌, ◌*◌, ◌%◌};
@@ -14,7 +14,7 @@ use crate::word::Word;
 
 // i^phase times a word.
 #[repr(C)]
-#[derive(Drop)]
+#[derive(Clone, Copy)]
 pub struct Phased {
     pub word: Word,
     pub phase: u32,

@@ -3,6 +3,8 @@
 
 // Pauli words: how they are stored, read, written, ordered and multiplied. The layers above see the
 // promises made here and never a lane.
+#![tactic(auto)]
+
 pub mod algebra;
 pub mod flat;
 pub mod hash;

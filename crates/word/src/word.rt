@@ -17,7 +17,7 @@ pub const MAX_QUBITS: usize = 64 * LANES;
 
 // Qubit q is bit q % 64 of lane q / 64: I has neither bit, X its x bit, Z its z bit, and Y both.
 #[repr(C)]
-#[derive(Drop)]
+#[derive(Clone, Copy)]
 pub struct Word {
     pub x: [u64; LANES],
     pub z: [u64; LANES],
