@@ -95,6 +95,7 @@ level_plain true a false b h k = ap (λ (x : ℕ). eqb a b && eqb x 0) (h tt) �
 
 -- a value with a minus sign that is not below zero is zero
 zero_size : (s : Bool) (m : ℕ) (e d : ℤ) → T (not s || eqb m 0) → T s → m * up e * down d ≡ 0
+zero_size false m e d h t = elim t [ ]
 zero_size true m e d h t = ap (λ (x : ℕ). x * up e * down d) (eqb→eq m 0 h) ∙ ap (λ (x : ℕ). x * down d) (zero-mul (up e)) ∙ zero-mul (down d)
 
 -- ---- comparisons by the keys

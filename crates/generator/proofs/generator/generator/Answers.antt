@@ -1,0 +1,65 @@
+-- SPDX-FileCopyrightText: 2026 The PPVM Authors
+-- SPDX-License-Identifier: Apache-2.0
+
+-- `generator::generator` meets its contract: a refusal by a test, or what the tested basis gives. Assumes nothing.
+use mathlib.Core.Path.{sym, ◌∙◌}
+use Prim.Native.Nat.{◌*◌, ◌≤◌}
+use native.Mathlib.Omega.{arith}
+use lib.ListN.{length}
+use lib.Seq.{length-take-le}
+use Rattle.refusal.specs.declared.Answer.TheVariants.{Accepted}
+use Rattle.word.specs.Flat.{word_lanes}
+use Rattle.model.specs.Stored.{ModelTables}
+use Rattle.lent.proofs.Passed.{both}
+use Rattle.lent.specs.Words.{inside_to}
+use Rattle.generator.specs.Lent.{Work, work_of, lent_tests}
+use Rattle.generator.proofs.CheckLaws.{tables_passed, inside_passed}
+use Rattle.generator.proofs.LentLaws.{model_lent, basis_words, basis_lent}
+use Rattle.generator.proofs.CallLaws.{generate_refused, generate_tested}
+use borrow.Author.Rules.{rules}
+use Rattle.model.specs.Between.{model_tables}
+use Rattle.generator.proofs.generator.generator.Goals as goal
+
+pub overflow_mul-len : goal.overflow_mul-len
+overflow_mul-len c =
+    let a = c.args in
+    let t : ModelTables = model_tables a.h_words.now a.h_coeffs.now a.jumps.now a.rates.now a.t_words.now a.t_numbers.now in
+    let w : Work = work_of a.h_index.now a.j_index.now a.mask.now a.heads.now a.nexts.now a.work_words.now a.work_sums.now a.stage_rows.now a.stage_columns.now a.stage_values.now in
+    let k = both (lent_tests a.m t a.words.now a.len w) (inside_to a.len a.words.now a.m.qubits Accepted) (sym c.check_generator-answer.ensures ∙ c.in_default.is) in
+    let p = tables_passed a.m t a.words.now a.len (length a.h_index.now) (length a.j_index.now) (length a.mask.now) (length a.heads.now) (length a.nexts.now) k.0 in
+    let h : word_lanes * a.len ≤ length a.words.now = omega (arith, p.words_long) in
+    search (h, c.well_formed.1.1.1.1.1.1.1.0, rules)
+
+pub slice_bounds-generator_tested-end : goal.slice_bounds-generator_tested-end
+slice_bounds-generator_tested-end c =
+    let a = c.args in
+    let t : ModelTables = model_tables a.h_words.now a.h_coeffs.now a.jumps.now a.rates.now a.t_words.now a.t_numbers.now in
+    let w : Work = work_of a.h_index.now a.j_index.now a.mask.now a.heads.now a.nexts.now a.work_words.now a.work_sums.now a.stage_rows.now a.stage_columns.now a.stage_values.now in
+    let k = both (lent_tests a.m t a.words.now a.len w) (inside_to a.len a.words.now a.m.qubits Accepted) (sym c.check_generator-answer.ensures ∙ c.in_default.is) in
+    let p = tables_passed a.m t a.words.now a.len (length a.h_index.now) (length a.j_index.now) (length a.mask.now) (length a.heads.now) (length a.nexts.now) k.0 in
+    sym (length-take-le (a.len * word_lanes) a.words.now (omega (arith, p.words_long)))
+
+pub generator_tested-requires : goal.generator_tested-requires
+generator_tested-requires c =
+    let a = c.args in
+    let t : ModelTables = model_tables a.h_words.now a.h_coeffs.now a.jumps.now a.rates.now a.t_words.now a.t_numbers.now in
+    let w : Work = work_of a.h_index.now a.j_index.now a.mask.now a.heads.now a.nexts.now a.work_words.now a.work_sums.now a.stage_rows.now a.stage_columns.now a.stage_values.now in
+    let k = both (lent_tests a.m t a.words.now a.len w) (inside_to a.len a.words.now a.m.qubits Accepted) (sym c.check_generator-answer.ensures ∙ c.in_default.is) in
+    let p = tables_passed a.m t a.words.now a.len (length a.h_index.now) (length a.j_index.now) (length a.mask.now) (length a.heads.now) (length a.nexts.now) k.0 in
+    (model_lent a.m t a.words.now a.len a.h_index.now a.j_index.now a.mask.now a.heads.now a.nexts.now p, basis_lent a.m t a.words.now a.len a.h_index.now a.j_index.now a.mask.now a.heads.now a.nexts.now p (inside_passed a.len a.words.now a.m.qubits k.1))
+
+pub returns-in_default : goal.returns-in_default
+returns-in_default c =
+    let a = c.args in
+    let t : ModelTables = model_tables a.h_words.now a.h_coeffs.now a.jumps.now a.rates.now a.t_words.now a.t_numbers.now in
+    let w : Work = work_of a.h_index.now a.j_index.now a.mask.now a.heads.now a.nexts.now a.work_words.now a.work_sums.now a.stage_rows.now a.stage_columns.now a.stage_values.now in
+    let k = both (lent_tests a.m t a.words.now a.len w) (inside_to a.len a.words.now a.m.qubits Accepted) (sym c.check_generator-answer.ensures ∙ c.in_default.is) in
+    let p = tables_passed a.m t a.words.now a.len (length a.h_index.now) (length a.j_index.now) (length a.mask.now) (length a.heads.now) (length a.nexts.now) k.0 in
+    c.generator_tested.ensures ∙ generate_tested a.rows.now a.columns.now a.values.now w a.m t a.words.now a.len (sym c.check_generator-answer.ensures ∙ c.in_default.is) _ (basis_words a.m t a.words.now a.len a.h_index.now a.j_index.now a.mask.now a.heads.now a.nexts.now p)
+
+pub returns : goal.returns
+returns c =
+    let a = c.args in
+    let t : ModelTables = model_tables a.h_words.now a.h_coeffs.now a.jumps.now a.rates.now a.t_words.now a.t_numbers.now in
+    let w : Work = work_of a.h_index.now a.j_index.now a.mask.now a.heads.now a.nexts.now a.work_words.now a.work_sums.now a.stage_rows.now a.stage_columns.now a.stage_values.now in
+    generate_refused a.rows.now a.columns.now a.values.now w a.m t a.words.now a.len _ (sym c.check_generator-answer.ensures ∙ c.in-Refused.is)

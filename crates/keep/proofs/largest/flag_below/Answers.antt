@@ -1,0 +1,11 @@
+-- SPDX-FileCopyrightText: 2026 The PPVM Authors
+-- SPDX-License-Identifier: Apache-2.0
+
+-- `largest::flag_below` meets its contract. Assumes nothing.
+use Rattle.keep.proofs.largest.flag_below.Goals as goal
+
+pub returns-then-x-y : goal.returns-then-x-y
+returns-then-x-y c = rw c.if-x-y.true
+
+pub returns-else-x-y : goal.returns-else-x-y
+returns-else-x-y c = rw c.if-x-y.false

@@ -1,0 +1,170 @@
+-- SPDX-FileCopyrightText: 2026 The PPVM Authors
+-- SPDX-License-Identifier: Apache-2.0
+
+-- `check::check_matrix` meets its contract: the tests before a return were passed. Assumes nothing.
+use mathlib.Core.Path.{◌≡◌, sym, ◌∙◌}
+use Prim.Native.Nat.{◌*◌}
+use native.Mathlib.Omega.{arith}
+use lib.ListN.{length}
+use Rattle.refusal.specs.declared.Answer.TheVariants.{Accepted}
+use Rattle.model.specs.Stored.{ModelTables}
+use Rattle.model.specs.Tested.{test_model}
+use Rattle.model.specs.Fails.{number_fails}
+use Rattle.model_build.specs.Items.{answer_of}
+use Rattle.k_matrix.specs.Added.{Input, lengths_answer, read_operators}
+use Rattle.k_matrix.specs.Work.{Square}
+use Rattle.k_matrix.proofs.MatrixLaws.{places_few, some_ops}
+use Rattle.k_matrix.proofs.MatrixLengths.{LengthsFit, lengths_fit}
+use Rattle.kossakowski.proofs.MatrixTests.{jumps_few, range_first, model_refused, operators_above, lengths_refused, number_outside, not_hermitian, operators_refused, pairs_above, all_passed}
+use Rattle.lent.specs.Tests.{first_to}
+use Rattle.kossakowski.proofs.check.check_matrix.Goals as goal
+use Rattle.kossakowski.proofs.check.check_matrix.Goals.{After-largest_square-largest, After-lengths_agree-agree, After-test_model-model, After-test_range-outside, Else-apart-places, Else-ops-gt-MAX_OPERATORS, Else-outside-places, In-Accepted, In-Accepted-agree, In-Accepted-operators, Start}
+
+abbrev input : Start → Input
+input s =
+    let a = s.args in
+    record { texts = a.texts.now; lengths = a.lengths.now; counts = a.counts.now; numbers = a.numbers.now; k = a.k.now }
+
+abbrev tables : Start → ModelTables
+tables s =
+    let a = s.args in
+    record { h_words = a.h_words.now; h_coeffs = a.h_coeffs.now; jumps = a.jumps.now; rates = a.rates.now; t_words = a.t_words.now; t_numbers = a.t_numbers.now }
+
+-- ---- where each test began
+abbrev start : After-test_model-model → Start
+start c = c.before.before.before.before.before.before.before.before.before.before.before.before.before.before
+
+abbrev start-model : In-Accepted → Start
+start-model c = start c.before.before
+
+abbrev start-count : Else-ops-gt-MAX_OPERATORS → Start
+start-count c = start-model c.before
+
+abbrev start-lengths : In-Accepted-agree → Start
+start-lengths c = start-count c.before.before.before
+
+abbrev start-numbers : Else-outside-places → Start
+start-numbers c = start-lengths c.before.before
+
+abbrev start-mirrors : Else-apart-places → Start
+start-mirrors c = start-numbers c.before.before.before
+
+abbrev start-operators : In-Accepted-operators → Start
+start-operators c = start-mirrors c.before.before.before
+
+-- ---- what each passed test settles
+modelled : (c : In-Accepted) → test_model (start-model c).args.m (tables (start-model c)) ≡ Accepted
+modelled c = sym c.test_model-model.ensures ∙ c.in-Accepted.is
+
+agree : (c : After-lengths_agree-agree)
+    → let s = start-count c.before in c.lengths_agree-agree.result ≡ lengths_answer s.args.m (input s) (tables s) s.args.work_words.now s.args.work_numbers.now
+agree c =
+    let t = tables (start-count c.before) in
+    c.lengths_agree-agree.ensures t.h_words t.h_coeffs t.t_words t.t_numbers
+
+agreed : (c : In-Accepted-agree) → let s = start-lengths c in lengths_answer s.args.m (input s) (tables s) s.args.work_words.now s.args.work_numbers.now ≡ Accepted
+agreed c = sym (agree c.before.before) ∙ c.in-Accepted-agree.is
+
+fit : (c : In-Accepted-agree) → let s = start-lengths c in LengthsFit s.args.m (input s) (tables s) s.args.work_words.now s.args.work_numbers.now
+fit c = let s = start-lengths c in lengths_fit s.args.m (input s) (tables s) s.args.work_words.now s.args.work_numbers.now (agreed c)
+
+outside_is : (c : After-test_range-outside)
+    → let k = (start-lengths c.before).args.k.now in let n = length (start-lengths c.before).args.counts.now in c.test_range-outside.result ≡ first_to (n * n) (number_fails k)
+outside_is c = let a = (start-lengths c.before).args in c.test_range-outside.ensures ∙ range_first (length a.counts.now * length a.counts.now) a.k.now
+
+square : (c : After-largest_square-largest) → let a = (start-numbers c.before).args in Square (length a.counts.now) a.k.now c.largest_square-largest.result
+square c = record {
+  entries_all = (fit c.before.before.before).entries_all;
+  few = c.if-ops-gt-MAX_OPERATORS.false;
+  largest_is = c.largest_square-largest.ensures;
+}
+
+taken : (c : In-Accepted-operators) → let s = start-operators c in answer_of (read_operators s.args.m.qubits (input s)) ≡ Accepted
+taken c = sym c.check_operators-operators.ensures ∙ c.in-Accepted-operators.is
+
+pub test_model-model-requires : goal.test_model-model-requires
+test_model-model-requires c = tt
+
+pub returns-in_default : goal.returns-in_default
+returns-in_default c =
+    let s = start (goal.at.returns-in_default c).After-test_model-model in
+    model_refused s.args.m (input s) (tables s) s.args.work_words.now s.args.work_numbers.now c.test_model-model.result c.test_model-model.ensures _ c.in_default.is
+
+pub returns-then-ops-gt-MAX_OPERATORS : goal.returns-then-ops-gt-MAX_OPERATORS
+returns-then-ops-gt-MAX_OPERATORS c =
+    let s = start-model (goal.at.returns-then-ops-gt-MAX_OPERATORS c).In-Accepted in
+    operators_above s.args.m (input s) (tables s) s.args.work_words.now s.args.work_numbers.now (modelled (goal.at.returns-then-ops-gt-MAX_OPERATORS c).In-Accepted) c.if-ops-gt-MAX_OPERATORS.true
+
+pub lengths_agree-agree-requires : goal.lengths_agree-agree-requires
+lengths_agree-agree-requires c = let s = start-count (goal.at.lengths_agree-agree-requires c).Else-ops-gt-MAX_OPERATORS in (jumps_few s.args.m (tables s) (modelled (goal.at.lengths_agree-agree-requires c).In-Accepted), c.if-ops-gt-MAX_OPERATORS.false)
+
+pub returns-in_default-agree : goal.returns-in_default-agree
+returns-in_default-agree c =
+    let b = (goal.at.returns-in_default-agree c).Else-ops-gt-MAX_OPERATORS in
+    let s = start-count b in
+    lengths_refused s.args.m (input s) (tables s) s.args.work_words.now s.args.work_numbers.now (modelled (goal.at.returns-in_default-agree c).In-Accepted) c.if-ops-gt-MAX_OPERATORS.false c.lengths_agree-agree.result (agree (goal.at.returns-in_default-agree c).After-lengths_agree-agree) _ c.in_default-agree.is
+
+pub overflow_mul-places : goal.overflow_mul-places
+overflow_mul-places c = omega (arith, places_few (length (start-lengths (goal.at.overflow_mul-places c).In-Accepted-agree).args.counts.now) c.if-ops-gt-MAX_OPERATORS.false)
+
+pub test_range-outside-requires : goal.test_range-outside-requires
+test_range-outside-requires c = omega (arith, (fit (goal.at.test_range-outside-requires c).In-Accepted-agree).entries_all)
+
+pub returns-then-outside-places : goal.returns-then-outside-places
+returns-then-outside-places c =
+    let l = (goal.at.returns-then-outside-places c).In-Accepted-agree in
+    let s = start-lengths l in
+    number_outside s.args.m (input s) (tables s) s.args.work_words.now s.args.work_numbers.now (modelled (goal.at.returns-then-outside-places c).In-Accepted) c.if-ops-gt-MAX_OPERATORS.false (agreed l) c.test_range-outside.result (outside_is (goal.at.returns-then-outside-places c).After-test_range-outside) c.if-outside-places.true
+
+pub largest_square-largest-requires : goal.largest_square-largest-requires
+largest_square-largest-requires c = tt
+
+pub first_apart-apart-requires : goal.first_apart-apart-requires
+first_apart-apart-requires c = square (goal.at.first_apart-apart-requires c).After-largest_square-largest
+
+pub nonzero_div-result : goal.nonzero_div-result
+nonzero_div-result c = omega (arith, some_ops (length (start-numbers (goal.at.nonzero_div-result c).Else-outside-places).args.counts.now) c.first_apart-apart.result c.if-apart-places.true)
+
+pub nonzero_rem-result : goal.nonzero_rem-result
+nonzero_rem-result c = omega (arith, some_ops (length (start-numbers (goal.at.nonzero_rem-result c).Else-outside-places).args.counts.now) c.first_apart-apart.result c.if-apart-places.true)
+
+pub returns-then-apart-places : goal.returns-then-apart-places
+returns-then-apart-places c =
+    let l = (goal.at.returns-then-apart-places c).In-Accepted-agree in
+    let s = start-lengths l in
+    not_hermitian s.args.m (input s) (tables s) s.args.work_words.now s.args.work_numbers.now (modelled (goal.at.returns-then-apart-places c).In-Accepted) c.if-ops-gt-MAX_OPERATORS.false (agreed l) c.test_range-outside.result (outside_is (goal.at.returns-then-apart-places c).After-test_range-outside) c.if-outside-places.false c.first_apart-apart.result
+    c.first_apart-apart.ensures c.if-apart-places.true
+
+pub check_operators-operators-requires : goal.check_operators-operators-requires
+check_operators-operators-requires c = let f = fit (goal.at.check_operators-operators-requires c).In-Accepted-agree in (f.terms_counted, f.numbers_two, f.texts_whole)
+
+pub returns-in_default-operators : goal.returns-in_default-operators
+returns-in_default-operators c =
+    let l = (goal.at.returns-in_default-operators c).In-Accepted-agree in
+    let s = start-lengths l in
+    operators_refused s.args.m (input s) (tables s) s.args.work_words.now s.args.work_numbers.now (modelled (goal.at.returns-in_default-operators c).In-Accepted) c.if-ops-gt-MAX_OPERATORS.false (agreed l) c.test_range-outside.result (outside_is (goal.at.returns-in_default-operators c).After-test_range-outside) c.if-outside-places.false c.first_apart-apart.result
+    c.first_apart-apart.ensures c.if-apart-places.false c.check_operators-operators.result c.check_operators-operators.ensures _ c.in_default-operators.is
+
+pub count_pairs-requires : goal.count_pairs-requires
+count_pairs-requires c = square (goal.at.count_pairs-requires c).After-largest_square-largest
+
+pub overflow_add-count : goal.overflow_add-count
+overflow_add-count c =
+    let b = (goal.at.overflow_add-count c).Else-ops-gt-MAX_OPERATORS in
+    omega (arith, c.count_pairs.ensures.1, jumps_few (start-count b).args.m (tables (start-count b)) (modelled (goal.at.overflow_add-count c).In-Accepted))
+
+pub returns-then-count-gt-MAX_JUMPS : goal.returns-then-count-gt-MAX_JUMPS
+returns-then-count-gt-MAX_JUMPS c =
+    let o = (goal.at.returns-then-count-gt-MAX_JUMPS c).In-Accepted-operators in
+    let l = (goal.at.returns-then-count-gt-MAX_JUMPS c).In-Accepted-agree in
+    let s = start-lengths l in
+    pairs_above s.args.m (input s) (tables s) s.args.work_words.now s.args.work_numbers.now (modelled (goal.at.returns-then-count-gt-MAX_JUMPS c).In-Accepted) c.if-ops-gt-MAX_OPERATORS.false (agreed l) c.test_range-outside.result (outside_is (goal.at.returns-then-count-gt-MAX_JUMPS c).After-test_range-outside) c.if-outside-places.false c.first_apart-apart.result
+    c.first_apart-apart.ensures c.if-apart-places.false (taken o) c.count_pairs.result c.count_pairs.ensures.0 c.if-count-gt-MAX_JUMPS.true
+
+pub returns : goal.returns
+returns c =
+    let o = (goal.at.returns c).In-Accepted-operators in
+    let l = (goal.at.returns c).In-Accepted-agree in
+    let s = start-lengths l in
+    all_passed s.args.m (input s) (tables s) s.args.work_words.now s.args.work_numbers.now (modelled (goal.at.returns c).In-Accepted) c.if-ops-gt-MAX_OPERATORS.false (agreed l) c.test_range-outside.result (outside_is (goal.at.returns c).After-test_range-outside) c.if-outside-places.false c.first_apart-apart.result
+    c.first_apart-apart.ensures c.if-apart-places.false (taken o) c.count_pairs.result c.count_pairs.ensures.0 c.if-count-gt-MAX_JUMPS.false

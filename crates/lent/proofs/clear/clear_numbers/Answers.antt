@@ -1,0 +1,25 @@
+-- SPDX-FileCopyrightText: 2026 The PPVM Authors
+-- SPDX-License-Identifier: Apache-2.0
+
+-- `clear::clear_numbers` meets its contract: the elements passed are 0. Assumes nothing.
+use mathlib.Core.Path.{refl}
+use lib.ListN.{length-set}
+use Rattle.number.specs.Floats.{float0}
+use Rattle.lent.proofs.Filled.{filled_more, filled}
+use borrow.Author.Rules.{rules}
+use native.Mathlib.Omega.{arith}
+use Rattle.lent.proofs.clear.clear_numbers.Goals as goal
+
+pub loop-i-init : goal.loop-i-init
+loop-i-init c = (search rules, refl, refl)
+
+pub loop-i-smaller : goal.loop-i-smaller
+loop-i-smaller c = simp length-set (omega arith)
+
+pub loop-i-preserved : goal.loop-i-preserved
+loop-i-preserved c =
+    let l = c.loop-i in
+    (search rules, simp length-set (omega arith), filled_more float0 l.i c.args.t.now l.t l.invariant.2 (omega arith))
+
+pub returns : goal.returns
+returns c = let l = c.loop-i in filled float0 l.i c.args.t.now l.t l.invariant.2 (omega arith)

@@ -1,0 +1,84 @@
+-- SPDX-FileCopyrightText: 2026 The PPVM Authors
+-- SPDX-License-Identifier: Apache-2.0
+
+-- `lengths::lengths_agree` meets its contract: the tests before a return were passed. Assumes nothing.
+use mathlib.Core.Path.{◌≡◌, sym, ◌∙◌}
+use mathlib.Core.List.{List}
+use Prim.Native.Nat.{ℕ}
+use lib.Ieee.{Float}
+use borrow.Author.Tests.{eq-eqb, ne_eqb}
+use Rattle.model.specs.Stored.{ModelTables}
+use Rattle.model_build.specs.Built.{Input, lengths_answer}
+use Rattle.model_build.proofs.LengthLaws.{tables_answer, own_agree}
+use Rattle.model_build.proofs.lengths.lengths_agree.Goals as goal
+use Rattle.model_build.proofs.lengths.lengths_agree.Goals.{After-where_any-work, Start}
+
+-- ---- past the tests of the input
+abbrev start : After-where_any-work → Start
+start c = c.before.before.before.before.before.before.before.before.before.before.before.before.before.before.before.before.before.before.before.before.before.before
+
+abbrev input : Start → Input
+input s =
+    let a = s.args in
+    record { texts = a.texts.now; lengths = a.lengths.now; h_numbers = a.h_numbers.now; rates = a.rates.now; counts = a.counts.now; numbers = a.numbers.now }
+
+abbrev tables : Start → List ℕ → List Float → ModelTables
+tables s tWords tNumbers =
+    let a = s.args in
+    record { h_words = a.h_words.now; h_coeffs = a.h_coeffs.now; jumps = a.jumps.now; rates = a.rate_places.now; t_words = tWords; t_numbers = tNumbers }
+
+own : (c : After-where_any-work) (tWords : List ℕ) (tNumbers : List Float)
+    → lengths_answer (input (start c)) (tables (start c) tWords tNumbers) (start c).args.work_words.now (start c).args.work_numbers.now
+    ≡ tables_answer (input (start c)) (tables (start c) tWords tNumbers) (start c).args.work_words.now (start c).args.work_numbers.now c.where_any-work.result
+own c tWords tNumbers =
+    let e = c.before in
+    let d = c.before.before.before.before in
+    let b = c.before.before.before.before.before.before.before in
+    own_agree _ _ _ _ c.if-lengths-h.false c.if-counts-n_jumps.false c.if-numbers-terms.false
+    (sym c.parts_fit-by_counts.ensures ∙ c.in-Accepted.is) (sym c.parts_fit-by_lengths.ensures ∙ c.in-Accepted-by_lengths.is) _ c.where_any-work.ensures
+
+pub mismatch-requires : goal.mismatch-requires
+mismatch-requires c = tt
+
+pub returns-then-lengths-h : goal.returns-then-lengths-h
+unfolding lengths_answer
+returns-then-lengths-h c tWords tNumbers = rw (ne_eqb _ _ c.if-lengths-h.true) c.mismatch.ensures
+
+pub mismatch-requires-then-counts-n_jumps : goal.mismatch-requires-then-counts-n_jumps
+mismatch-requires-then-counts-n_jumps c = tt
+
+pub returns-then-counts-n_jumps : goal.returns-then-counts-n_jumps
+unfolding lengths_answer
+returns-then-counts-n_jumps c tWords tNumbers = rw (eq-eqb _ _ c.if-lengths-h.false, ne_eqb _ _ c.if-counts-n_jumps.true) c.mismatch-then-counts-n_jumps.ensures
+
+pub mismatch-requires-then-numbers-terms : goal.mismatch-requires-then-numbers-terms
+mismatch-requires-then-numbers-terms c = tt
+
+pub returns-then-numbers-terms : goal.returns-then-numbers-terms
+unfolding lengths_answer
+returns-then-numbers-terms c tWords tNumbers = rw (eq-eqb _ _ c.if-lengths-h.false, eq-eqb _ _ c.if-counts-n_jumps.false, ne_eqb _ _ c.if-numbers-terms.true) c.mismatch-then-numbers-terms.ensures
+
+pub parts_fit-by_counts-requires : goal.parts_fit-by_counts-requires
+parts_fit-by_counts-requires c = tt
+
+pub returns-in_default : goal.returns-in_default
+unfolding lengths_answer
+returns-in_default c tWords tNumbers =
+    rw (eq-eqb _ _ c.if-lengths-h.false, eq-eqb _ _ c.if-counts-n_jumps.false, eq-eqb _ _ c.if-numbers-terms.false, sym c.parts_fit-by_counts.ensures ∙ c.in_default.is) c.in_default.is
+
+pub parts_fit-by_lengths-requires : goal.parts_fit-by_lengths-requires
+parts_fit-by_lengths-requires c = tt
+
+pub returns-in_default-by_lengths : goal.returns-in_default-by_lengths
+unfolding lengths_answer
+returns-in_default-by_lengths c tWords tNumbers =
+    rw (eq-eqb _ _ c.if-lengths-h.false, eq-eqb _ _ c.if-counts-n_jumps.false, eq-eqb _ _ c.if-numbers-terms.false, sym c.parts_fit-by_counts.ensures ∙ c.in-Accepted.is, sym c.parts_fit-by_lengths.ensures ∙ c.in_default-by_lengths.is) c.in_default-by_lengths.is
+
+pub where_any-work-requires : goal.where_any-work-requires
+where_any-work-requires c = tt
+
+pub tables_fit-requires : goal.tables_fit-requires
+tables_fit-requires c = tt
+
+pub returns : goal.returns
+returns c tWords tNumbers = c.tables_fit.ensures ∙ sym (own (goal.at.returns c).After-where_any-work tWords tNumbers)

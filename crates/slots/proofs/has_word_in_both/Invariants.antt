@@ -1,0 +1,15 @@
+-- SPDX-FileCopyrightText: 2026 The PPVM Authors
+-- SPDX-License-Identifier: Apache-2.0
+
+-- What lasts over the loop of `has_word_in_both`, and what falls.
+use mathlib.Core.List.{◌++◌}
+use lib.ListN.{length}
+use Rattle.word.specs.Flat.{words}
+use Rattle.slots.proofs.SlotLaws.{Follows}
+use Rattle.slots.proofs.has_word_in_both.Given as goal
+
+abbrev pub invariant-loop-at : goal.invariant-loop-at
+invariant-loop-at l = Follows (length l.heads) l.w (words l.first ++ words l.second) (length (words l.first ++ words l.second)) l.at
+
+abbrev pub decreases-loop-at : goal.decreases-loop-at
+decreases-loop-at l = l.at

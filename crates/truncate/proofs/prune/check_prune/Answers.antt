@@ -1,0 +1,49 @@
+-- SPDX-FileCopyrightText: 2026 The PPVM Authors
+-- SPDX-License-Identifier: Apache-2.0
+
+-- `prune::check_prune` meets its contract, answer by answer. Assumes nothing.
+use mathlib.Core.Path.{sym, ◌∙◌}
+use Rattle.truncate.proofs.ChecksLaws.{lengths_room}
+use Rattle.truncate.proofs.PruneLaws.{qubits_many, entries_many, protected_many, lengths_refused, entries_refused, threshold_bad, prune_accepted}
+use Rattle.truncate.proofs.prune.check_prune.Goals as goal
+
+pub returns-then-n-gt-MAX_QUBITS : goal.returns-then-n-gt-MAX_QUBITS
+returns-then-n-gt-MAX_QUBITS c =
+    let a = c.args in
+    qubits_many a.len a.words.now a.coeffs.now a.order.now a.work.now a.fixed.now a.kept.now a.n a.protected.now a.drop_tol c.if-n-gt-MAX_QUBITS.true
+
+pub returns-then-len-gt-MAX_WORDS : goal.returns-then-len-gt-MAX_WORDS
+returns-then-len-gt-MAX_WORDS c =
+    let a = c.args in
+    entries_many a.len a.words.now a.coeffs.now a.order.now a.work.now a.fixed.now a.kept.now a.n a.protected.now a.drop_tol c.if-n-gt-MAX_QUBITS.false c.if-len-gt-MAX_WORDS.true
+
+pub returns-then-count-gt-MAX_WORDS : goal.returns-then-count-gt-MAX_WORDS
+returns-then-count-gt-MAX_WORDS c =
+    let a = c.args in
+    protected_many a.len a.words.now a.coeffs.now a.order.now a.work.now a.fixed.now a.kept.now a.n a.protected.now a.drop_tol c.if-n-gt-MAX_QUBITS.false c.if-len-gt-MAX_WORDS.false c.if-count-gt-MAX_WORDS.true
+
+pub returns-in_default : goal.returns-in_default
+returns-in_default c =
+    let a = c.args in
+    c.in_default.is ∙ lengths_refused a.len a.words.now a.coeffs.now a.order.now a.work.now a.fixed.now a.kept.now a.n a.protected.now a.drop_tol c.if-n-gt-MAX_QUBITS.false c.if-len-gt-MAX_WORDS.false c.if-count-gt-MAX_WORDS.false _ (sym (c.check_lengths-lengths.ensures a.n) ∙ c.in_default.is)
+
+pub check_entries-entries-requires : goal.check_entries-entries-requires
+check_entries-entries-requires c =
+    let a = c.args in
+    let h = lengths_room a.len a.words.now a.coeffs.now a.order.now a.work.now a.fixed.now a.kept.now a.n a.protected.now (sym (c.check_lengths-lengths.ensures a.n) ∙ c.in-Accepted.is) in
+    (h.lanes_room, h.coeffs_room)
+
+pub returns-in_default-entries : goal.returns-in_default-entries
+returns-in_default-entries c =
+    let a = c.args in
+    c.in_default-entries.is ∙ entries_refused a.len a.words.now a.coeffs.now a.order.now a.work.now a.fixed.now a.kept.now a.n a.protected.now a.drop_tol c.if-n-gt-MAX_QUBITS.false c.if-len-gt-MAX_WORDS.false c.if-count-gt-MAX_WORDS.false (sym (c.check_lengths-lengths.ensures a.n) ∙ c.in-Accepted.is) _ (sym c.check_entries-entries.ensures ∙ c.in_default-entries.is)
+
+pub returns-then-not-finite : goal.returns-then-not-finite
+returns-then-not-finite c =
+    let a = c.args in
+    threshold_bad a.len a.words.now a.coeffs.now a.order.now a.work.now a.fixed.now a.kept.now a.n a.protected.now a.drop_tol c.if-n-gt-MAX_QUBITS.false c.if-len-gt-MAX_WORDS.false c.if-count-gt-MAX_WORDS.false (sym (c.check_lengths-lengths.ensures a.n) ∙ c.in-Accepted.is) (sym c.check_entries-entries.ensures ∙ c.in-Accepted-entries.is) _ c.is_finite-finite.ensures c.if-not-finite.true-raw
+
+pub returns : goal.returns
+returns c =
+    let a = c.args in
+    prune_accepted a.len a.words.now a.coeffs.now a.order.now a.work.now a.fixed.now a.kept.now a.n a.protected.now a.drop_tol c.if-n-gt-MAX_QUBITS.false c.if-len-gt-MAX_WORDS.false c.if-count-gt-MAX_WORDS.false (sym (c.check_lengths-lengths.ensures a.n) ∙ c.in-Accepted.is) (sym c.check_entries-entries.ensures ∙ c.in-Accepted-entries.is) _ c.is_finite-finite.ensures c.if-not-finite.false-raw
