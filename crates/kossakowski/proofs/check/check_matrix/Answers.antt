@@ -32,49 +32,49 @@ tables s =
 
 -- ---- where each test began
 abbrev start : After-test_model-model → Start
-start c = c.before.before.before.before.before.before.before.before.before.before.before.before.before.before
+start c = (goal.at.After-test_model-model c).Start
 
 abbrev start-model : In-Accepted → Start
-start-model c = start c.before.before
+start-model c = start (goal.at.In-Accepted c).After-test_model-model
 
 abbrev start-count : Else-ops-gt-MAX_OPERATORS → Start
-start-count c = start-model c.before
+start-count c = start-model (goal.at.Else-ops-gt-MAX_OPERATORS c).In-Accepted
 
 abbrev start-lengths : In-Accepted-agree → Start
-start-lengths c = start-count c.before.before.before
+start-lengths c = start-count (goal.at.In-Accepted-agree c).Else-ops-gt-MAX_OPERATORS
 
 abbrev start-numbers : Else-outside-places → Start
-start-numbers c = start-lengths c.before.before
+start-numbers c = start-lengths (goal.at.Else-outside-places c).In-Accepted-agree
 
 abbrev start-mirrors : Else-apart-places → Start
-start-mirrors c = start-numbers c.before.before.before
+start-mirrors c = start-numbers (goal.at.Else-apart-places c).Else-outside-places
 
 abbrev start-operators : In-Accepted-operators → Start
-start-operators c = start-mirrors c.before.before.before
+start-operators c = start-mirrors (goal.at.In-Accepted-operators c).Else-apart-places
 
 -- ---- what each passed test settles
 modelled : (c : In-Accepted) → test_model (start-model c).args.m (tables (start-model c)) ≡ Accepted
 modelled c = sym c.test_model-model.ensures ∙ c.in-Accepted.is
 
 agree : (c : After-lengths_agree-agree)
-    → let s = start-count c.before in c.lengths_agree-agree.result ≡ lengths_answer s.args.m (input s) (tables s) s.args.work_words.now s.args.work_numbers.now
+    → let s = start-count (goal.at.After-lengths_agree-agree c).Else-ops-gt-MAX_OPERATORS in c.lengths_agree-agree.result ≡ lengths_answer s.args.m (input s) (tables s) s.args.work_words.now s.args.work_numbers.now
 agree c =
-    let t = tables (start-count c.before) in
+    let t = tables (start-count (goal.at.After-lengths_agree-agree c).Else-ops-gt-MAX_OPERATORS) in
     c.lengths_agree-agree.ensures t.h_words t.h_coeffs t.t_words t.t_numbers
 
 agreed : (c : In-Accepted-agree) → let s = start-lengths c in lengths_answer s.args.m (input s) (tables s) s.args.work_words.now s.args.work_numbers.now ≡ Accepted
-agreed c = sym (agree c.before.before) ∙ c.in-Accepted-agree.is
+agreed c = sym (agree (goal.at.In-Accepted-agree c).After-lengths_agree-agree) ∙ c.in-Accepted-agree.is
 
 fit : (c : In-Accepted-agree) → let s = start-lengths c in LengthsFit s.args.m (input s) (tables s) s.args.work_words.now s.args.work_numbers.now
 fit c = let s = start-lengths c in lengths_fit s.args.m (input s) (tables s) s.args.work_words.now s.args.work_numbers.now (agreed c)
 
 outside_is : (c : After-test_range-outside)
-    → let k = (start-lengths c.before).args.k.now in let n = length (start-lengths c.before).args.counts.now in c.test_range-outside.result ≡ first_to (n * n) (number_fails k)
-outside_is c = let a = (start-lengths c.before).args in c.test_range-outside.ensures ∙ range_first (length a.counts.now * length a.counts.now) a.k.now
+    → let k = (start-lengths (goal.at.After-test_range-outside c).In-Accepted-agree).args.k.now in let n = length (start-lengths (goal.at.After-test_range-outside c).In-Accepted-agree).args.counts.now in c.test_range-outside.result ≡ first_to (n * n) (number_fails k)
+outside_is c = let a = (start-lengths (goal.at.After-test_range-outside c).In-Accepted-agree).args in c.test_range-outside.ensures ∙ range_first (length a.counts.now * length a.counts.now) a.k.now
 
-square : (c : After-largest_square-largest) → let a = (start-numbers c.before).args in Square (length a.counts.now) a.k.now c.largest_square-largest.result
+square : (c : After-largest_square-largest) → let a = (start-numbers (goal.at.After-largest_square-largest c).Else-outside-places).args in Square (length a.counts.now) a.k.now c.largest_square-largest.result
 square c = record {
-  entries_all = (fit c.before.before.before).entries_all;
+  entries_all = (fit (goal.at.After-largest_square-largest c).In-Accepted-agree).entries_all;
   few = c.if-ops-gt-MAX_OPERATORS.false;
   largest_is = c.largest_square-largest.ensures;
 }

@@ -30,7 +30,7 @@ accepts s = matrix_accepted s.args.m (input s) (tables s) s.args.work_words.now 
 
 -- past the first branch there is an operator
 abbrev start : Else-counts-eq0 → Start
-start e = e.before.before.before.before.before.before.before.before.before.before.before.before.before.before
+start e = (goal.at.Else-counts-eq0 e).Start
 
 some : (e : Else-counts-eq0) → 0 < operators (input (start e))
 some e = omega (arith, e.if-counts-eq0.false)

@@ -34,7 +34,7 @@ abbrev work : Start → Work
 work s = let a = s.args in work_of a.h_index.now a.j_index.now a.mask.now a.work_words.now a.work_sums.now a.order.now a.heads.now a.nexts.now a.cand_words.now a.cand_sums.now a.place_order.now a.place_work.now
 
 abbrev start_of : In_default → Start
-start_of c = c.before.before.before.before.before.before.before.before.before.before.before.before.before.before.before.before.before.before.before.before.before.before.before.before.before.before
+start_of c = (goal.at.In_default c).Start
 
 -- ---- the tests are passed
 accepted : (c : In_default) → let s = start_of c in leak_tests s.args.m (stored s) (lent s) s.args.limits (work s) ≡ Accepted
@@ -45,7 +45,7 @@ passed c = let s = start_of c in leak_passed s.args.m (stored s) (lent s) s.args
 
 -- ---- what the passes left
 abbrev told_of : After-run_and_clear-taken → In_default
-told_of c = c.before.before.before.before.before.before.before.before.before.before.before.before.before.before.before.before.before.before.before.before.before.before.before.before.before.before.before.before.before.before.before.before.before.before
+told_of c = (goal.at.After-run_and_clear-taken c).After-slice_known-10-1
 
 took : (c : After-run_and_clear-taken) → let s = start_of (told_of c) in
     Took (candidate_places (work s)) (leak_course s.args.m (stored s) (lent s) s.args.limits (work s)) c.run_and_clear-taken.new.cand_words c.run_and_clear-taken.new.cand_sums c.run_and_clear-taken.new.place_order c.run_and_clear-taken.result

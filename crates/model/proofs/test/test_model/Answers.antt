@@ -29,55 +29,55 @@ Leaves on c = on (model c) (slices c) ≡ test_model (model c) (slices c)
 
 -- where each test began
 abbrev start-1 : Else-m-gt-MAX_QUBITS → Start
-start-1 c = c.before.before.before.before.before.before.before.before
+start-1 c = (goal.at.Else-m-gt-MAX_QUBITS c).Start
 
 abbrev start-2 : Else-m-gt-MAX_HAMILTONIAN → Start
-start-2 c = start-1 c.before.before
+start-2 c = start-1 (goal.at.Else-m-gt-MAX_HAMILTONIAN c).Else-m-gt-MAX_QUBITS
 
 abbrev start-3 : Else-m-gt-MAX_JUMPS → Start
-start-3 c = start-2 c.before.before
+start-3 c = start-2 (goal.at.Else-m-gt-MAX_JUMPS c).Else-m-gt-MAX_HAMILTONIAN
 
 abbrev start-4 : Else-h_words-m → Start
-start-4 c = start-3 c.before.before
+start-4 c = start-3 (goal.at.Else-h_words-m c).Else-m-gt-MAX_JUMPS
 
 abbrev start-5 : Else-h_coeffs-m → Start
-start-5 c = start-4 c.before.before
+start-5 c = start-4 (goal.at.Else-h_coeffs-m c).Else-h_words-m
 
 abbrev start-6 : Else-jumps-m → Start
-start-6 c = start-5 c.before.before
+start-6 c = start-5 (goal.at.Else-jumps-m c).Else-h_coeffs-m
 
 abbrev start-7 : Else-rates-m → Start
-start-7 c = start-6 c.before.before
+start-7 c = start-6 (goal.at.Else-rates-m c).Else-jumps-m
 
 abbrev start-8 : Else-t_words-m → Start
-start-8 c = start-7 c.before.before
+start-8 c = start-7 (goal.at.Else-t_words-m c).Else-rates-m
 
 abbrev start-9 : Else-t_numbers-m → Start
-start-9 c = start-8 c.before.before
+start-9 c = start-8 (goal.at.Else-t_numbers-m c).Else-t_words-m
 
 abbrev start-10 : Else-real-m → Start
-start-10 c = start-9 c.before.before.before
+start-10 c = start-9 (goal.at.Else-real-m c).Else-t_numbers-m
 
 abbrev start-11 : Else-entry-m → Start
-start-11 c = start-10 c.before.before.before
+start-11 c = start-10 (goal.at.Else-entry-m c).Else-real-m
 
 abbrev start-12 : Else-term-m → Start
-start-12 c = start-11 c.before.before.before
+start-12 c = start-11 (goal.at.Else-term-m c).Else-entry-m
 
 -- the first place of each table that fails
-first_real : (c : After-test_hamiltonian-real) → c.test_hamiltonian-real.result ≡ first_to (model (start-9 c.before)).hamiltonian (bad_real (model (start-9 c.before)).qubits (slices (start-9 c.before)))
+first_real : (c : After-test_hamiltonian-real) → c.test_hamiltonian-real.result ≡ first_to (model (start-9 (goal.at.After-test_hamiltonian-real c).Else-t_numbers-m)).hamiltonian (bad_real (model (start-9 (goal.at.After-test_hamiltonian-real c).Else-t_numbers-m)).qubits (slices (start-9 (goal.at.After-test_hamiltonian-real c).Else-t_numbers-m)))
 first_real c =
-    let s = start-9 c.before in
+    let s = start-9 (goal.at.After-test_hamiltonian-real c).Else-t_numbers-m in
     c.test_hamiltonian-real.ensures ∙ real_first (model s).qubits (slices s) (model s).hamiltonian
 
-first_entry : (c : After-test_jumps-entry) → c.test_jumps-entry.result ≡ first_to (model (start-10 c.before)).jumps (bad_entry (model (start-10 c.before)).terms (slices (start-10 c.before)))
+first_entry : (c : After-test_jumps-entry) → c.test_jumps-entry.result ≡ first_to (model (start-10 (goal.at.After-test_jumps-entry c).Else-real-m)).jumps (bad_entry (model (start-10 (goal.at.After-test_jumps-entry c).Else-real-m)).terms (slices (start-10 (goal.at.After-test_jumps-entry c).Else-real-m)))
 first_entry c =
-    let s = start-10 c.before in
+    let s = start-10 (goal.at.After-test_jumps-entry c).Else-real-m in
     c.test_jumps-entry.ensures ∙ entry_first (model s).terms (slices s) (model s).jumps
 
-first_term : (c : After-test_terms-term) → c.test_terms-term.result ≡ first_to (model (start-11 c.before)).terms (bad_term (model (start-11 c.before)).qubits (model (start-11 c.before)).jumps (slices (start-11 c.before)))
+first_term : (c : After-test_terms-term) → c.test_terms-term.result ≡ first_to (model (start-11 (goal.at.After-test_terms-term c).Else-entry-m)).terms (bad_term (model (start-11 (goal.at.After-test_terms-term c).Else-entry-m)).qubits (model (start-11 (goal.at.After-test_terms-term c).Else-entry-m)).jumps (slices (start-11 (goal.at.After-test_terms-term c).Else-entry-m)))
 first_term c =
-    let s = start-11 c.before in
+    let s = start-11 (goal.at.After-test_terms-term c).Else-entry-m in
     c.test_terms-term.ensures ∙ term_first (model s).qubits (slices s) (model s).jumps (model s).terms
 
 -- what each passed test leaves
@@ -85,37 +85,37 @@ left_1 : (c : Else-m-gt-MAX_QUBITS) → Leaves count_on (start-1 c)
 left_1 c = qubits_within (model (start-1 c)) (slices (start-1 c)) c.if-m-gt-MAX_QUBITS.false
 
 left_2 : (c : Else-m-gt-MAX_HAMILTONIAN) → Leaves jump_count_on (start-2 c)
-left_2 c = counted_within _ _ _ c.if-m-gt-MAX_HAMILTONIAN.false ∙ left_1 c.before.before
+left_2 c = counted_within _ _ _ c.if-m-gt-MAX_HAMILTONIAN.false ∙ left_1 (goal.at.Else-m-gt-MAX_HAMILTONIAN c).Else-m-gt-MAX_QUBITS
 
 left_3 : (c : Else-m-gt-MAX_JUMPS) → Leaves words_on (start-3 c)
-left_3 c = counted_within _ _ _ c.if-m-gt-MAX_JUMPS.false ∙ left_2 c.before.before
+left_3 c = counted_within _ _ _ c.if-m-gt-MAX_JUMPS.false ∙ left_2 (goal.at.Else-m-gt-MAX_JUMPS c).Else-m-gt-MAX_HAMILTONIAN
 
 left_4 : (c : Else-h_words-m) → Leaves coefficients_on (start-4 c)
-left_4 c = lent_enough _ _ _ c.if-h_words-m.false ∙ left_3 c.before.before
+left_4 c = lent_enough _ _ _ c.if-h_words-m.false ∙ left_3 (goal.at.Else-h_words-m c).Else-m-gt-MAX_JUMPS
 
 left_5 : (c : Else-h_coeffs-m) → Leaves jump_numbers_on (start-5 c)
-left_5 c = lent_enough _ _ _ c.if-h_coeffs-m.false ∙ left_4 c.before.before
+left_5 c = lent_enough _ _ _ c.if-h_coeffs-m.false ∙ left_4 (goal.at.Else-h_coeffs-m c).Else-h_words-m
 
 left_6 : (c : Else-jumps-m) → Leaves rates_on (start-6 c)
-left_6 c = lent_enough _ _ _ c.if-jumps-m.false ∙ left_5 c.before.before
+left_6 c = lent_enough _ _ _ c.if-jumps-m.false ∙ left_5 (goal.at.Else-jumps-m c).Else-h_coeffs-m
 
 left_7 : (c : Else-rates-m) → Leaves term_words_on (start-7 c)
-left_7 c = lent_enough _ _ _ c.if-rates-m.false ∙ left_6 c.before.before
+left_7 c = lent_enough _ _ _ c.if-rates-m.false ∙ left_6 (goal.at.Else-rates-m c).Else-jumps-m
 
 left_8 : (c : Else-t_words-m) → Leaves term_numbers_on (start-8 c)
-left_8 c = lent_enough _ _ _ c.if-t_words-m.false ∙ left_7 c.before.before
+left_8 c = lent_enough _ _ _ c.if-t_words-m.false ∙ left_7 (goal.at.Else-t_words-m c).Else-rates-m
 
 left_9 : (c : Else-t_numbers-m) → Leaves hamiltonian_on (start-9 c)
-left_9 c = lent_enough _ _ _ c.if-t_numbers-m.false ∙ left_8 c.before.before
+left_9 c = lent_enough _ _ _ c.if-t_numbers-m.false ∙ left_8 (goal.at.Else-t_numbers-m c).Else-t_words-m
 
 left_10 : (c : Else-real-m) → Leaves jumps_on (start-10 c)
-left_10 c = entries_passed _ _ _ (first_real c.before.before) c.if-real-m.false ∙ left_9 c.before.before.before
+left_10 c = entries_passed _ _ _ (first_real (goal.at.Else-real-m c).After-test_hamiltonian-real) c.if-real-m.false ∙ left_9 (goal.at.Else-real-m c).Else-t_numbers-m
 
 left_11 : (c : Else-entry-m) → Leaves terms_on (start-11 c)
-left_11 c = entries_passed _ _ _ (first_entry c.before.before) c.if-entry-m.false ∙ left_10 c.before.before.before
+left_11 c = entries_passed _ _ _ (first_entry (goal.at.Else-entry-m c).After-test_jumps-entry) c.if-entry-m.false ∙ left_10 (goal.at.Else-entry-m c).Else-real-m
 
 left_12 : (c : Else-term-m) → Leaves (λ m t. Accepted) (start-12 c)
-left_12 c = entries_passed _ _ _ (first_term c.before.before) c.if-term-m.false ∙ left_11 c.before.before.before
+left_12 c = entries_passed _ _ _ (first_term (goal.at.Else-term-m c).After-test_terms-term) c.if-term-m.false ∙ left_11 (goal.at.Else-term-m c).Else-entry-m
 
 pub returns-then-m-gt-MAX_QUBITS : goal.returns-then-m-gt-MAX_QUBITS
 returns-then-m-gt-MAX_QUBITS c = let s = (goal.at.returns-then-m-gt-MAX_QUBITS c).Start in qubits_above (model s) (slices s) c.if-m-gt-MAX_QUBITS.true

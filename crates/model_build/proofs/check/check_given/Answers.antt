@@ -31,7 +31,7 @@ tables s tWords tNumbers =
 
 -- ---- past the test of the lengths
 abbrev start : In-Accepted → Start
-start c = c.before.before.before.before.before.before.before.before.before.before.before.before.before.before.before.before.before.before
+start c = (goal.at.In-Accepted c).Start
 
 fit : (c : In-Accepted) → LengthsFit (input (start c)) (tables (start c) [] []) (start c).args.work_words.now (start c).args.work_numbers.now
 fit c = lengths_fit _ _ _ _ (sym (c.lengths_agree-agree.ensures [] []) ∙ c.in-Accepted.is)

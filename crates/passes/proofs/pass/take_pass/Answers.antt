@@ -23,7 +23,7 @@ use Rattle.passes.proofs.pass.take_pass.Goals.{After-put_terms-put, At-loop-i, I
 
 -- ---- where the steps of a turn stand
 abbrev start_of : At-loop-i → Start
-start_of c = c.before.before.before.before.before.before.before.before.before.before.before.before.before.before.before.before.before.before.before.before.before.before
+start_of c = (goal.at.At-loop-i c).Start
 
 abbrev stored : Start → ModelTables
 stored s = let a = s.args in model_tables a.h_words.now a.h_coeffs.now a.jumps.now a.rates.now a.t_words.now a.t_numbers.now
@@ -34,14 +34,14 @@ touches s = let a = s.args in touched_at a.m (stored s) (words_in a.basis.now) a
 abbrev leaks : Start → ℕ → Rows
 leaks s = let a = s.args in leaks_at a.m (stored s) (words_in a.basis.now) a.coeffs.now (words_in a.protected.now)
 
-in_coeffs : (c : In-loop-i) → get_or (start_of c.before).args.positions.now c.loop-i.i 0 < length (start_of c.before).args.coeffs.now
-in_coeffs c = let s = start_of c.before in all_at (λ x. x < length s.args.coeffs.now) s.args.positions.now c.loop-i.i s.pre.1.0.1 c.loop-i-test.true
+in_coeffs : (c : In-loop-i) → get_or (start_of (goal.at.In-loop-i c).At-loop-i).args.positions.now c.loop-i.i 0 < length (start_of (goal.at.In-loop-i c).At-loop-i).args.coeffs.now
+in_coeffs c = let s = start_of (goal.at.In-loop-i c).At-loop-i in all_at (λ x. x < length s.args.coeffs.now) s.args.positions.now c.loop-i.i s.pre.1.0.1 c.loop-i-test.true
 
 -- ---- what the action on one position adds
 -- it finds room
-fits : (c : After-put_terms-put) → let s = c.before.before.before.before.before.before.before.before.before.before.before.before.before.before.before.before.before.before.before.before.before.before.before.before.before.before.before.before.before.before.before.before.before.before.before.before.before.before.before.before.before.before.before.before in touches s (get_or c.args.positions.now c.loop-i.i 0) ≤ c.args.sum_room
+fits : (c : After-put_terms-put) → let s = (goal.at.After-put_terms-put c).Start in touches s (get_or c.args.positions.now c.loop-i.i 0) ≤ c.args.sum_room
 fits c =
-    let s = c.before.before.before.before.before.before.before.before.before.before.before.before.before.before.before.before.before.before.before.before.before.before.before.before.before.before.before.before.before.before.before.before.before.before.before.before.before.before.before.before.before.before.before.before in
+    let s = (goal.at.After-put_terms-put c).Start in
     let a = c.args in
     let l = c.loop-i in
     let w = c.word_at-w in
