@@ -18,7 +18,8 @@ returns-then-not-below c = steps_most c.args.x (not-false _ c.if-not-above.false
 
 pub truncating_f64_to_u64-whole-requires : goal.truncating_f64_to_u64-whole-requires
 unfolding of_bits
-truncating_f64_to_u64-whole-requires c = whole_read c.args.x (not-false _ c.if-not-above.false-raw) (not-false _ c.if-not-below.false-raw)
+truncating_f64_to_u64-whole-requires c =
+    let w = whole_read c.args.x (not-false _ c.if-not-above.false-raw) (not-false _ c.if-not-below.false-raw) in record { lower_bound = w.0; upper_bound = w.1 }
 
 pub int_to_float-whole : goal.int_to_float-whole
 unfolding of_bits in_float

@@ -2,9 +2,12 @@
 -- SPDX-License-Identifier: Apache-2.0
 
 -- `check::first_bad_column` meets its contract: the columns before row r pass. Assumes nothing.
-use Prim.Native.Nat.{◌+◌, ◌≤◌}
+use mathlib.Core.Path.{◌≡◌}
+use mathlib.Core.List.{List}
+use Prim.Native.Nat.{ℕ, ◌+◌, ◌≤◌}
 use native.Mathlib.Omega.{arith}
 use lib.ListN.{get_or, length}
+use Rattle.lent.specs.Tests.{first_to}
 use Rattle.lent.proofs.Firsts.{first_before}
 use Rattle.matrix_row.specs.Rows.{part_of}
 use Rattle.csr.specs.Lent.{bad_offset}
@@ -12,30 +15,26 @@ use Rattle.csr.proofs.OffsetLaws.{Rising, rising}
 use Rattle.csr.proofs.ColumnLaws.{ordered, within, fails_here, none_fails, none_yet, none_at_all}
 use borrow.Author.Rules.{rules}
 use Rattle.csr.proofs.check.first_bad_column.Goals as goal
-use Rattle.csr.proofs.check.first_bad_column.Goals.{After-shared_slice_known-in-loop-r-2-1, Start}
+use Rattle.csr.proofs.check.first_bad_column.Goals.{After-shared_slice_known-in-loop-r-2-1}
 
-offsets_rise : (s : Start) → Rising s.args.rows (length s.args.columns.now) s.args.offsets.now
-offsets_rise s =
-    let a = s.args in
-    rising a.rows (length a.columns.now) a.offsets.now (rw s.requires.1 at (first_before (a.rows + 1) (bad_offset a.rows (length a.columns.now) a.offsets.now)))
+offsets_rise : (rows count : ℕ) (offsets : List ℕ) → first_to (rows + 1) (bad_offset rows count offsets) ≡ rows + 1 → Rising rows count offsets
+offsets_rise rows count offsets e = rising rows count offsets (rw e at (first_before (rows + 1) (bad_offset rows count offsets)))
 
 -- the row's part lies in order, and inside
 in_order : (c : After-shared_slice_known-in-loop-r-2-1) → get_or c.args.offsets.now c.loop-r.r 0 ≤ get_or c.args.offsets.now (c.loop-r.r + 1) 0
 in_order c =
-    let s = c.before.before.before.before.before.before in
     let a = c.args in
     let l = c.loop-r in
-    ordered a.rows a.offsets.now a.columns.now c.requires.0 (offsets_rise s) l.r c.loop-r-test.true
+    ordered a.rows a.offsets.now a.columns.now c.requires.0 (offsets_rise a.rows (length a.columns.now) a.offsets.now c.requires.1) l.r c.loop-r-test.true
 
 inside : (c : After-shared_slice_known-in-loop-r-2-1) → get_or c.args.offsets.now (c.loop-r.r + 1) 0 ≤ length c.args.columns.now
 inside c =
-    let s = c.before.before.before.before.before.before in
     let a = c.args in
     let l = c.loop-r in
-    within a.rows a.offsets.now a.columns.now c.requires.0 (offsets_rise s) l.r c.loop-r-test.true
+    within a.rows a.offsets.now a.columns.now c.requires.0 (offsets_rise a.rows (length a.columns.now) a.offsets.now c.requires.1) l.r c.loop-r-test.true
 
 pub loop-r-init : goal.loop-r-init
-loop-r-init c = let s = (goal.at.loop-r-init c).Start in let a = c.args in (omega arith, none_yet a.rows a.offsets.now a.columns.now c.requires.0 (offsets_rise s))
+loop-r-init c = let a = c.args in (omega arith, none_yet a.rows a.offsets.now a.columns.now c.requires.0 (offsets_rise a.rows (length a.columns.now) a.offsets.now c.requires.1))
 
 pub offset_bounds-offsets-r : goal.offset_bounds-offsets-r
 offset_bounds-offsets-r c = search rules
@@ -70,22 +69,19 @@ overflow_add-result c = let h1 = in_order (goal.at.overflow_add-result c).After-
 pub returns-then-k-end : goal.returns-then-k-end
 unfolding part_of
 returns-then-k-end c =
-    let s = (goal.at.returns-then-k-end c).Start in
     let a = c.args in
     let l = c.loop-r in
-    fails_here a.rows a.offsets.now a.columns.now c.requires.0 (offsets_rise s) l.r c.loop-r-test.true c.first_misplaced-k.result l.invariant.1 c.first_misplaced-k.ensures c.if-k-end.true
+    fails_here a.rows a.offsets.now a.columns.now c.requires.0 (offsets_rise a.rows (length a.columns.now) a.offsets.now c.requires.1) l.r c.loop-r-test.true c.first_misplaced-k.result l.invariant.1 c.first_misplaced-k.ensures c.if-k-end.true
 
 pub loop-r-preserved : goal.loop-r-preserved
 unfolding part_of
 loop-r-preserved c =
-    let s = (goal.at.loop-r-preserved c).Start in
     let a = c.args in
     let l = c.loop-r in
-    (omega (arith, c.loop-r-test.true), none_fails a.rows a.offsets.now a.columns.now c.requires.0 (offsets_rise s) l.r c.loop-r-test.true c.first_misplaced-k.result l.invariant.1 c.first_misplaced-k.ensures c.if-k-end.false)
+    (omega (arith, c.loop-r-test.true), none_fails a.rows a.offsets.now a.columns.now c.requires.0 (offsets_rise a.rows (length a.columns.now) a.offsets.now c.requires.1) l.r c.loop-r-test.true c.first_misplaced-k.result l.invariant.1 c.first_misplaced-k.ensures c.if-k-end.false)
 
 pub returns : goal.returns
 returns c =
-    let s = (goal.at.returns c).Start in
     let a = c.args in
     let l = c.loop-r in
-    none_at_all a.rows a.offsets.now a.columns.now c.requires.0 (offsets_rise s) l.r c.loop-r-test.false l.invariant.0 l.invariant.1
+    none_at_all a.rows a.offsets.now a.columns.now c.requires.0 (offsets_rise a.rows (length a.columns.now) a.offsets.now c.requires.1) l.r c.loop-r-test.false l.invariant.0 l.invariant.1

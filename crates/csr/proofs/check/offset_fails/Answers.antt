@@ -6,13 +6,13 @@ use mathlib.Core.Logic.{⊎_elim}
 use mathlib.Core.Path.{◌≡◌}
 use Prim.Native.Nat.{◌≤◌}
 use native.Mathlib.Omega.{arith}
-use borrow.Author.Tests.{ltb-true, ltb-false}
+use borrow.Author.Tests.{ltb-true}
 use Rattle.csr.proofs.OffsetLaws.{first_fails, falls, last_tested, not_last}
 use Rattle.csr.proofs.check.offset_fails.Goals as goal
 use Rattle.csr.proofs.check.offset_fails.Goals.{Joined-else-k-eq0}
 
 passed : (c : Joined-else-k-eq0) → c.args.k ≡ 0 → c.args.here ≤ 0
-passed c e = ⊎_elim (λ w. omega (arith, ltb-false)) (λ w. omega arith) c.else-k-eq0.branch
+passed c e = ⊎_elim (λ w. w.1) (λ f. omega arith) c.else-k-eq0.either
 
 pub returns-then-here-gt0 : goal.returns-then-here-gt0
 returns-then-here-gt0 c =

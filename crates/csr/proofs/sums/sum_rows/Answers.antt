@@ -19,19 +19,18 @@ use Rattle.csr.proofs.sums.sum_rows.Goals.{After-is_finite-finite, After-stored-
 
 -- work is as long as it was
 long : (c : At-loop-r) → length c.loop-r.work ≡ length c.args.work.now
-long c = let s = c.before.before.before.before.before.before.before in let a = c.args in work_long a.offsets.now a.columns.now a.values.now a.input.now a.overwrite a.output.now a.work.now c.loop-r.r c.loop-r.work c.loop-r.invariant c.requires.3
+long c = let a = c.args in work_long a.offsets.now a.columns.now a.values.now a.input.now a.overwrite a.output.now a.work.now c.loop-r.r c.loop-r.work c.loop-r.invariant c.requires.3
 
 -- the value is what is to be stored at r
 value_is : (c : After-stored-value) → c.stored-value.result ≡ full_at c.args.offsets.now c.args.columns.now c.args.values.now c.args.input.now c.args.overwrite c.args.output.now c.loop-r.r
 unfolding part_of
 value_is c =
-    let s = c.before.before.before.before.before.before.before.before.before.before.before.before.before.before.before.before.before.before.before in
     let a = c.args in
     let l = c.loop-r in
     stored_here_lem a.offsets.now a.columns.now a.values.now a.input.now l.r (omega (arith, c.requires.0, c.loop-r-test.true)) c.if-end-start.false c.if-columns-end.false c.sum_row-found.result c.sum_row-found.ensures c.if-found-end.false a.overwrite a.output.now c.stored-value.result c.stored-value.ensures
 
-finite_is : (c : After-is_finite-finite) → c.is_finite-finite.result ≡ is_finite (full_at c.args.offsets.now c.args.columns.now c.args.values.now c.args.input.now c.args.overwrite c.args.output.now c.loop-r.r)
-finite_is c = c.is_finite-finite.ensures ∙ ap (λ (x : Float). is_finite x) (value_is c.before)
+finite_is : (c : After-is_finite-finite) → c.stored-value.result ≡ full_at c.args.offsets.now c.args.columns.now c.args.values.now c.args.input.now c.args.overwrite c.args.output.now c.loop-r.r → c.is_finite-finite.result ≡ is_finite (full_at c.args.offsets.now c.args.columns.now c.args.values.now c.args.input.now c.args.overwrite c.args.output.now c.loop-r.r)
+finite_is c e = c.is_finite-finite.ensures ∙ ap (λ (x : Float). is_finite x) e
 
 pub loop-r-init : goal.loop-r-init
 loop-r-init c = let a = c.args in walking_start a.offsets.now a.columns.now a.values.now a.input.now a.overwrite a.output.now a.work.now
@@ -100,7 +99,7 @@ pub returns-then-not-finite : goal.returns-then-not-finite
 returns-then-not-finite c =
     let a = c.args in
     let l = c.loop-r in
-    stopped_here a.offsets.now a.columns.now a.values.now a.input.now a.overwrite a.output.now a.work.now l.r l.work l.invariant c.loop-r-test.true (stops_value a.offsets.now a.columns.now a.values.now a.input.now a.overwrite a.output.now l.r (sym (finite_is (goal.at.returns-then-not-finite c).After-is_finite-finite) ∙ not-true _ c.if-not-finite.true-raw))
+    stopped_here a.offsets.now a.columns.now a.values.now a.input.now a.overwrite a.output.now a.work.now l.r l.work l.invariant c.loop-r-test.true (stops_value a.offsets.now a.columns.now a.values.now a.input.now a.overwrite a.output.now l.r (sym (finite_is (goal.at.returns-then-not-finite c).After-is_finite-finite (value_is (goal.at.returns-then-not-finite c).After-stored-value)) ∙ not-true _ c.if-not-finite.true-raw))
 
 pub bounds-work-r : goal.bounds-work-r
 bounds-work-r c = omega (arith, long (goal.at.bounds-work-r c).At-loop-r, c.requires.3, c.loop-r-test.true)
@@ -115,7 +114,7 @@ loop-r-preserved c =
     let l = c.loop-r in
     let passed = passed_row a.offsets.now a.columns.now a.values.now a.input.now l.r (omega (arith, c.requires.0, c.loop-r-test.true)) c.if-end-start.false c.if-columns-end.false c.sum_row-found.result c.sum_row-found.ensures c.if-found-end.false in
     walking_next a.offsets.now a.columns.now a.values.now a.input.now a.overwrite a.output.now a.work.now l.r l.work l.invariant c.requires.3 c.loop-r-test.true c.stored-value.result (value_is (goal.at.loop-r-preserved c).After-stored-value)
-    (goes_on a.offsets.now a.columns.now a.values.now a.input.now a.overwrite a.output.now l.r passed (sym (finite_is (goal.at.loop-r-preserved c).After-is_finite-finite) ∙ not-false _ c.if-not-finite.false-raw))
+    (goes_on a.offsets.now a.columns.now a.values.now a.input.now a.overwrite a.output.now l.r passed (sym (finite_is (goal.at.loop-r-preserved c).After-is_finite-finite (value_is (goal.at.loop-r-preserved c).After-stored-value)) ∙ not-false _ c.if-not-finite.false-raw))
 
 pub returns : goal.returns
 returns c =

@@ -9,7 +9,7 @@ use Rattle.matrix_market.proofs.count.count_of.Goals as goal
 
 pub truncating_f64_to_u64-halves-requires : goal.truncating_f64_to_u64-halves-requires
 unfolding of_bits
-truncating_f64_to_u64-halves-requires c = let F : T (fits binary64 c.args.x) = search rules in may_cast c.args.x F c.requires c.magnitude.result c.magnitude.ensures
+truncating_f64_to_u64-halves-requires c = let F : T (fits binary64 c.args.x) = search rules in let w = may_cast c.args.x F c.requires c.magnitude.result c.magnitude.ensures in record { lower_bound = w.0; upper_bound = w.1 }
 
 pub overflow_add-size : goal.overflow_add-size
 unfolding of_bits

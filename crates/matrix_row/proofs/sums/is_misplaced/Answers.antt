@@ -9,4 +9,4 @@ use Rattle.matrix_row.proofs.sums.is_misplaced.Goals as goal
 pub returns : goal.returns
 returns c =
     let a = c.args in
-    one_test a.column a.least a.rows c.wrapping_sub_u64-step.result c.requires (omega arith) (omega arith) c.wrapping_sub_u64-step.ensures
+    one_test a.column a.least a.rows c.wrapping_sub_u64-step.result c.requires (omega arith) (omega arith) c.wrapping_sub_u64-step.ensures.value
