@@ -67,7 +67,7 @@ returns-in_default-reals c tWords tNumbers =
 pub sum_of-requires : goal.sum_of-requires
 sum_of-requires c =
     let s = start (goal.at.sum_of-requires c).In-Accepted in
-    let f : Fits w64 (length s.args.texts.now) = search (s.good, rules) in
+    let f : Fits w64 (length s.args.texts.now) = search (s.well_formed, rules) in
     omega (arith, f, own_hold (input s) (tables s [] []) s.args.work_words.now s.args.work_numbers.now (fit (goal.at.sum_of-requires c).In-Accepted))
 
 pub slice_bounds-check_jumps-count : goal.slice_bounds-check_jumps-count

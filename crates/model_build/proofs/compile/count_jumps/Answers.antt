@@ -119,11 +119,11 @@ loop-j-preserved c =
     let r = c.read_operator in
     let k = c.count_operator-kept in
     let w = c.requires.1 in
-    let n = count_next a.n_qubits a.counts.now a.lengths.now a.texts.now a.numbers.now a.words.now a.sums.now fit w l.words l.sums l.auto l.at l.t l.j s h _ _ _ _ r.ensures r.auto.words r.auto.sums k.result k.ensures.0 k.ensures.1 k.auto.words k.auto.sums c.sum_of-at.result c.sum_of-at.ensures in
+    let n = count_next a.n_qubits a.counts.now a.lengths.now a.texts.now a.numbers.now a.words.now a.sums.now fit w l.words l.sums l.kept l.at l.t l.j s h _ _ _ _ r.ensures r.auto.words r.auto.sums k.result k.ensures.0 k.ensures.1 k.auto.words k.auto.sums c.sum_of-at.result c.sum_of-at.ensures in
     (n.stands.high, n.stands.terms_left, n.stands.texts_left, n)
 
 pub returns : goal.returns
 returns c =
     let a = c.args in
     let l = c.loop-j in
-    count_done a.n_qubits a.counts.now a.lengths.now a.texts.now a.numbers.now a.words.now a.sums.now c.requires.0 c.requires.1 l.words l.sums l.auto l.at l.t l.j l.invariant.3 c.loop-j-test.false
+    count_done a.n_qubits a.counts.now a.lengths.now a.texts.now a.numbers.now a.words.now a.sums.now c.requires.0 c.requires.1 l.words l.sums l.kept l.at l.t l.j l.invariant.3 c.loop-j-test.false

@@ -31,9 +31,6 @@ own : (c : After-where_any-work) (tWords : List ℕ) (tNumbers : List Float)
     → lengths_answer (input (start c)) (tables (start c) tWords tNumbers) (start c).args.work_words.now (start c).args.work_numbers.now
     ≡ tables_answer (input (start c)) (tables (start c) tWords tNumbers) (start c).args.work_words.now (start c).args.work_numbers.now c.where_any-work.result
 own c tWords tNumbers =
-    let e = (goal.at.After-where_any-work c).In-Accepted-by_lengths in
-    let d = (goal.at.After-where_any-work c).In-Accepted in
-    let b = (goal.at.After-where_any-work c).Else-numbers-terms in
     own_agree _ _ _ _ c.if-lengths-h.false c.if-counts-n_jumps.false c.if-numbers-terms.false
     (sym c.parts_fit-by_counts.ensures ∙ c.in-Accepted.is) (sym c.parts_fit-by_lengths.ensures ∙ c.in-Accepted-by_lengths.is) _ c.where_any-work.ensures
 

@@ -85,7 +85,7 @@ returns-then-not-jumps_fit c =
     let places = c.smaller-places in
     let fit = c.jumps_fit in
     let k = fit.auto in
-    built_full c.args.n_qubits (input s) (tables s) c.args.work_words.now c.args.work_numbers.now (accepts s) sum.result sum.ensures places.result places.ensures fit.result fit.ensures _ _ (c.clear_lanes.ensures ∙ ap (λ (m : ℕ). replicate m 0) k.1.1.1.1.1.1.0) (c.clear_numbers.ensures ∙ ap (λ (m : ℕ). replicate m float0) k.1.1.1.1.1.1.1.0)
+    built_full c.args.n_qubits (input s) (tables s) c.args.work_words.now c.args.work_numbers.now (accepts s) sum.result sum.ensures places.result places.ensures fit.result fit.ensures _ _ (c.clear_lanes.ensures ∙ ap (λ (m : ℕ). replicate m 0) k.words) (c.clear_numbers.ensures ∙ ap (λ (m : ℕ). replicate m float0) k.sums)
     c.if-not-jumps_fit.true-raw
 
 pub store_hamiltonian-requires : goal.store_hamiltonian-requires
@@ -102,7 +102,7 @@ store_jumps-terms-requires c =
     let k = fit.auto in (
       own_jumps c.args.n_qubits (input s) (tables s) c.args.work_words.now c.args.work_numbers.now (accepts s) sum.result sum.ensures,
       sym (accepts s).lengths.counts_each,
-      work_same c.args.counts.now c.args.work_words.now _ c.args.work_numbers.now _ (accepts s).work k.1.1.1.1.1.1.0 k.1.1.1.1.1.1.1.0,
+      work_same c.args.counts.now c.args.work_words.now _ c.args.work_numbers.now _ (accepts s).work k.words k.sums,
       jumps_room c.args.n_qubits (input s) (tables s) c.args.work_words.now c.args.work_numbers.now (accepts s) sum.result sum.ensures places.result places.ensures fit.result fit.ensures c.if-not-jumps_fit.false-raw,
     )
 
@@ -121,5 +121,5 @@ returns c =
     let k = fit.auto in
     let stores = c.store_jumps-terms in
     let j = stores.auto in
-    built_model c.args.n_qubits (input s) (tables s) c.args.work_words.now c.args.work_numbers.now (accepts s) sum.result sum.ensures places.result places.ensures fit.result fit.ensures _ _ (c.clear_lanes-2.ensures ∙ ap (λ (m : ℕ). replicate m 0) (j.1.1.1.1.1.1.0 ∙ k.1.1.1.1.1.1.0)) (c.clear_numbers-2.ensures ∙ ap (λ (m : ℕ). replicate m float0) (j.1.1.1.1.1.1.1.0 ∙ k.1.1.1.1.1.1.1.0))
+    built_model c.args.n_qubits (input s) (tables s) c.args.work_words.now c.args.work_numbers.now (accepts s) sum.result sum.ensures places.result places.ensures fit.result fit.ensures _ _ (c.clear_lanes-2.ensures ∙ ap (λ (m : ℕ). replicate m 0) (j.words ∙ k.words)) (c.clear_numbers-2.ensures ∙ ap (λ (m : ℕ). replicate m float0) (j.sums ∙ k.sums))
     c.if-not-jumps_fit.false-raw _ _ _ _ _ _ stores.result c.store_hamiltonian.ensures stores.ensures

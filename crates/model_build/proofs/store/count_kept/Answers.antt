@@ -29,13 +29,13 @@ pub loop-i-preserved-then-negligible : goal.loop-i-preserved-then-negligible
 loop-i-preserved-then-negligible c =
     let a = c.args in
     let l = c.loop-i in
-    (omega arith, omega arith, count_drops a.words.now a.numbers.now l.i l.auto (onto c.term_at-t.result) (omega arith) (omega arith) c.term_at-t.ensures (ap floats.small (sym c.norm_sqr.ensures) ∙ sym c.negligible.ensures ∙ c.if-negligible.true) l.invariant.2)
+    (omega arith, omega arith, count_drops a.words.now a.numbers.now l.i l.kept (onto c.term_at-t.result) (omega arith) (omega arith) c.term_at-t.ensures (ap floats.small (sym c.norm_sqr.ensures) ∙ sym c.negligible.ensures ∙ c.if-negligible.true) l.invariant.2)
 
 pub loop-i-preserved : goal.loop-i-preserved
 loop-i-preserved c =
     let a = c.args in
     let l = c.loop-i in
-    (omega arith, omega arith, count_keeps a.words.now a.numbers.now l.i l.auto (onto c.term_at-t.result) (omega arith) (omega arith) c.term_at-t.ensures (ap floats.small (sym c.norm_sqr.ensures) ∙ sym c.negligible.ensures ∙ c.if-negligible.false) l.invariant.2)
+    (omega arith, omega arith, count_keeps a.words.now a.numbers.now l.i l.kept (onto c.term_at-t.result) (omega arith) (omega arith) c.term_at-t.ensures (ap floats.small (sym c.norm_sqr.ensures) ∙ sym c.negligible.ensures ∙ c.if-negligible.false) l.invariant.2)
 
 pub returns : goal.returns
 returns c =
