@@ -33,10 +33,6 @@ own : (c : After-where_any-work) (hWords : List ℕ) (hCoeffs : List Float) (tWo
     → lengths_answer (start c).args.m (input (start c)) (tables (start c) hWords hCoeffs tWords tNumbers) (start c).args.work_words.now (start c).args.work_numbers.now
     ≡ tables_answer (start c).args.m (input (start c)) (tables (start c) hWords hCoeffs tWords tNumbers) (start c).args.work_words.now (start c).args.work_numbers.now c.smaller-entries.result c.where_any-work.result
 own c hWords hCoeffs tWords tNumbers =
-    let s = (goal.at.After-where_any-work c).After-smaller-entries in
-    let e = (goal.at.After-where_any-work c).In-Accepted-by_lengths in
-    let d = (goal.at.After-where_any-work c).In-Accepted in
-    let b = (goal.at.After-where_any-work c).Else-numbers-terms in
     own_agree _ _ _ _ _ c.if-k-places.false c.if-k-places-2.false c.if-lengths-terms.false c.if-numbers-terms.false
     (sym c.parts_fit-by_counts.ensures ∙ c.in-Accepted.is) (sym c.parts_fit-by_lengths.ensures ∙ c.in-Accepted-by_lengths.is) _ c.smaller-entries.ensures _ c.smaller.ensures _ c.where_any-work.ensures
 

@@ -3,7 +3,6 @@
 
 -- `matrix::count_pairs` meets its contract: those counted and those that are left are all. Assumes nothing.
 use mathlib.Core.Path.{sym, ap, ◌∙◌}
-use mathlib.Core.Logic.{⊎_elim}
 use Prim.Native.Nat.{◌*◌}
 use native.Mathlib.Omega.{arith}
 use lib.ListN.{length}
@@ -12,6 +11,7 @@ use Rattle.sums.specs.Numbers.{complexes}
 use Rattle.k_matrix.specs.Matrix.{is_pair}
 use Rattle.k_matrix.proofs.MatrixLaws.{places_few, passing_start, passing_yes, passing_no, passing_end}
 use Rattle.k_matrix.proofs.matrix.count_pairs.Goals as goal
+use Rattle.k_matrix.proofs.matrix.count_pairs.Goals.{then-makes_pair, else-makes_pair}
 
 pub overflow_mul-places : goal.overflow_mul-places
 overflow_mul-places c = omega (arith, places_few c.args.ops c.requires.few)
@@ -33,10 +33,10 @@ loop-p-preserved c =
     let a = c.args in
     let l = c.loop-p in
     let told = c.makes_pair.ensures in
-    ⊎_elim
-    (λ w. (omega arith, omega arith, omega (arith, w.1, ap length (passing_yes (is_pair floats a.ops (complexes a.k.now)) l.p (a.ops * a.ops) c.loop-p-test.true (sym told ∙ w.0.taken)))))
-    (λ w. (omega arith, omega arith, omega (arith, w.1, ap length (passing_no (is_pair floats a.ops (complexes a.k.now)) l.p (a.ops * a.ops) c.loop-p-test.true (sym told ∙ w.0.left)))))
-    c.if-makes_pair.branch
+    elim c.if-makes_pair.branch [
+      then-makes_pair w ↦ (omega arith, omega arith, omega (arith, ap length (passing_yes (is_pair floats a.ops (complexes a.k.now)) l.p (a.ops * a.ops) c.loop-p-test.true (sym told ∙ w.if-makes_pair.true))))
+    | else-makes_pair w ↦ (omega arith, omega arith, omega (arith, ap length (passing_no (is_pair floats a.ops (complexes a.k.now)) l.p (a.ops * a.ops) c.loop-p-test.true (sym told ∙ w.if-makes_pair.false))))
+    ]
 
 pub returns : goal.returns
 returns c =

@@ -2,7 +2,6 @@
 -- SPDX-License-Identifier: Apache-2.0
 
 -- `matrix::first_apart` meets its contract: none of the places before p is apart. Assumes nothing.
-use mathlib.Core.Logic.{⊎_elim}
 use mathlib.Core.Path.{refl}
 use Prim.Native.Nat.{◌*◌}
 use native.Mathlib.Omega.{arith}
@@ -12,6 +11,7 @@ use Rattle.lent.proofs.Firsts.{none_start, none_more, stops_here, stops_last}
 use Rattle.k_matrix.specs.Matrix.{apart_at}
 use Rattle.k_matrix.proofs.MatrixLaws.{places_few, some_ops, row_below, column_below, apart_turned, apart_here}
 use Rattle.k_matrix.proofs.matrix.first_apart.Goals as goal
+use Rattle.k_matrix.proofs.matrix.first_apart.Goals.{then-n-m+else-entries_apart, else-n-m}
 
 pub overflow_mul-places : goal.overflow_mul-places
 overflow_mul-places c = omega (arith, places_few c.args.ops c.requires.few)
@@ -46,10 +46,10 @@ loop-p-preserved c =
     let f = apart_at floats a.ops (complexes a.k.now) in (
       omega arith,
       none_more f l.p l.invariant.1
-          (⊎_elim
-          (λ w. apart_here a.ops (complexes a.k.now) l.p w.0.taken w.1.ensures w.2.left)
-          (λ w. apart_turned a.ops (complexes a.k.now) l.p w.left)
-          c.if-n-m.branch),
+          (elim c.if-n-m.branch [
+            then-n-m+else-entries_apart w ↦ apart_here a.ops (complexes a.k.now) l.p w.if-n-m.true w.entries_apart.ensures w.if-entries_apart.false
+          | else-n-m w ↦ apart_turned a.ops (complexes a.k.now) l.p w.if-n-m.false
+          ]),
     )
 
 pub returns : goal.returns
