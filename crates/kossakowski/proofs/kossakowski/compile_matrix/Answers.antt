@@ -101,15 +101,15 @@ overflow_add-own c =
 
 pub store_terms-requires : goal.store_terms-requires
 store_terms-requires c =
-    let e = (goal.at.store_terms-requires c).After-slice_known-5-1 in
+    let e = (goal.at.store_terms-requires c).Else-counts-eq0 in
     let s = start e in
     store_room s.args.m (input s) (tables s) s.args.work_words.now s.args.work_numbers.now (accepts s) _ _ c.read_operator.ensures c.count_terms-kept.result c.count_terms-kept.ensures.0 _ _ c.count_terms-kept.ensures.2 c.smaller-places.result c.smaller-places.ensures (some e) c.if-places-terms.false (c.count_terms-kept.auto.words ∙ c.read_operator.auto.words) (c.count_terms-kept.auto.sums ∙ c.read_operator.auto.sums)
 
 pub store_pairs-requires : goal.store_pairs-requires
 store_pairs-requires c =
-    let e = (goal.at.store_pairs-requires c).After-slice_known-5-1 in
+    let e = (goal.at.store_pairs-requires c).Else-counts-eq0 in
     let s = start e in
-    let f : Fits w64 (length s.args.t_words.now) = search (s.good.1.1.1.1.1.1.1.1.1.1.0, rules) in
+    let f : Fits w64 (length s.args.t_words.now) = search (c.well_formed, rules) in
     (square s.args.m (input s) (tables s) s.args.work_words.now s.args.work_numbers.now (accepts s) _ c.largest_square-largest.ensures, work_room s.args.m (input s) (tables s) s.args.work_words.now s.args.work_numbers.now (accepts s) (some e) _ _ (c.count_terms-kept.auto.words ∙ c.read_operator.auto.words) (c.count_terms-kept.auto.sums ∙ c.read_operator.auto.sums), omega (arith, f, (terms_inside s.args.m (tables s) (accepts s).modelled).0, own_few s.args.m (input s) (tables s) s.args.work_words.now s.args.work_numbers.now (accepts s), (accepts s).lengths.terms_counted), pairs_room s.args.m (input s) (tables s) s.args.work_words.now s.args.work_numbers.now (accepts s) _ _ c.read_operator.ensures c.count_terms-kept.result c.count_terms-kept.ensures.0 _ _ c.count_terms-kept.ensures.2 c.smaller-places.result c.smaller-places.ensures c.if-places-terms.false _ _ c.store_terms.auto.t_words c.store_terms.auto.t_numbers)
 
 pub clear_lanes-requires-2 : goal.clear_lanes-requires-2

@@ -51,7 +51,7 @@ loop-p-preserved-then-makes_pair c =
     let a = c.args in
     let l = c.loop-p in
     let r = c.count_pair-kept in
-    count_next (complexes a.k.now) a.counts.now a.words.now a.sums.now c.requires.1 l.words l.sums l.auto l.p l.invariant
+    count_next (complexes a.k.now) a.counts.now a.words.now a.sums.now c.requires.1 l.words l.sums l.kept l.p l.invariant
     _ _ _ _ r.result c.loop-p-test.true (sym c.makes_pair.ensures ∙ c.if-makes_pair.true) c.operator_range-left.ensures c.operator_range-right.ensures r.ensures.0 r.ensures.1 r.auto.words r.auto.sums
 
 pub overflow_add-p-else-makes_pair : goal.overflow_add-p-else-makes_pair
@@ -61,13 +61,13 @@ pub loop-p-preserved : goal.loop-p-preserved
 loop-p-preserved c =
     let a = c.args in
     let l = c.loop-p in
-    count_skips (complexes a.k.now) a.counts.now a.words.now a.sums.now c.requires.1 l.words l.sums l.auto l.p l.invariant c.loop-p-test.true (sym c.makes_pair.ensures ∙ c.if-makes_pair.false)
+    count_skips (complexes a.k.now) a.counts.now a.words.now a.sums.now c.requires.1 l.words l.sums l.kept l.p l.invariant c.loop-p-test.true (sym c.makes_pair.ensures ∙ c.if-makes_pair.false)
 
 pub returns : goal.returns
 returns c =
     let a = c.args in
     let l = c.loop-p in (
-      count_done (complexes a.k.now) a.counts.now a.words.now a.sums.now c.requires.1 l.words l.sums l.auto l.p l.invariant c.loop-p-test.false,
+      count_done (complexes a.k.now) a.counts.now a.words.now a.sums.now c.requires.1 l.words l.sums l.kept l.p l.invariant c.loop-p-test.false,
       omega (arith, l.invariant.few, l.invariant.high, places_few _ c.requires.0.few),
       l.invariant.standing.stays,
     )
