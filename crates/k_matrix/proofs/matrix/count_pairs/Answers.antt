@@ -34,8 +34,8 @@ loop-p-preserved c =
     let l = c.loop-p in
     let told = c.makes_pair.ensures in
     elim c.if-makes_pair.branch [
-      then-makes_pair w ↦ (omega arith, omega arith, omega (arith, ap length (passing_yes (is_pair floats a.ops (complexes a.k.now)) l.p (a.ops * a.ops) c.loop-p-test.true (sym told ∙ w.if-makes_pair.true))))
-    | else-makes_pair w ↦ (omega arith, omega arith, omega (arith, ap length (passing_no (is_pair floats a.ops (complexes a.k.now)) l.p (a.ops * a.ops) c.loop-p-test.true (sym told ∙ w.if-makes_pair.false))))
+      | then-makes_pair w ↦ (omega arith, omega arith, omega (arith, ap length (passing_yes (is_pair floats a.ops (complexes a.k.now)) l.p (a.ops * a.ops) c.loop-p-test.true (sym told ∙ w.if-makes_pair.true))))
+      | else-makes_pair w ↦ (omega arith, omega arith, omega (arith, ap length (passing_no (is_pair floats a.ops (complexes a.k.now)) l.p (a.ops * a.ops) c.loop-p-test.true (sym told ∙ w.if-makes_pair.false))))
     ]
 
 pub returns : goal.returns

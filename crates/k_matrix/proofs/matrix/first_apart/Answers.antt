@@ -47,8 +47,8 @@ loop-p-preserved c =
       omega arith,
       none_more f l.p l.invariant.1
           (elim c.if-n-m.branch [
-            then-n-m+else-entries_apart w ↦ apart_here a.ops (complexes a.k.now) l.p w.if-n-m.true w.entries_apart.ensures w.if-entries_apart.false
-          | else-n-m w ↦ apart_turned a.ops (complexes a.k.now) l.p w.if-n-m.false
+            | then-n-m+else-entries_apart w ↦ apart_here a.ops (complexes a.k.now) l.p w.if-n-m.true w.entries_apart.ensures w.if-entries_apart.false
+            | else-n-m w ↦ apart_turned a.ops (complexes a.k.now) l.p w.if-n-m.false
           ]),
     )
 
