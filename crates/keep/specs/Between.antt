@@ -2,7 +2,7 @@
 -- SPDX-License-Identifier: Apache-2.0
 
 -- Contracts between functions: what the functions that choose, retain and append ask for and leave.
-use Rattle.std.specs.Prelude.{ℕ, zero, suc, ◌-◌, ◌*◌, ◌+◌, ◌<◌, ◌≤◌, ◌≡◌, cond, List, [], ◌∷◌, ◌++◌, eqb, Float, length, get_or, take}
+use Rattle.std.specs.Prelude.{ℕ, zero, suc, ◌*◌, ◌+◌, ◌<◌, ◌≤◌, ◌≡◌, cond, List, [], ◌∷◌, ◌++◌, eqb, Float, length, get_or, take}
 use Rattle.word.specs.Flat.{word_lanes}
 use Rattle.keep.specs.Retained.{flagged, retained_lanes, retained_numbers}
 use Rattle.keep.specs.Admitted.{appended_lanes, appended_zeros, picked}

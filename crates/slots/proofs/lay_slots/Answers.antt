@@ -22,7 +22,7 @@ slots_same c = c.clear_lanes.auto.t
 -- the slot is one of them
 slot_low : (c : After-slot_of-s) → (c.slot_of-s.result < length c.loop-i.heads) × (c.slot_of-s.result < length c.clear_lanes.new.t)
 slot_low c =
-    let h = slot_below (length c.clear_lanes.new.t) c.word_at-w.result (slot-of-requires c.before c.slot_of-s.lifetimes) in
+    let h = slot_below (length c.clear_lanes.new.t) c.word_at-w.result (omega (arith, c.requires.1, c.clear_lanes.auto.t, c.loop-i.invariant.nexts_same, c.loop-i-test.true)) in
     (omega (arith, h, c.slot_of-s.ensures, c.loop-i.invariant.heads_same), omega (arith, h, c.slot_of-s.ensures))
 
 -- a place of nexts for each word

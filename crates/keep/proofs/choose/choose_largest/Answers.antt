@@ -22,7 +22,7 @@ returns-then-left-eq0 c =
     let a = c.args in
     let l = c.loop-i in
     let rest = drop l.i a.order.now in
-    sym (walked_none a.fixed.now rest l.auto) ∙ sym (ap (λ (k : ℕ). walked a.fixed.now rest k l.auto) c.if-left-eq0.true) ∙ l.invariant.2
+    sym (walked_none a.fixed.now rest l.kept) ∙ sym (ap (λ (k : ℕ). walked a.fixed.now rest k l.kept) c.if-left-eq0.true) ∙ l.invariant.2
 
 pub offset_bounds-fixed-p : goal.offset_bounds-fixed-p
 offset_bounds-fixed-p c =
@@ -50,8 +50,8 @@ loop-i-preserved-then-fixed-p-eq0 c =
     let l = c.loop-i in
     let p = get_or a.order.now l.i 0 in (
       omega arith,
-      length-set l.auto p 1 ∙ l.invariant.1,
-      sym (walked_slot a.fixed.now a.order.now l.i l.auto (omega arith) l.left c.if-left-eq0.false (eq-eqb (get_or a.fixed.now p 0) 0 c.if-fixed-p-eq0.true)) ∙ l.invariant.2,
+      length-set l.kept p 1 ∙ l.invariant.1,
+      sym (walked_slot a.fixed.now a.order.now l.i l.kept (omega arith) l.left c.if-left-eq0.false (eq-eqb (get_or a.fixed.now p 0) 0 c.if-fixed-p-eq0.true)) ∙ l.invariant.2,
     )
 
 pub loop-i-preserved : goal.loop-i-preserved
@@ -61,11 +61,11 @@ loop-i-preserved c =
     let p = get_or a.order.now l.i 0 in (
       omega arith,
       l.invariant.1,
-      sym (walked_fixed a.fixed.now a.order.now l.i l.auto (omega arith) l.left c.if-left-eq0.false (ne_eqb (get_or a.fixed.now p 0) 0 c.if-fixed-p-eq0.false)) ∙ l.invariant.2,
+      sym (walked_fixed a.fixed.now a.order.now l.i l.kept (omega arith) l.left c.if-left-eq0.false (ne_eqb (get_or a.fixed.now p 0) 0 c.if-fixed-p-eq0.false)) ∙ l.invariant.2,
     )
 
 pub returns : goal.returns
 returns c =
     let a = c.args in
     let l = c.loop-i in
-    sym (walked_end a.fixed.now a.order.now l.i l.left l.auto c.loop-i-test.false) ∙ l.invariant.2
+    sym (walked_end a.fixed.now a.order.now l.i l.left l.kept c.loop-i-test.false) ∙ l.invariant.2

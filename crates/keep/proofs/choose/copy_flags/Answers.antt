@@ -20,8 +20,8 @@ loop-i-preserved c =
     let l = c.loop-i in
     let f = c.flag_of in (
       omega arith,
-      length-set l.auto l.i f.result ∙ l.invariant.1,
-      written_more 0 (map flag_of a.flags.now) a.kept.now l.auto _ l.i f.result (omega (arith, length-map a.flags.now flag_of)) (omega arith) l.invariant.2 (f.ensures ∙ sym (get_or-map flag_of a.flags.now l.i 0)) refl,
+      length-set l.kept l.i f.result ∙ l.invariant.1,
+      written_more 0 (map flag_of a.flags.now) a.kept.now l.kept _ l.i f.result (omega (arith, length-map a.flags.now flag_of)) (omega arith) l.invariant.2 (f.ensures ∙ sym (get_or-map flag_of a.flags.now l.i 0)) refl,
     )
 
 pub returns : goal.returns
@@ -29,5 +29,5 @@ returns c =
     let a = c.args in
     let l = c.loop-i in
     let n = length-map a.flags.now flag_of in
-    written (map flag_of a.flags.now) a.kept.now l.auto l.i
+    written (map flag_of a.flags.now) a.kept.now l.kept l.i
     (drop_of_length-le (map flag_of a.flags.now) {i = l.i} (omega (arith, n)) ∙ sym (drop_of_length-le a.kept.now {i = l.i} (omega arith))) l.invariant.2

@@ -28,8 +28,8 @@ loop-i-preserved c =
     let z : length none ≡ len = length-replicate len 0 in
     let n : length new ≡ len = large_length a.drop_tol (take len a.coeffs.now) none ∙ z in (
       omega arith,
-      length-set l.auto l.i f.result ∙ l.invariant.1,
-      written_more 0 new a.kept.now l.auto _ l.i f.result (omega (arith, n)) (omega arith) l.invariant.2
+      length-set l.kept l.i f.result ∙ l.invariant.1,
+      written_more 0 new a.kept.now l.kept _ l.i f.result (omega (arith, n)) (omega arith) l.invariant.2
           (f.ensures ∙ ap (large_flag a.drop_tol (get_or a.coeffs.now l.i nan)) (sym (get_or-replicate len l.i 0 0 (omega arith)))
           ∙ sym (large_first a.drop_tol a.coeffs.now none len l.i (omega arith) (omega arith) (omega (arith, z)))) refl,
     )
@@ -42,4 +42,4 @@ returns c =
     let none : List ℕ = replicate len 0 in
     let new : List ℕ = large_flags a.drop_tol (take len a.coeffs.now) none in
     let n : length new ≡ len = large_length a.drop_tol (take len a.coeffs.now) none ∙ length-replicate len 0 in
-    written new a.kept.now l.auto l.i (drop_of_length-le new {i = l.i} (omega (arith, n)) ∙ sym (drop_of_length-le a.kept.now {i = l.i} (omega arith))) l.invariant.2
+    written new a.kept.now l.kept l.i (drop_of_length-le new {i = l.i} (omega (arith, n)) ∙ sym (drop_of_length-le a.kept.now {i = l.i} (omega arith))) l.invariant.2

@@ -20,13 +20,13 @@ returns-then-slots-eq0 c =
 pub returns-then-coeffs-slots : goal.returns-then-coeffs-slots
 returns-then-coeffs-slots c =
     let a = c.args in
-    let finite : AllFinite a.coeffs.now = record { fitting = λ i h. c.shared_slice_known-1.given i; numbers = c.requires.3 } in
+    let finite : AllFinite a.coeffs.now = record { fitting = λ i h. c.type_inv.coeffs i; numbers = c.requires.3 } in
     c.flag_all.ensures ∙ rw c.requires.2 (chosen_all a.coeffs.now finite a.fixed.now c.requires.0 a.slots c.if-coeffs-slots.true)
 
 pub returns-then-taken-slots : goal.returns-then-taken-slots
 returns-then-taken-slots c =
     let a = c.args in
     let k = c.keep_to-taken in
-    let finite : AllFinite a.coeffs.now = record { fitting = λ i h. c.shared_slice_known-1.given i; numbers = c.requires.3 } in
+    let finite : AllFinite a.coeffs.now = record { fitting = λ i h. c.type_inv.coeffs i; numbers = c.requires.3 } in
     chosen_by_last a.coeffs.now finite a.fixed.now c.requires.0 a.slots c.find_last-last.result (omega arith) k.new.kept
     (subst (λ (t : ℕ). KeepsTo a.coeffs.now a.fixed.now c.find_last-last.result t k.new.kept) c.if-taken-slots.true k.ensures)

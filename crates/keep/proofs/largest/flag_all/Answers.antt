@@ -18,7 +18,7 @@ loop-i-smaller c = simp length-set (omega arith)
 pub loop-i-preserved : goal.loop-i-preserved
 loop-i-preserved c =
     let l = c.loop-i in
-    (search rules, simp length-set (omega arith), filled_more 1 l.i c.args.kept.now l.auto l.invariant.2 (omega arith))
+    (search rules, simp length-set (omega arith), filled_more 1 l.i c.args.kept.now l.kept l.invariant.2 (omega arith))
 
 pub returns : goal.returns
-returns c = let l = c.loop-i in filled 1 l.i c.args.kept.now l.auto l.invariant.2 (omega arith)
+returns c = let l = c.loop-i in filled 1 l.i c.args.kept.now l.kept l.invariant.2 (omega arith)

@@ -24,7 +24,7 @@ pub loop-i-preserved-then-fixed-i-eq0 : goal.loop-i-preserved-then-fixed-i-eq0
 loop-i-preserved-then-fixed-i-eq0 c =
     let l = c.loop-i in
     let v = c.stays-flag in
-    (omega arith, next_free c.magnitude-cut.result c.args.coeffs.now c.args.fixed.now c.args.last l.taken l.i l.auto l.invariant.1 (omega arith) v.result c.if-fixed-i-eq0.true v.ensures)
+    (omega arith, next_free c.magnitude-cut.result c.args.coeffs.now c.args.fixed.now c.args.last l.taken l.i l.kept l.invariant.1 (omega arith) v.result c.if-fixed-i-eq0.true v.ensures)
 
 pub bounds-kept-i-else-fixed-i-eq0 : goal.bounds-kept-i-else-fixed-i-eq0
 bounds-kept-i-else-fixed-i-eq0 c = let l = c.loop-i in omega (arith, l.invariant.1.long)
@@ -32,9 +32,9 @@ bounds-kept-i-else-fixed-i-eq0 c = let l = c.loop-i in omega (arith, l.invariant
 pub loop-i-preserved : goal.loop-i-preserved
 loop-i-preserved c =
     let l = c.loop-i in
-    (omega arith, next_fixed c.magnitude-cut.result c.args.coeffs.now c.args.fixed.now c.args.last l.taken l.i l.auto l.invariant.1 (omega arith) c.if-fixed-i-eq0.false)
+    (omega arith, next_fixed c.magnitude-cut.result c.args.coeffs.now c.args.fixed.now c.args.last l.taken l.i l.kept l.invariant.1 (omega arith) c.if-fixed-i-eq0.false)
 
 pub returns : goal.returns
 returns c =
     let l = c.loop-i in
-    kept_all c.magnitude-cut.result c.args.coeffs.now c.args.fixed.now c.args.last l.taken l.i l.auto l.invariant.1 (omega arith) c.magnitude-cut.ensures
+    kept_all c.magnitude-cut.result c.args.coeffs.now c.args.fixed.now c.args.last l.taken l.i l.kept l.invariant.1 (omega arith) c.magnitude-cut.ensures
