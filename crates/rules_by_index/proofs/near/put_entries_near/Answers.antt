@@ -20,7 +20,6 @@ use Rattle.rules_by_index.proofs.near.put_entries_near.Goals.{In-Item}
 
 item_below : (c : In-Item) → c.in-Item.j < c.args.count
 item_below c =
-    let s = (goal.at.In-Item c).Start in
     let a = c.args in
     let l = c.loop-j in
     visit_below (λ (k : ℕ). jump_adds a.p (of_terms a.t_words.now a.t_numbers.now) (jump_at a.jumps.now a.rates.now k)) a.count a.room a.len a.row a.mask.now a.lanes.now a.sums.now c.requires.0 l.lanes l.sums l.held l.c l.invariant.0 c.step-s.result c.step-s.ensures _ _ c.in-Item.is
@@ -78,7 +77,7 @@ pub put_jump-added-requires : goal.put_jump-added-requires
 put_jump-added-requires c =
     let a = c.args in
     let l = c.loop-j in
-    (visit_room (λ (k : ℕ). jump_adds a.p (of_terms a.t_words.now a.t_numbers.now) (jump_at a.jumps.now a.rates.now k)) a.count a.room a.len a.row a.mask.now a.lanes.now a.sums.now c.requires.0 l.lanes l.sums l.held l.c l.invariant.0, ap (bad_jump a.places) c.jump_at-jump.ensures ∙ c.requires.5 _ (item_below (goal.at.put_jump-added-requires c).In-Item-2), c.requires.3, c.requires.4)
+    (visit_room (λ (k : ℕ). jump_adds a.p (of_terms a.t_words.now a.t_numbers.now) (jump_at a.jumps.now a.rates.now k)) a.count a.room a.len a.row a.mask.now a.lanes.now a.sums.now c.requires.0 l.lanes l.sums l.held l.c l.invariant.0, ap (bad_jump a.places) c.jump_at-jump.ensures ∙ c.requires.5 _ (item_below (goal.at.put_jump-added-requires c).In-Item), c.requires.3, c.requires.4)
 
 pub returns-in_default-added : goal.returns-in_default-added
 returns-in_default-added c = λ t ew en.

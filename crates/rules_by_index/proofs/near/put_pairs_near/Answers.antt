@@ -18,7 +18,6 @@ use Rattle.rules_by_index.proofs.near.put_pairs_near.Goals.{In-Item}
 
 item_below : (c : In-Item) → c.in-Item.j < c.args.count
 item_below c =
-    let s = (goal.at.In-Item c).Start in
     let a = c.args in
     let l = c.loop-j in
     visit_below (λ (k : ℕ). pair_adds a.p (of_terms a.t_words.now a.t_numbers.now) (jump_at a.jumps.now a.rates.now k)) a.count a.room a.len a.row a.mask.now a.lanes.now a.sums.now c.requires.0 l.lanes l.sums l.held l.c l.invariant c.step-s.result c.step-s.ensures _ _ c.in-Item.is

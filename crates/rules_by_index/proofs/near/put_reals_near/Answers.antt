@@ -13,7 +13,6 @@ use Rattle.rules_by_index.proofs.near.put_reals_near.Goals.{In-Item}
 
 item_below : (c : In-Item) → c.in-Item.i < c.args.count
 item_below c =
-    let s = (goal.at.In-Item c).Start in
     let a = c.args in
     let l = c.loop-i in
     visit_below (real_adds a.h_words.now a.h_coeffs.now a.p) a.count a.room 0 a.row a.mask.now a.lanes.now a.sums.now c.requires.0 l.lanes l.sums l.held l.c l.invariant c.step-s.result c.step-s.ensures _ _ c.in-Item.is
