@@ -9,7 +9,7 @@ use native.Mathlib.Numerals.{add-one}
 use native.Mathlib.Omega.{arith}
 use lib.Ieee.{Float, nan}
 use lib.ListN.{length, get_or, set, take}
-use lib.Seq.{get_or-take, length-take-le, take-suc, take-suc-set}
+use lib.Seq.{get_or-take, length-take-le, take-suc-set}
 use Rattle.word.specs.declared.word.Word.{Word}
 use Rattle.word.specs.Flat.{word_lanes, words}
 use Rattle.word.specs.Word.{identity}

@@ -2,7 +2,8 @@
 -- SPDX-License-Identifier: Apache-2.0
 
 -- `prune::check_prune` meets its contract, answer by answer. Assumes nothing.
-use mathlib.Core.Path.{sym, ◌∙◌}
+use mathlib.Core.Path.{ap, sym, ◌∙◌}
+use mathlib.Core.Bool.{not}
 use Rattle.truncate.proofs.ChecksLaws.{lengths_room}
 use Rattle.truncate.proofs.PruneLaws.{qubits_many, entries_many, protected_many, lengths_refused, entries_refused, threshold_bad, prune_accepted}
 use Rattle.truncate.proofs.prune.check_prune.Goals as goal
@@ -41,9 +42,9 @@ returns-in_default-entries c =
 pub returns-then-not-finite : goal.returns-then-not-finite
 returns-then-not-finite c =
     let a = c.args in
-    threshold_bad a.len a.words.now a.coeffs.now a.order.now a.work.now a.fixed.now a.kept.now a.n a.protected.now a.drop_tol c.if-n-gt-MAX_QUBITS.false c.if-len-gt-MAX_WORDS.false c.if-count-gt-MAX_WORDS.false (sym (c.check_lengths-lengths.ensures a.n) ∙ c.in-Accepted.is) (sym c.check_entries-entries.ensures ∙ c.in-Accepted-entries.is) _ c.is_finite-finite.ensures c.if-not-finite.true-raw
+    threshold_bad a.len a.words.now a.coeffs.now a.order.now a.work.now a.fixed.now a.kept.now a.n a.protected.now a.drop_tol c.if-n-gt-MAX_QUBITS.false c.if-len-gt-MAX_WORDS.false c.if-count-gt-MAX_WORDS.false (sym (c.check_lengths-lengths.ensures a.n) ∙ c.in-Accepted.is) (sym c.check_entries-entries.ensures ∙ c.in-Accepted-entries.is) _ c.is_finite-finite.ensures (ap not c.if-not-finite.true)
 
 pub returns : goal.returns
 returns c =
     let a = c.args in
-    prune_accepted a.len a.words.now a.coeffs.now a.order.now a.work.now a.fixed.now a.kept.now a.n a.protected.now a.drop_tol c.if-n-gt-MAX_QUBITS.false c.if-len-gt-MAX_WORDS.false c.if-count-gt-MAX_WORDS.false (sym (c.check_lengths-lengths.ensures a.n) ∙ c.in-Accepted.is) (sym c.check_entries-entries.ensures ∙ c.in-Accepted-entries.is) _ c.is_finite-finite.ensures c.if-not-finite.false-raw
+    prune_accepted a.len a.words.now a.coeffs.now a.order.now a.work.now a.fixed.now a.kept.now a.n a.protected.now a.drop_tol c.if-n-gt-MAX_QUBITS.false c.if-len-gt-MAX_WORDS.false c.if-count-gt-MAX_WORDS.false (sym (c.check_lengths-lengths.ensures a.n) ∙ c.in-Accepted.is) (sym c.check_entries-entries.ensures ∙ c.in-Accepted-entries.is) _ c.is_finite-finite.ensures (ap not c.if-not-finite.false)
