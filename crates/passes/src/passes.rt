@@ -131,7 +131,7 @@ pub fn run_passes(
     requires model_ready { 0 < length positions.now → ModelReady m (model_tables h_words.now h_coeffs.now jumps.now rates.now t_words.now t_numbers.now) h_index.now j_index.now mask.old }
     requires basis_ready { 0 < length positions.now → BasisReady m.qubits basis.now coeffs.now heads.now nexts.now protected.now × AllBelow (length coeffs.now) positions.now }
     requires action_room { ActionRoom sum_room work_words.old work_sums.old }
-    requires candidate_room_in_bounds { (word_lanes * candidate_room ≤ length words.old) × (candidate_room ≤ length sums.old) × (candidate_room ≤ length order.old) × (candidate_room ≤ length work.old) }
+    requires candidates_long { (word_lanes * candidate_room ≤ length words.old) × (candidate_room ≤ length sums.old) × (candidate_room ≤ length order.old) × (candidate_room ≤ length work.old) }
     ensures { Took candidate_room (passes (touched_at m (model_tables h_words.now h_coeffs.now jumps.now rates.now t_words.now t_numbers.now) (words_in basis.now) coeffs.now (words_in protected.now)) (leaks_at m (model_tables h_words.now h_coeffs.now jumps.now rates.now t_words.now t_numbers.now) (words_in basis.now) coeffs.now (words_in protected.now)) sum_room candidate_room room (pass_count (length positions.now)) positions.now []) words.new sums.new order.new result }
 {
     clear_lanes(order);

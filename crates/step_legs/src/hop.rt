@@ -97,7 +97,7 @@ pub fn hop(
     start: &mut [f64],
 ) -> Kept
     requires given { Given m (model_tables h_words.now h_coeffs.now jumps.now rates.now t_words.now t_numbers.now) protected.now limits }
-    requires hop_long { HopLong m.qubits (length protected.now / word_lanes) places len h_index.old j_index.old mask.old order.old heads.old nexts.old grown_words.old start.old evolved.now }
+    requires long { HopLong m.qubits (length protected.now / word_lanes) places len h_index.old j_index.old mask.old order.old heads.old nexts.old grown_words.old start.old evolved.now }
     requires holds { Holds m.qubits places len grown_words.old start.old evolved.now }
     ensures { ((p : Places) (dt : Float) → HopPlaces p places work_words.old work_sums.old cand_words.old cand_sums.old place_order.old place_work.old list_words.old list_values.old → Hops (hop_of m (model_tables h_words.now h_coeffs.now jumps.now rates.now t_words.now t_numbers.now) (words_in protected.now) dt p (limit_of limits) (tau_of limits) (take len (words_in grown_words.old)) (take len evolved.now)) m.qubits places len grown_words.old start.old result grown_words.new start.new) × (shared h_index.new j_index.new mask.new work_words.new work_sums.new order.new heads.new nexts.new cand_words.new cand_sums.new place_order.new place_work.new list_words.new list_values.new ≡ none (shared h_index.old j_index.old mask.old work_words.old work_sums.old order.old heads.old nexts.old cand_words.old cand_sums.old place_order.old place_work.old list_words.old list_values.old)) }
 {

@@ -114,10 +114,10 @@ run_and_clear-taken-requires c =
     let l = c.lay_basis.ensures in
     let e = c.where_any-both.ensures in
     let order : List ℕ = c.lay_basis.new.order in
-    let word_of : 0 < length (take a.len order) → 0 < a.len = some_word a.len order in (
-      (λ h. let w = word_of h in model_ready c.args.m (stored s) (lent s) (work s) p w _ _ (q.ensures w (stored s) refl refl refl refl) q.auto.h_index q.auto.j_index),
-      (λ h. let w = word_of h in (basis_ready c.args.m (stored s) (lent s) (work s) p _ _ _ l w e, order_below c.args.m (stored s) (lent s) (work s) p _ _ _ l w)),
-    )
+    let word_of : 0 < length (take a.len order) → 0 < a.len = some_word a.len order in record {
+      model_ready = (λ h. let w = word_of h in model_ready c.args.m (stored s) (lent s) (work s) p w _ _ (q.ensures w (stored s) refl refl refl refl) q.auto.h_index q.auto.j_index);
+      basis_ready = (λ h. let w = word_of h in (basis_ready c.args.m (stored s) (lent s) (work s) p _ _ _ l w e, order_below c.args.m (stored s) (lent s) (work s) p _ _ _ l w));
+    }
 
 pub list_candidates-listed-requires : goal.list_candidates-listed-requires
 list_candidates-listed-requires c =

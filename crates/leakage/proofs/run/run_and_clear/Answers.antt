@@ -12,8 +12,12 @@ use Rattle.leakage.proofs.run.run_and_clear.Goals as goal
 pub run_passes-taken-requires : goal.run_passes-taken-requires
 run_passes-taken-requires c =
     let a = c.args in
-    let h = c.requires in
-    (h.0, (h.1, (action_room a.work_words.now a.work_sums.now c.action_places-sum_room.ensures, candidate_room a.cand_words.now a.cand_sums.now a.place_order.now a.place_work.now c.row_places-candidate_room.ensures)))
+    record {
+      model_ready = c.requires.model_ready;
+      basis_ready = c.requires.basis_ready;
+      action_room = action_room a.work_words.now a.work_sums.now c.action_places-sum_room.ensures;
+      candidates_long = candidate_room a.cand_words.now a.cand_sums.now a.place_order.now a.place_work.now c.row_places-candidate_room.ensures;
+    }
 
 pub returns : goal.returns
 returns c = (

@@ -35,7 +35,7 @@ abbrev leaks : Start → ℕ → Rows
 leaks s = let a = s.args in leaks_at a.m (stored s) (words_in a.basis.now) a.coeffs.now (words_in a.protected.now)
 
 in_coeffs : (c : In-loop-i) → get_or (start_of (goal.at.In-loop-i c).At-loop-i).args.positions.now c.loop-i.i 0 < length (start_of (goal.at.In-loop-i c).At-loop-i).args.coeffs.now
-in_coeffs c = let s = start_of (goal.at.In-loop-i c).At-loop-i in all_at (λ x. x < length s.args.coeffs.now) s.args.positions.now c.loop-i.i s.pre.1.0.1 c.loop-i-test.true
+in_coeffs c = let s = start_of (goal.at.In-loop-i c).At-loop-i in all_at (λ x. x < length s.args.coeffs.now) s.args.positions.now c.loop-i.i s.pre.basis_ready.1 c.loop-i-test.true
 
 -- ---- what the action on one position adds
 -- it finds room
@@ -52,7 +52,7 @@ pub loop-i-init : goal.loop-i-init
 loop-i-init c =
     let s = (goal.at.loop-i-init c).Start in
     let a = c.args in
-    (passing_first (touches s) (leaks s) a.sum_room a.room a.positions.now a.n a.words.now a.sums.now a.order.now a.work.now c.requires.1.1.1, refl, refl, refl, refl, refl, refl, refl)
+    (passing_first (touches s) (leaks s) a.sum_room a.room a.positions.now a.n a.words.now a.sums.now a.order.now a.work.now c.requires.standing, refl, refl, refl, refl, refl, refl, refl)
 
 pub offset_bounds-positions-i : goal.offset_bounds-positions-i
 offset_bounds-positions-i c = omega (arith, c.well_formed.1.1.1.1.1.1.1.1.1.1.1.1.1.1.1.1.1.1.0, c.loop-i-test.true)
@@ -61,20 +61,20 @@ pub bounds-positions-i : goal.bounds-positions-i
 bounds-positions-i c = c.loop-i-test.true
 
 pub word_at-w-requires : goal.word_at-w-requires
-word_at-w-requires c = omega (arith, in_coeffs (goal.at.word_at-w-requires c).In-loop-i, c.requires.1.0.0.each)
+word_at-w-requires c = omega (arith, in_coeffs (goal.at.word_at-w-requires c).In-loop-i, c.requires.basis_ready.0.each)
 
 pub put_rules_near-added-requires : goal.put_rules_near-added-requires
 put_rules_near-added-requires c =
     let a = c.args in
     let l = c.loop-i in
     let h = c.requires in (
-      empty_room a.sum_room l.work_words l.work_sums (omega (arith, h.1.1.0.work_words, l.invariant.2)) (omega (arith, h.1.1.0.work_sums, l.invariant.3)),
-      h.0.tested,
-      h.0.indexed,
-      h.0.h_rows,
-      h.0.j_rows,
-      omega (arith, h.0.row, l.invariant.1),
-      word_inside a.basis.now a.m.qubits h.1.0.0.inside (get_or a.positions.now l.i 0) (omega (arith, in_coeffs (goal.at.put_rules_near-added-requires c).In-loop-i, h.1.0.0.each)) c.word_at-w.ensures,
+      empty_room a.sum_room l.work_words l.work_sums (omega (arith, h.action_room.work_words, l.invariant.2)) (omega (arith, h.action_room.work_sums, l.invariant.3)),
+      h.model_ready.tested,
+      h.model_ready.indexed,
+      h.model_ready.h_rows,
+      h.model_ready.j_rows,
+      omega (arith, h.model_ready.row, l.invariant.1),
+      word_inside a.basis.now a.m.qubits h.basis_ready.0.inside (get_or a.positions.now l.i 0) (omega (arith, in_coeffs (goal.at.put_rules_near-added-requires c).In-loop-i, h.basis_ready.0.each)) c.word_at-w.ensures,
     )
 
 pub returns-in_default : goal.returns-in_default
@@ -100,8 +100,8 @@ put_terms-put-requires c =
     let a = c.args in
     let l = c.loop-i in
     let q = c.put_rules_near-added in
-    let k = sums_inside a.m (stored s) c.word_at-w.result a.sum_room l.work_words l.work_sums _ _ _ q.ensures _ c.in-Held.is q.auto.lanes q.auto.sums (omega (arith, c.requires.1.1.0.work_words, l.invariant.2)) (omega (arith, c.requires.1.1.0.work_sums, l.invariant.3)) in
-    (k.0, k.1, c.requires.1.0.0.slots, l.invariant.0.stands)
+    let k = sums_inside a.m (stored s) c.word_at-w.result a.sum_room l.work_words l.work_sums _ _ _ q.ensures _ c.in-Held.is q.auto.lanes q.auto.sums (omega (arith, c.requires.action_room.work_words, l.invariant.2)) (omega (arith, c.requires.action_room.work_sums, l.invariant.3)) in
+    (k.0, k.1, c.requires.basis_ready.0.slots, l.invariant.0.stands)
 
 pub returns-in_default-put : goal.returns-in_default-put
 returns-in_default-put c =

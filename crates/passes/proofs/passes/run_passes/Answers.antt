@@ -12,9 +12,14 @@ use Rattle.passes.proofs.passes.run_passes.Goals as goal
 pub take_passes-taken-requires : goal.take_passes-taken-requires
 take_passes-taken-requires c =
     let a = c.args in
-    let h = c.requires.1.1.1 in
+    let h = c.requires.candidates_long in
     let z = c.clear_lanes in
-    (c.requires.0, (c.requires.1.0, (c.requires.1.1.0, none_stand a.candidate_room (length a.order.now) a.words.now a.sums.now _ a.work.now h.0 h.1 z.ensures (omega (arith, h.2, z.auto.t)) h.3)))
+    record {
+      model_ready = c.requires.model_ready;
+      basis_ready = c.requires.basis_ready;
+      action_room = c.requires.action_room;
+      standing = none_stand a.candidate_room (length a.order.now) a.words.now a.sums.now _ a.work.now h.0 h.1 z.ensures (omega (arith, h.2, z.auto.t)) h.3;
+    }
 
 pub returns-in_default : goal.returns-in_default
 returns-in_default c =

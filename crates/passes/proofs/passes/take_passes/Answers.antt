@@ -31,7 +31,7 @@ pub loop-from-init : goal.loop-from-init
 loop-from-init c =
     let s = (goal.at.loop-from-init c).Start in
     let a = c.args in
-    (first_rest (touches s) (leaks s) a.sum_room a.candidate_room a.room a.positions.now a.words.now a.sums.now, c.requires.1.1.1, refl, refl, refl, refl, refl, refl, refl)
+    (first_rest (touches s) (leaks s) a.sum_room a.candidate_room a.room a.positions.now a.words.now a.sums.now, c.requires.standing, refl, refl, refl, refl, refl, refl, refl)
 
 pub overflow_add-from : goal.overflow_add-from
 overflow_add-from c = search (c.well_formed.1.1.1.1.1.1.1.1.1.1.1.1.1.1.1.1.1.1.0, c.loop-from-test.true, rules)
@@ -51,13 +51,12 @@ take_pass-taken-requires c =
     let s = (goal.at.take_pass-taken-requires c).Start in
     let a = c.args in
     let i = l.invariant in
-    let w : 0 < length a.positions.now = omega (arith, c.loop-from-test.true) in (
-      ready_still a.m (stored s) a.h_index.now a.j_index.now a.mask.now l.mask (c.requires.0 w) i.2,
-      (
-        ((c.requires.1.0 w).0, all_take (λ x. x < length a.coeffs.now) (c.smaller-to.result - l.from) (drop l.from a.positions.now) (all_drop (λ x. x < length a.coeffs.now) l.from a.positions.now (c.requires.1.0 w).1)),
-        (action_room_still a.sum_room a.work_words.now l.work_words a.work_sums.now l.work_sums c.requires.1.1.0 i.3 i.4, i.1),
-      ),
-    )
+    let w : 0 < length a.positions.now = omega (arith, c.loop-from-test.true) in record {
+      model_ready = ready_still a.m (stored s) a.h_index.now a.j_index.now a.mask.now l.mask (c.requires.model_ready w) i.2;
+      basis_ready = ((c.requires.basis_ready w).0, all_take (λ x. x < length a.coeffs.now) (c.smaller-to.result - l.from) (drop l.from a.positions.now) (all_drop (λ x. x < length a.coeffs.now) l.from a.positions.now (c.requires.basis_ready w).1));
+      action_room = action_room_still a.sum_room a.work_words.now l.work_words a.work_sums.now l.work_sums c.requires.action_room i.3 i.4;
+      standing = i.1;
+    }
 
 pub returns-in_default : goal.returns-in_default
 returns-in_default c =

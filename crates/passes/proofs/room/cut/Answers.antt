@@ -35,24 +35,24 @@ pub slice_bounds-lay_slots-end : goal.slice_bounds-lay_slots-end
 slice_bounds-lay_slots-end c = omega (arith, few (goal.at.slice_bounds-lay_slots-end c).After-cut_rows-held, c.requires.0.lanes_long, c.cut_rows-held.auto.words)
 
 pub slice_bounds-lay_slots-end-2 : goal.slice_bounds-lay_slots-end-2
-slice_bounds-lay_slots-end-2 c = sym (lanes_are (goal.at.slice_bounds-lay_slots-end-2 c).After-cut_rows-arg-4-1)
+slice_bounds-lay_slots-end-2 c = sym (lanes_are (goal.at.slice_bounds-lay_slots-end-2 c).After-cut_rows-held)
 
 pub slice_bounds-lay_slots-end-3 : goal.slice_bounds-lay_slots-end-3
-slice_bounds-lay_slots-end-3 c = omega (arith, few (goal.at.slice_bounds-lay_slots-end-3 c).After-cut_rows-arg-4-1, c.requires.0.nexts_long, c.cut_rows-held.auto.work)
+slice_bounds-lay_slots-end-3 c = omega (arith, few (goal.at.slice_bounds-lay_slots-end-3 c).After-cut_rows-held, c.requires.0.nexts_long, c.cut_rows-held.auto.work)
 
 pub slice_bounds-lay_slots-end-4 : goal.slice_bounds-lay_slots-end-4
-slice_bounds-lay_slots-end-4 c = sym (nexts_are (goal.at.slice_bounds-lay_slots-end-4 c).After-cut_rows-arg-4-1)
+slice_bounds-lay_slots-end-4 c = sym (nexts_are (goal.at.slice_bounds-lay_slots-end-4 c).After-cut_rows-held)
 
 pub lay_slots-requires : goal.lay_slots-requires
 lay_slots-requires c =
-    let d = (goal.at.lay_slots-requires c).After-cut_rows-arg-4-1 in
+    let d = (goal.at.lay_slots-requires c).After-cut_rows-held in
     (omega (arith, lanes_are d, nexts_are d), omega (arith, nexts_are d, few d, c.requires.0.heads_long, c.cut_rows-held.auto.order))
 
 pub returns : goal.returns
 returns c =
     let a = c.args in
     let h = c.requires.0 in
-    let d = (goal.at.returns c).After-cut_rows-arg-4-1 in
+    let d = (goal.at.returns c).After-cut_rows-held in
     let q = c.cut_rows-held in
     let p = c.lay_slots in
     cut_stands a.places a.n a.room q.result (candidate_rows a.n a.words.now a.sums.now) q.new.words q.new.sums p.new.heads p.new.nexts q.new.work
