@@ -59,9 +59,6 @@ offset_bounds-rows-end c = let p = place (goal.at.offset_bounds-rows-end c).Else
 pub bounds-rows-end : goal.bounds-rows-end
 bounds-rows-end c = (place (goal.at.bounds-rows-end c).Else-end-room).0
 
-pub overflow_cast-columns : goal.overflow_cast-columns
-overflow_cast-columns c = let h = place_low (words c.args.basis.now) _ c.last_place-place.ensures in search (h, c.requires.3, c.requires.4, rules)
-
 pub offset_bounds-columns-end : goal.offset_bounds-columns-end
 offset_bounds-columns-end c = let p = place (goal.at.offset_bounds-columns-end c).Else-end-room in search (p.1, c.loop-i.invariant.columns_same, c.well_formed.1.1.1.1.1.1.1.1.0, rules)
 
