@@ -35,7 +35,7 @@ abbrev leaks : Start → ℕ → Rows
 leaks s = let a = s.args in leaks_at a.m (stored s) (words_in a.basis.now) a.coeffs.now (words_in a.protected.now)
 
 in_coeffs : (c : In-loop-i) → get_or (start_of (goal.at.In-loop-i c).At-loop-i).args.positions.now c.loop-i.i 0 < length (start_of (goal.at.In-loop-i c).At-loop-i).args.coeffs.now
-in_coeffs c = let s = start_of (goal.at.In-loop-i c).At-loop-i in all_at (λ x. x < length s.args.coeffs.now) s.args.positions.now c.loop-i.i s.pre.basis_ready.1 c.loop-i-test.true
+in_coeffs c = let s = start_of (goal.at.In-loop-i c).At-loop-i in all_at (λ x. x < length s.args.coeffs.now) s.args.positions.now c.loop-i.i s.requires.basis_ready.1 c.loop-i-test.true
 
 -- ---- what the action on one position adds
 -- it finds room

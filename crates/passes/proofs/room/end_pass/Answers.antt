@@ -19,7 +19,6 @@ use Rattle.passes.proofs.room.end_pass.Goals.{Else-bad-n}
 -- no sum is bad
 fine : (c : Else-bad-n) → let a = c.args in FiniteRows (in_word_order (candidate_rows a.n a.words.now a.sums.now))
 fine c =
-    let s = (goal.at.Else-bad-n c).Start in
     let k = c.requires in
     order_finite c.args.n c.args.words.now c.args.sums.now (omega (arith, k.lanes_long, k.inside)) (omega (arith, k.sums_long, k.inside)) _ c.first_not_finite-bad.ensures c.if-bad-n.false
 
