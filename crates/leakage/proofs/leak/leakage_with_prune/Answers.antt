@@ -45,7 +45,7 @@ passed c = let s = start_of c in leak_passed s.args.m (stored s) (lent s) s.args
 
 -- ---- what the passes left
 abbrev told_of : After-run_and_clear-taken → In_default
-told_of c = (goal.at.After-run_and_clear-taken c).After-slice_known-10-1
+told_of c = (goal.at.After-run_and_clear-taken c).In_default
 
 took : (c : After-run_and_clear-taken) → let s = start_of (told_of c) in
     Took (candidate_places (work s)) (leak_course s.args.m (stored s) (lent s) s.args.limits (work s)) c.run_and_clear-taken.new.cand_words c.run_and_clear-taken.new.cand_sums c.run_and_clear-taken.new.place_order c.run_and_clear-taken.result
@@ -78,38 +78,38 @@ lay_basis-requires c =
 pub overflow_mul-len : goal.overflow_mul-len
 overflow_mul-len c =
     let a = c.args in
-    let h : word_lanes * a.len ≤ length a.words.now = omega (arith, (passed (goal.at.overflow_mul-len c).After-check_leakage-answer).words_long) in
+    let h : word_lanes * a.len ≤ length a.words.now = omega (arith, (passed (goal.at.overflow_mul-len c).In_default).words_long) in
     search (h, c.well_formed.1.1.1.1.1.1.1.0, rules)
 
 pub slice_bounds-run_and_clear-end : goal.slice_bounds-run_and_clear-end
 slice_bounds-run_and_clear-end c =
     let a = c.args in
-    sym (length-take-le (a.len * word_lanes) a.words.now (omega (arith, (passed (goal.at.slice_bounds-run_and_clear-end c).After-slice_known-14-1).words_long)))
+    sym (length-take-le (a.len * word_lanes) a.words.now (omega (arith, (passed (goal.at.slice_bounds-run_and_clear-end c).In_default).words_long)))
 
 pub slice_bounds-run_and_clear-end-2 : goal.slice_bounds-run_and_clear-end-2
 slice_bounds-run_and_clear-end-2 c =
     let a = c.args in
-    sym (length-take-le a.len a.coeffs.now (passed (goal.at.slice_bounds-run_and_clear-end-2 c).After-slice_known-13-1).coeffs_long)
+    sym (length-take-le a.len a.coeffs.now (passed (goal.at.slice_bounds-run_and_clear-end-2 c).In_default).coeffs_long)
 
 pub slice_bounds-run_and_clear-end-3 : goal.slice_bounds-run_and_clear-end-3
-slice_bounds-run_and_clear-end-3 c = omega (arith, c.where_any-both.ensures, (passed (goal.at.slice_bounds-run_and_clear-end-3 c).After-slice_known-12-1).nexts_long, c.lay_basis.auto.nexts)
+slice_bounds-run_and_clear-end-3 c = omega (arith, c.where_any-both.ensures, (passed (goal.at.slice_bounds-run_and_clear-end-3 c).In_default).nexts_long, c.lay_basis.auto.nexts)
 
 pub slice_bounds-run_and_clear-end-4 : goal.slice_bounds-run_and_clear-end-4
-slice_bounds-run_and_clear-end-4 c = sym (length-take-le c.where_any-both.result c.lay_basis.new.nexts (omega (arith, c.where_any-both.ensures, (passed (goal.at.slice_bounds-run_and_clear-end-4 c).After-slice_known-11-1).nexts_long, c.lay_basis.auto.nexts)))
+slice_bounds-run_and_clear-end-4 c = sym (length-take-le c.where_any-both.result c.lay_basis.new.nexts (omega (arith, c.where_any-both.ensures, (passed (goal.at.slice_bounds-run_and_clear-end-4 c).In_default).nexts_long, c.lay_basis.auto.nexts)))
 
 pub slice_bounds-run_and_clear-end-5 : goal.slice_bounds-run_and_clear-end-5
-slice_bounds-run_and_clear-end-5 c = omega (arith, (passed (goal.at.slice_bounds-run_and_clear-end-5 c).After-slice_known-11-1).order_long, c.lay_basis.auto.order)
+slice_bounds-run_and_clear-end-5 c = omega (arith, (passed (goal.at.slice_bounds-run_and_clear-end-5 c).In_default).order_long, c.lay_basis.auto.order)
 
 pub slice_bounds-run_and_clear-end-6 : goal.slice_bounds-run_and_clear-end-6
 slice_bounds-run_and_clear-end-6 c =
     let a = c.args in
-    sym (length-take-le a.len c.lay_basis.new.order (omega (arith, (passed (goal.at.slice_bounds-run_and_clear-end-6 c).After-slice_known-10-1).order_long, c.lay_basis.auto.order)))
+    sym (length-take-le a.len c.lay_basis.new.order (omega (arith, (passed (goal.at.slice_bounds-run_and_clear-end-6 c).In_default).order_long, c.lay_basis.auto.order)))
 
 pub run_and_clear-taken-requires : goal.run_and_clear-taken-requires
 run_and_clear-taken-requires c =
     let s = (goal.at.run_and_clear-taken-requires c).Start in
     let a = c.args in
-    let p = passed (goal.at.run_and_clear-taken-requires c).After-slice_known-10-1 in
+    let p = passed (goal.at.run_and_clear-taken-requires c).In_default in
     let q = c.index_model in
     let l = c.lay_basis.ensures in
     let e = c.where_any-both.ensures in
@@ -121,14 +121,14 @@ run_and_clear-taken-requires c =
 
 pub list_candidates-listed-requires : goal.list_candidates-listed-requires
 list_candidates-listed-requires c =
-    let c1 = (goal.at.list_candidates-listed-requires c).After-run_and_clear-arg-5-1 in
+    let c1 = (goal.at.list_candidates-listed-requires c).After-run_and_clear-taken in
     let s = start_of (told_of c1) in
     let r = candidate_room s.args.cand_words.now s.args.cand_sums.now s.args.place_order.now s.args.place_work.now {r = candidate_places (work s)} refl in
     took_inside (candidate_places (work s)) (leak_course s.args.m (stored s) (lent s) s.args.limits (work s)) _ _ _ _ (took c1) (omega (arith, r.2, c.run_and_clear-taken.auto.place_order))
 
 pub returns : goal.returns
 returns c =
-    let c1 = (goal.at.returns c).After-run_and_clear-arg-5-1 in
+    let c1 = (goal.at.returns c).After-run_and_clear-taken in
     let s = start_of (told_of c1) in
     leak_accepted s.args.out_words.now s.args.out_values.now (work s) s.args.m (stored s) (lent s) s.args.limits _ _ _ (accepted (told_of c1)) (took_rows (candidate_places (work s)) (leak_course s.args.m (stored s) (lent s) s.args.limits (work s)) _ _ _ _ (took c1)) c.list_candidates-listed.ensures
     (all_zero (work s)
