@@ -10,7 +10,6 @@ use Rattle.gksl.specs.Operator.{Onto}
 use Rattle.gksl.specs.Words.{pauli}
 use Rattle.sums.specs.Numbers.{complexes, no_number}
 use Rattle.sums.specs.Sums.{rows}
-use Rattle.model.specs.declared.term.Term as Stored
 use Rattle.model.specs.declared.stored.Range.{Range}
 
 abbrev pub Term : Type 0

@@ -4,7 +4,7 @@
 -- Terms and their products, over plain values. Assumes nothing.
 use mathlib.Core.Path.{◌≡◌, ap, ap₂, ◌∙◌}
 use Prim.Native.Nat.{◌%◌}
-use Rattle.word.specs.Product.{phase, product}
+use Rattle.word.specs.Product.{product}
 use Rattle.word.specs.declared.algebra.Phased.{Phased}
 use Rattle.number.specs.Numbers.{Cx, mul_c, conj_c, unit_c}
 use Rattle.number.specs.Floats.{floats, cx}

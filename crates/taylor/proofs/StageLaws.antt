@@ -4,13 +4,13 @@
 -- The terms of a stage and the stages of a time step, turn by turn: what is left to do gives what all of it gives. Assumes nothing.
 use mathlib.Core.Path.{◌≡◌, refl, sym, ap, ◌∙◌, subst}
 use mathlib.Core.List.{List}
-use Prim.Native.Nat.{ℕ, zero, suc, ◌+◌, ◌-◌, ◌*◌, ◌≤◌, ◌<◌}
+use Prim.Native.Nat.{ℕ, suc, ◌+◌, ◌-◌, ◌*◌, ◌≤◌, ◌<◌}
 use native.Mathlib.Numerals.{add-one}
 use native.Mathlib.Omega.{arith}
 use lib.Ieee.{Float}
 use lib.ListN.{length, take}
 use lib.Seq.{take_all}
-use Rattle.taylor.specs.Stages.{Evolution, evolved, swept, scaled, added, factor, product_of, next_of, terms, stage, stages}
+use Rattle.taylor.specs.Stages.{Evolution, evolved, added, factor, next_of, terms, stage, stages}
 use Rattle.taylor.specs.Between.{AllFinite, Matrix, follows, TermReady, TermLeaves, StageReady, StageLeaves, StagesLeave}
 use Rattle.taylor.proofs.TermLaws.{goes_on, ends}
 

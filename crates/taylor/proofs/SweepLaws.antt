@@ -11,7 +11,6 @@ use lib.Ieee.{Float, nan, binary64, add, mul}
 use lib.ListN.{length, get_or, take, drop, set, length-set, length-map, drop_of_length-le}
 use lib.Seq.{take_all}
 use Rattle.number.specs.Floats.{is_finite}
-use Rattle.lent.specs.Tests.{first_to}
 use Rattle.lent.specs.Numbers.{not_finite}
 use Rattle.lent.proofs.Firsts.{NoneBefore, none_start, none_more, first_here, first_none, first_before, first_inside}
 use Rattle.lent.proofs.WriteLaws.{written_more}

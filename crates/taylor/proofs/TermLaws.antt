@@ -3,12 +3,11 @@
 
 -- One term of a stage: its product, b and v, each looked through before the next. Assumes nothing.
 use mathlib.Core.Path.{◌≡◌, refl, sym, ap, ◌∙◌, subst}
-use mathlib.Core.Bool.{Bool, true, false, cond}
+use mathlib.Core.Bool.{true}
 use mathlib.Core.List.{List, ◌++◌}
-use Prim.Native.Nat.{ℕ, ◌+◌, ◌≤◌, ◌<◌}
+use Prim.Native.Nat.{ℕ, ◌≤◌, ◌<◌}
 use native.Mathlib.Omega.{arith}
 use borrow.Author.Tests.{lt-ltb, le-ltb}
-use lib.Dec.{ltb}
 use lib.Ieee.{Float}
 use lib.ListN.{length, take, drop}
 use Rattle.lent.specs.Tests.{first_to}
@@ -16,8 +15,8 @@ use Rattle.lent.specs.Numbers.{not_finite}
 use Rattle.csr.specs.Walks.{Walked}
 use Rattle.csr.proofs.CheckLaws.{accepted_sound}
 use Rattle.csr.proofs.PassLaws.{stops_first, full_product_lem, product_length}
-use Rattle.taylor.specs.Stages.{Evolution, stopped, swept, scaled, added, product_of}
-use Rattle.taylor.specs.Between.{AllFinite, Sweeps, Matrix, follows, TermReady, TermLeaves, term_of}
+use Rattle.taylor.specs.Stages.{Evolution, swept, scaled, added, product_of}
+use Rattle.taylor.specs.Between.{AllFinite, Sweeps, follows, TermReady, TermLeaves, term_of}
 use Rattle.taylor.proofs.SweepLaws.{scaled_long, added_long, sweep_all, sweep_finite}
 
 -- ---- whether it goes on

@@ -3,7 +3,7 @@
 
 -- Two kinds of words that a relation ties, by which product, phase, order, equality and sharing are the same, have the same
 -- action, word by word, with the same numbers. Assumes nothing.
-use mathlib.Core.Path.{◌≡◌, refl, ap, ap₂, ◌∙◌, subst}
+use mathlib.Core.Path.{◌≡◌, refl, ap, ap₂, subst}
 use mathlib.Core.Bool.{Bool, true, false, cond, ◌||◌}
 use mathlib.Core.List.{List, [], ◌∷◌, ◌++◌, map}
 use Prim.Native.Nat.{ℕ, zero, suc, ◌+◌, ◌%◌}
@@ -12,7 +12,7 @@ use Rattle.number.specs.Numbers.{Numbers, Cx, add_c, neg_c, mul_c, conj_c, real_
 use Rattle.gksl.specs.Operator.{Words, Onto}
 use Rattle.gksl.specs.Model.{RealTerm, JumpOver, MatrixOver, ModelOver, Row, rows_over, entry_over, entry_in}
 use Rattle.gksl.specs.Table.{put_over, put_all_over, without_over}
-use Rattle.gksl.specs.Rules.{pairs_over, gather_over, through, onto, signed, factored, overlaps_over, bare, sandwiched, between, after_k, ahead, turned, twice, formed_over, terms_over, clash_over, general_over, shape_over, jumps_over, diagonal_over, both_over, one_over, pair_over, row_over, matrix_over, matrices_over, rules_over, action_over}
+use Rattle.gksl.specs.Rules.{pairs_over, gather_over, through, signed, factored, overlaps_over, bare, sandwiched, between, formed_over, terms_over, clash_over, general_over, shape_over, jumps_over, diagonal_over, both_over, one_over, pair_over, row_over, matrix_over, matrices_over, rules_over, action_over}
 
 -- what a relation of words keeps
 pub record Keeps (S T : Words) (R : S.Word → T.Word → Type 0) : Type 0 where

@@ -4,16 +4,15 @@
 -- Tests of lanes against 0 are tests of letters: sharing a qubit, reaching beyond a register, equality. Assumes nothing.
 use mathlib.Core.Path.{◌≡◌, refl, sym, ap, ap₂, ◌∙◌}
 use mathlib.Core.Bool.{Bool, true, false, not, ◌&&◌, ◌||◌, beq}
-use mathlib.Core.List.{List}
 use Prim.Native.Nat.{ℕ, zero, suc, ◌+◌, ◌-◌, ◌*◌, ◌^◌, ◌<◌, ◌≤◌, min, max}
 use native.Mathlib.Omega.{arith}
 use native.Mathlib.Decide.{ℕ_discrete}
 use borrow.Author.Tests.{eq-eqb, ne_eqb, lt-leb}
 use lib.Dec.{T, eqb, leb}
 use lib.Bits.{bit_and, bit_or, bit_xor, or_add_and, xor_add_and, and_le_l, and_le_r, and_lt, or_lt, xor_self}
-use lib.ListN.{get_or, length}
+use lib.ListN.{get_or}
 use lib.Seq.{ext_get_or}
-use Rattle.word.specs.Count.{any_to, tabulate}
+use Rattle.word.specs.Count.{any_to}
 use Rattle.word.specs.Word.{lane_count, max_qubits, bit, Sound}
 use Rattle.word.specs.Register.{acts_on, reaches, share}
 use Rattle.word.specs.Between.{DigitsFrom}
@@ -22,7 +21,7 @@ use Rattle.word.specs.declared.word.Word.{Word}
 use Rattle.word.proofs.Sums.{any_none, any_cong, any_runs}
 use Rattle.word.proofs.Digits.{at_bits, bit_lt, bit_and_lem, bit_or_lem, any_digit}
 use Rattle.word.proofs.Lanes.{letter_in_lem}
-use Rattle.word.proofs.Words.{word_eq, one_by_one}
+use Rattle.word.proofs.Words.{word_eq}
 use Rattle.word.proofs.NextLaws.{acting, lane_reaches}
 use Rattle.word.proofs.OrderLaws.{same_self, same_eq}
 

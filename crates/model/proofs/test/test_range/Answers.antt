@@ -3,7 +3,6 @@
 
 -- `test::test_range` meets its contract: the terms from the start to before i pass. Assumes nothing.
 use mathlib.Core.Path.{sym, ◌∙◌}
-use mathlib.Core.Bool.{false}
 use Rattle.model.proofs.ModelTests.{number_at}
 use Rattle.model.proofs.GivenTerms.{from_more, range_found, range_passed}
 use native.Mathlib.Omega.{arith}
