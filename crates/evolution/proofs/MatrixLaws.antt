@@ -21,7 +21,7 @@ use Rattle.model.specs.declared.stored.Model.{Model}
 use Rattle.action.specs.Acts.{sum_places}
 use Rattle.action.specs.declared.act.Acted.{Acted}
 use Rattle.action.specs.declared.act.Acted.TheVariants.{Listed, Refused}
-use Rattle.columns.specs.Entries.{Entry, staged}
+use Rattle.columns.specs.Entries.{Entry}
 use Rattle.columns.specs.Columns.{generator_of, generator_room}
 use Rattle.columns.specs.Between.{Stages, StageRoom}
 use Rattle.columns.proofs.EntryLaws.{staged_columns, staged_values}
@@ -43,7 +43,6 @@ use Rattle.csr.proofs.CheckLaws.{sound_accepted}
 use Rattle.taylor.specs.Between.{Matrix}
 use Rattle.taylor.specs.Evolves.{Evolves, evolve_by}
 use Rattle.taylor.specs.declared.evolve.Evolved.TheVariants as Evolved
-use Rattle.evolution.specs.Lent.{Work}
 use Rattle.evolution.specs.Evolutions.{room_then, evolve_over}
 use Rattle.evolution.specs.Between.{StageHeld, NormRead, NumbersLent, RowsReady, acted_then}
 use Rattle.evolution.specs.declared.matrix.Built.{Built}

@@ -15,7 +15,6 @@ use lib.ListN.{length, take}
 use Rattle.refusal.specs.declared.Refusal.{Refusal}
 use Rattle.refusal.specs.declared.Answer.{Answer}
 use Rattle.refusal.specs.declared.Answer.TheVariants as Tests
-use Rattle.word.specs.declared.word.Word.{Word}
 use Rattle.number.specs.Floats.{floats, magnitude}
 use Rattle.expm.specs.Selects.{chosen}
 use Rattle.expm.specs.declared.Chosen.{Chosen}

@@ -9,7 +9,6 @@ use lib.Ieee.{Float}
 use lib.ListN.{length, take, set, replicate}
 use Rattle.refusal.specs.declared.Refusal.{Refusal}
 use Rattle.refusal.specs.declared.Answer.{Answer}
-use Rattle.refusal.specs.declared.Answer.TheVariants as Tests
 use Rattle.number.specs.Floats.{float0}
 use Rattle.lent.specs.Laid.{laid}
 use Rattle.action.specs.declared.act.Acted.{Acted}

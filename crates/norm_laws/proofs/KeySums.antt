@@ -5,13 +5,13 @@
 -- than either of the two. Infinite sums included. Assumes nothing.
 use mathlib.Core.Path.{◌≡◌, refl, sym, ap, ap₂, ◌∙◌}
 use mathlib.Core.Bool.{Bool, true, false, cond}
-use Prim.Native.Nat.{ℕ, suc, ◌+◌, ◌-◌, ◌*◌, ◌/◌, ◌^◌, ◌≤◌, ◌<◌, zero-le}
+use Prim.Native.Nat.{ℕ, ◌+◌, ◌-◌, ◌*◌, ◌/◌, ◌^◌, ◌≤◌, ◌<◌, zero-le}
 use native.Mathlib.Nat.{le_trans, le_of_eq, le_of_lt, le_refl, not-le_of_lt, mul_comm, mul-le-mul_right, le_of_mul-le-mul_right, mul-pos, add-mul, mul-sub, zero-mul}
 use native.Mathlib.Omega.{arith}
 use lib.Dec.{T, ltb, ltb→lt, leb→le, eqb→eq}
 use lib.IntN.{ℤ, pos}
 use lib.Pow.{pow_pos}
-use lib.Ieee.{Float, nan, inf, fin, Format, low, emax, up, down, round, sum, add, sub, neg, fits}
+use lib.Ieee.{Float, nan, inf, fin, Format, low, up, down, round, sum, add, sub, neg, fits}
 use lib.Ieee.Fits.{down_pos, round-fits, add-fits, sub-fits, neg-fits}
 use lib.Ieee.Order.{round_mono}
 use lib.Ieee.Scale.{round_same, finite}
