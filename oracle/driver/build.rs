@@ -10,9 +10,7 @@ fn main() {
     println!("cargo::rerun-if-env-changed=PEBBLELINEN_LIB");
     let library = match std::env::var_os("PEBBLELINEN_LIB") {
         Some(path) => PathBuf::from(path),
-        None => {
-            Path::new(env!("CARGO_MANIFEST_DIR")).join("../../target/staticlib/libpebblelinen.a")
-        }
+        None => Path::new(env!("CARGO_MANIFEST_DIR")).join("../../target/shared/libpebblelinen.a"),
     };
     let library = library.canonicalize().unwrap_or_else(|error| {
         panic!("the port's library {}: {error}", library.display());

@@ -22,7 +22,7 @@ NAME = "libpebblelinen.so"
 _STATIC = "libpebblelinen.a"
 _FOLDERS = "dist", "target/shared"
 # The crates whose functions the library has.
-_EXPORTS = "pebblelinen", "step"
+_EXPORTS = "pebblelinen_c", "step_c"
 
 
 class NotBuilt(OSError):
@@ -35,10 +35,11 @@ def is_tree() -> bool:
 
 
 def sources() -> str:
-    """A line for each crate of the library: a checksum, as `find CRATE -type f -print0 | LC_ALL=C sort -z |
-    xargs -0 sha256sum | sha256sum` gives it, and the crate."""
+    """A line for each crate of the library: a checksum, as `find CRATE -path CRATE/out -prune -o -type f -print0 |
+    LC_ALL=C sort -z | xargs -0 sha256sum | sha256sum` gives it, and the crate. In out/ the toolchain keeps its work."""
     lines = (line.partition("#")[0].partition(":") for line in (ROOT / "crates.txt").read_text().splitlines())
-    needs = {name.strip(): needed.split() for name, colon, needed in lines if colon}
+    # A word after the name says what kind of crate it is.
+    needs = {name.split()[0]: needed.split() for name, colon, needed in lines if colon}
     below: list[str] = []
     left = [*_EXPORTS]
     while left:
@@ -50,7 +51,11 @@ def sources() -> str:
 
 
 def _crate(crate: str) -> str:
-    files = (os.path.join(folder, file) for folder, _, files in os.walk(ROOT / crate) for file in files)
+    files: list[str] = []
+    for folder, folders, found in os.walk(ROOT / crate):
+        if Path(folder) == ROOT / crate and "out" in folders:
+            folders.remove("out")
+        files += (os.path.join(folder, file) for file in found)
     names = sorted((os.path.relpath(file, ROOT) for file in files), key=os.fsencode)
     lines = "".join(_line(ROOT / name, name) for name in names)
     return f"{hashlib.sha256(os.fsencode(lines)).hexdigest()}  {crate}\n"

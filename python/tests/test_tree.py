@@ -20,29 +20,52 @@ CRATES = """\
 refusal:
 word: refusal
 pebblelinen: word
+pebblelinen_c staticlib: word pebblelinen
 step: word
+step_c staticlib: word step
 examples: pebblelinen io
 """
 
 TOOLCHAIN = """\
 #!/bin/sh
-echo "$*, $RT_JOBS jobs" >>asked
+kit=$(dirname "$0")
+echo "$*" >>"$kit/asked"
 case $1 in
 version) echo "a toolchain" ;;
-staticlib)
-    if [ -e broken ]; then
+doc) echo "$kit/START-HERE.md" ;;
+ci)
+    if [ -e "$kit/broken" ]; then
         echo "no proof of this"
         exit 1
     fi
-    echo "rt: refusal proved"
-    mkdir -p target/staticlib
-    cd target/staticlib
-    ar x "$STATIC" "$2.o"
-    rm -f "lib$2.a"
-    ar rcsD "lib$2.a" "$2.o"
-    rm "$2.o"
+    ls crates >>"$kit/asked"
+    for crate in $(sed -n 's/:.*//p' crates.txt); do
+        mkdir -p "crates/$crate/out/rlib/$crate.rlib"
+        echo "rt: $crate proved"
+    done
     ;;
 esac
+"""
+
+# What links a crate that `rt ci` proved, over the libraries below it, which stand where it left them.
+BUILD = """\
+#!/bin/sh
+kit=$(dirname "$(dirname "$0")")
+echo "$1 $3" >>"$kit/asked"
+while [ $# -gt 2 ]; do
+    case $1 in
+    --crate-name) crate=$2 ;;
+    --extern)
+        case $2 in
+        std=*) ;;
+        *) [ -d "${2#*=}" ] || exit 1 ;;
+        esac
+        ;;
+    esac
+    shift
+done
+ar x "$STATIC" "$crate.o"
+ar rcsD "$2" "$crate.o"
 """
 
 MODEL = 'qubits = 1\n[hamiltonian]\n"X0" = 1.0\n'
@@ -71,10 +94,11 @@ class Case(unittest.TestCase):
         shutil.copytree(ROOT / "python" / "pebblelinen", package, ignore=shutil.ignore_patterns("__pycache__"))
         shutil.copy(ROOT / "pebblelinen", self.tree)
         self.write("crates.txt", CRATES)
-        for crate in "refusal", "word", "pebblelinen", "step", "examples":
+        for crate in "refusal", "word", "pebblelinen", "pebblelinen_c", "step", "step_c", "examples":
             self.write(f"crates/{crate}/src/lib.rt", crate)
         self.write("device.toml", MODEL)
         self.write("rt/rt", TOOLCHAIN).chmod(0o755)
+        self.write("rt/bin/rattle", BUILD).chmod(0o755)
         self.ran("tools/update-dist")
         self.assertEqual(self.builds(), 1)
         shutil.rmtree(self.tree / "target")
@@ -117,10 +141,10 @@ class Case(unittest.TestCase):
         return str(programs)
 
     def asked(self):
-        return (self.tree / "asked").read_text().splitlines()
+        return (self.tree / "rt" / "asked").read_text().splitlines()
 
     def builds(self):
-        return len([line for line in self.asked() if line.startswith("staticlib pebblelinen")])
+        return self.asked().count("build pebblelinen_c")
 
 
 class Libraries(Case):
@@ -135,6 +159,7 @@ class Libraries(Case):
     def test_what_the_library_is_not_made_from_may_change(self):
         self.write("crates/examples/src/lib.rt", "changed")
         self.write("crates/further/src/lib.rt", "new")
+        self.write("crates/word/out/kept", "work of the toolchain")
         self.answered()
         self.assertEqual(self.builds(), 1)
 
@@ -151,11 +176,13 @@ class Libraries(Case):
         self.write("crates/word/src/lib.rt", "word")
         self.assertEqual(self.answered(path=self.bare()), "")
 
-    def test_changed_sources_are_built_once_on_all_cores(self):
+    def test_changed_sources_are_built_once(self):
         self.write("crates/word/src/lib.rt", "changed")
         self.assertIn("building the library with its proofs", self.answered())
-        cores = subprocess.run(["nproc"], capture_output=True, text=True).stdout.strip()
-        self.assertEqual(self.asked()[-2:], [f"staticlib {crate}, {cores} jobs" for crate in ("pebblelinen", "step")])
+        # Proved are the crates below the exports, and nothing else.
+        proved = self.asked()[-8:]
+        self.assertEqual(proved[:5], ["ci", "pebblelinen", "refusal", "step", "word"])
+        self.assertEqual(proved[5:], ["doc", "build pebblelinen_c", "build step_c"])
         self.assertEqual(self.builds(), 2)
         self.assertEqual(self.answered(), "")
         self.assertEqual(self.builds(), 2)
@@ -171,6 +198,7 @@ class Libraries(Case):
             ("a file less", lambda: lib.unlink()),
             ("a name", lambda: lib.rename(lib.with_name("other.rt"))),
             ("a crate less", lambda: self.write("crates.txt", CRATES.replace("word: refusal", "word:"))),
+            ("an export", lambda: self.write("crates/step_c/src/lib.rt", "changed")),
             ("the shared object", lambda: self.damage("libpebblelinen.so")),
             ("the static library", lambda: self.damage("libpebblelinen.a")),
             ("no checksums", lambda: (self.tree / "dist" / "made-from").unlink()),
@@ -197,7 +225,7 @@ class Libraries(Case):
 
     def test_a_build_that_fails(self):
         self.write("crates/word/src/lib.rt", "wrong")
-        self.write("broken", "")
+        self.write("rt/broken", "")
         done = self.run_in_tree("pebblelinen", "action", "device.toml", "Z0", "--json")
         self.assertEqual(done.returncode, 2)
         self.assertIn("no proof of this", done.stderr)
@@ -233,12 +261,14 @@ class Dist(Case):
         made_from = (self.tree / "dist" / "made-from").read_text().splitlines()
         self.assertEqual(made_from[0].split(), ["toolchain:", "a", "toolchain"])
         names = [line.split()[1] for line in made_from[1:]]
-        self.assertEqual(names, [*FILES[:2], "crates/pebblelinen", "crates/step", "crates/word", "crates/refusal"])
+        crates = "pebblelinen_c", "step_c", "word", "pebblelinen", "step", "refusal"
+        self.assertEqual(names, [*FILES[:2], *(f"crates/{crate}" for crate in crates)])
 
     def test_checksums_are_those_of_sha256sum(self):
         made_from = (self.tree / "dist" / "made-from").read_text().splitlines()
         line = next(line for line in made_from if line.endswith(" crates/word"))
-        script = "find crates/word -type f -print0 | LC_ALL=C sort -z | xargs -0 sha256sum | sha256sum"
+        files = "find crates/word -path crates/word/out -prune -o -type f -print0"
+        script = f"{files} | LC_ALL=C sort -z | xargs -0 sha256sum | sha256sum"
         ran = subprocess.run(["bash", "-c", script], cwd=self.tree, capture_output=True, text=True)
         self.assertEqual(line.split(), [ran.stdout.split()[0], "crates/word"])
 

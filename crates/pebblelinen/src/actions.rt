@@ -40,8 +40,7 @@ pub fn listed_of(answer: Acted) -> ListedWords
     }
 }
 
-#[unsafe(no_mangle)]
-pub extern "C" fn pebblelinen_compute_action_terms(
+pub fn pebblelinen_compute_action_terms(
     model: Model,
     h_words: &[u64],
     h_coeffs: &[f64],
@@ -93,8 +92,7 @@ fn counted_of(answer: Counted) -> CountedPlaces
     }
 }
 
-#[unsafe(no_mangle)]
-pub extern "C" fn pebblelinen_count_action_terms(
+pub fn pebblelinen_count_action_terms(
     model: Model,
     h_words: &[u64],
     h_coeffs: &[f64],

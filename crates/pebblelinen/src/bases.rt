@@ -39,8 +39,7 @@ fn kept_of(answer: Kept) -> KeptEntries
     }
 }
 
-#[unsafe(no_mangle)]
-pub extern "C" fn pebblelinen_prune_basis(
+pub fn pebblelinen_prune_basis(
     n: usize,
     words: &mut [u64],
     coeffs: &mut [f64],
@@ -59,8 +58,7 @@ pub extern "C" fn pebblelinen_prune_basis(
     ))
 }
 
-#[unsafe(no_mangle)]
-pub extern "C" fn pebblelinen_cap_basis(
+pub fn pebblelinen_cap_basis(
     n: usize,
     words: &mut [u64],
     coeffs: &mut [f64],
@@ -79,8 +77,7 @@ pub extern "C" fn pebblelinen_cap_basis(
     ))
 }
 
-#[unsafe(no_mangle)]
-pub extern "C" fn pebblelinen_add_leakage_capped(
+pub fn pebblelinen_add_leakage_capped(
     n: usize,
     words: &mut [u64],
     coeffs: &mut [f64],
@@ -109,12 +106,7 @@ pub struct BasisSizes {
     pub kept: usize,
 }
 
-#[unsafe(no_mangle)]
-pub extern "C" fn pebblelinen_basis_sizes(
-    entries: usize,
-    protected: usize,
-    listed: usize,
-) -> BasisSizes
+pub fn pebblelinen_basis_sizes(entries: usize, protected: usize, listed: usize) -> BasisSizes
     ensures { result ≡ basis_sizes entries protected listed }
 {
     let kept = larger(entries, listed);

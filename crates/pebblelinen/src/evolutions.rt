@@ -43,8 +43,7 @@ fn evolved_of(answer: Evolved) -> EvolvedBasis
     }
 }
 
-#[unsafe(no_mangle)]
-pub extern "C" fn pebblelinen_evolve(
+pub fn pebblelinen_evolve(
     model: Model,
     h_words: &[u64],
     h_coeffs: &[f64],
@@ -132,8 +131,7 @@ pub struct EvolutionSizes {
     pub product: usize,
 }
 
-#[unsafe(no_mangle)]
-pub extern "C" fn pebblelinen_evolution_sizes(
+pub fn pebblelinen_evolution_sizes(
     qubits: usize,
     words: usize,
     touched: usize,

@@ -20,8 +20,7 @@ use word::word::MAX_QUBITS;
 // A row and a column each of 65,536.
 pub const MAX_ENTRIES: usize = 4_294_967_296;
 
-#[unsafe(no_mangle)]
-pub extern "C" fn pebblelinen_generator(
+pub fn pebblelinen_generator(
     model: Model,
     h_words: &[u64],
     h_coeffs: &[f64],
@@ -73,8 +72,7 @@ pub extern "C" fn pebblelinen_generator(
     ))
 }
 
-#[unsafe(no_mangle)]
-pub extern "C" fn pebblelinen_build_csr(
+pub fn pebblelinen_build_csr(
     model: Model,
     h_words: &[u64],
     h_coeffs: &[f64],
@@ -142,8 +140,7 @@ pub struct GeneratorSizes {
     pub stage_values: usize,
 }
 
-#[unsafe(no_mangle)]
-pub extern "C" fn pebblelinen_generator_sizes(
+pub fn pebblelinen_generator_sizes(
     qubits: usize,
     words: usize,
     touched: usize,

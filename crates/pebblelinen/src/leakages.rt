@@ -19,8 +19,7 @@ use word::word::MAX_QUBITS;
 // More places than any table of sums or candidates is lent.
 pub const MAX_PLACES: usize = 4_294_967_295;
 
-#[unsafe(no_mangle)]
-pub extern "C" fn pebblelinen_leakage_with_prune(
+pub fn pebblelinen_leakage_with_prune(
     model: Model,
     h_words: &[u64],
     h_coeffs: &[f64],
@@ -98,8 +97,7 @@ pub struct LeakageSizes {
     pub place_work: usize,
 }
 
-#[unsafe(no_mangle)]
-pub extern "C" fn pebblelinen_leakage_sizes(
+pub fn pebblelinen_leakage_sizes(
     qubits: usize,
     entries: usize,
     protected: usize,

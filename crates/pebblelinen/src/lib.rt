@@ -1,7 +1,7 @@
 // SPDX-FileCopyrightText: 2026 The PPVM Authors
 // SPDX-License-Identifier: Apache-2.0
 
-// The library for programs in other languages, as include/pebblelinen.h documents it. Each function
+// The calls that programs in other languages make, as include/pebblelinen.h documents them: pebblelinen_c exports them. Each function
 // takes any input, calls the crate that does the work and puts the answer into plain numbers.
 #![tactic(auto)]
 

@@ -40,8 +40,7 @@ pub fn written_of(answer: Written) -> WrittenText
     }
 }
 
-#[unsafe(no_mangle)]
-pub extern "C" fn pebblelinen_matrix_market(
+pub fn pebblelinen_matrix_market(
     model: Model,
     h_words: &[u64],
     h_coeffs: &[f64],
@@ -89,8 +88,7 @@ pub extern "C" fn pebblelinen_matrix_market(
     ))
 }
 
-#[unsafe(no_mangle)]
-pub extern "C" fn pebblelinen_matrix_market_text(entries: usize) -> usize
+pub fn pebblelinen_matrix_market_text(entries: usize) -> usize
     ensures { result ≡ market_text entries }
 {
     72 + 33 * smaller(entries, MAX_ENTRIES)

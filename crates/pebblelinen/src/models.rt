@@ -53,8 +53,7 @@ fn built_of(answer: Built) -> BuiltModel
     }
 }
 
-#[unsafe(no_mangle)]
-pub extern "C" fn pebblelinen_build_model(
+pub fn pebblelinen_build_model(
     texts: &[u8],
     lengths: &[u64],
     h_numbers: &[f64],
@@ -92,8 +91,7 @@ pub extern "C" fn pebblelinen_build_model(
     ))
 }
 
-#[unsafe(no_mangle)]
-pub extern "C" fn pebblelinen_add_kossakowski(
+pub fn pebblelinen_add_kossakowski(
     model: Model,
     texts: &[u8],
     lengths: &[u64],
@@ -129,8 +127,7 @@ pub extern "C" fn pebblelinen_add_kossakowski(
     ))
 }
 
-#[unsafe(no_mangle)]
-pub extern "C" fn pebblelinen_test_model(
+pub fn pebblelinen_test_model(
     model: Model,
     h_words: &[u64],
     h_coeffs: &[f64],
@@ -160,8 +157,7 @@ pub struct Sizes {
     pub work_numbers: usize,
 }
 
-#[unsafe(no_mangle)]
-pub extern "C" fn pebblelinen_model_sizes(hamiltonian: usize, jumps: usize, terms: usize) -> Sizes
+pub fn pebblelinen_model_sizes(hamiltonian: usize, jumps: usize, terms: usize) -> Sizes
     ensures { result ≡ model_sizes hamiltonian jumps terms }
 {
     let h = smaller(hamiltonian, MAX_HAMILTONIAN);
@@ -181,8 +177,7 @@ pub extern "C" fn pebblelinen_model_sizes(hamiltonian: usize, jumps: usize, term
     }
 }
 
-#[unsafe(no_mangle)]
-pub extern "C" fn pebblelinen_matrix_sizes(operators: usize, terms: usize) -> Sizes
+pub fn pebblelinen_matrix_sizes(operators: usize, terms: usize) -> Sizes
     ensures { result ≡ matrix_sizes operators terms }
 {
     let k = smaller(operators, MAX_OPERATORS);

@@ -43,8 +43,7 @@ fn normed_of(answer: Normed) -> NormOfBasis
     }
 }
 
-#[unsafe(no_mangle)]
-pub extern "C" fn pebblelinen_norm(
+pub fn pebblelinen_norm(
     model: Model,
     h_words: &[u64],
     h_coeffs: &[f64],
@@ -108,8 +107,7 @@ fn partition_of(answer: Selected) -> Partition
     }
 }
 
-#[unsafe(no_mangle)]
-pub extern "C" fn pebblelinen_expm_degree(
+pub fn pebblelinen_expm_degree(
     model: Model,
     h_words: &[u64],
     h_coeffs: &[f64],
@@ -169,8 +167,7 @@ fn choice_of(answer: Chosen) -> DegreeChoice
     }
 }
 
-#[unsafe(no_mangle)]
-pub extern "C" fn pebblelinen_select_ms(t: f64, drop_tol: f64) -> DegreeChoice
+pub fn pebblelinen_select_ms(t: f64, drop_tol: f64) -> DegreeChoice
     ensures { result ≡ choice_of (chosen drop_tol t) }
 {
     choice_of(expm::select_degree(t, drop_tol))

@@ -40,20 +40,13 @@ fn found_of(answer: RowRead) -> FoundRow
     }
 }
 
-#[unsafe(no_mangle)]
-pub extern "C" fn pebblelinen_csr_row(
-    rows: usize,
-    offsets: &[u64],
-    columns: &[u32],
-    row: usize,
-) -> FoundRow
+pub fn pebblelinen_csr_row(rows: usize, offsets: &[u64], columns: &[u32], row: usize) -> FoundRow
     ensures { result ≡ found_of (read_row rows offsets.now columns.now row) }
 {
     found_of(csr::reader::read_row(rows, offsets, columns, row))
 }
 
-#[unsafe(no_mangle)]
-pub extern "C" fn pebblelinen_dot(
+pub fn pebblelinen_dot(
     rows: usize,
     offsets: &[u64],
     columns: &[u32],

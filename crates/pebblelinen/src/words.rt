@@ -43,64 +43,55 @@ fn parsed_of(answer: ParsedWord) -> Parsed
     }
 }
 
-#[unsafe(no_mangle)]
-pub extern "C" fn pebblelinen_parse_pauli_string(text: &[u8], n_qubits: usize) -> Parsed
+pub fn pebblelinen_parse_pauli_string(text: &[u8], n_qubits: usize) -> Parsed
     ensures { result ≡ parsed_of (parse n_qubits text.now) }
 {
     parsed_of(notation::texts::parse_pauli_string(text, n_qubits))
 }
 
-#[unsafe(no_mangle)]
-pub extern "C" fn pebblelinen_word_from_codes(codes: &[u8]) -> Parsed
+pub fn pebblelinen_word_from_codes(codes: &[u8]) -> Parsed
     ensures { result ≡ parsed_of (read_codes codes.now) }
 {
     parsed_of(notation::codes::word_from_codes(codes))
 }
 
-#[unsafe(no_mangle)]
-pub extern "C" fn pebblelinen_codes_from_word(word: Word, n_qubits: usize, out: &mut [u8]) -> Status
+pub fn pebblelinen_codes_from_word(word: Word, n_qubits: usize, out: &mut [u8]) -> Status
     ensures { Writes word n_qubits out.old result out.new }
 {
     refusal::answer_status(notation::codes::codes_from_word(word, n_qubits, out))
 }
 
-#[unsafe(no_mangle)]
-pub extern "C" fn pebblelinen_pauli_mul(p: Word, q: Word) -> Phased
+pub fn pebblelinen_pauli_mul(p: Word, q: Word) -> Phased
     ensures { result ≡ product p q }
 {
     word::algebra::pauli_mul(p, q)
 }
 
-#[unsafe(no_mangle)]
-pub extern "C" fn pebblelinen_anti_commutes(p: Word, q: Word) -> bool
+pub fn pebblelinen_anti_commutes(p: Word, q: Word) -> bool
     ensures { result ≡ anti_commute p q }
 {
     word::algebra::anti_commutes(p, q)
 }
 
-#[unsafe(no_mangle)]
-pub extern "C" fn pebblelinen_comm_product(h: Word, p: Word) -> CommProduct
+pub fn pebblelinen_comm_product(h: Word, p: Word) -> CommProduct
     ensures { result ≡ commutator h p }
 {
     word::algebra::comm_product(h, p)
 }
 
-#[unsafe(no_mangle)]
-pub extern "C" fn pebblelinen_compare_words(p: Word, q: Word) -> i32
+pub fn pebblelinen_compare_words(p: Word, q: Word) -> i32
     ensures { result ≡ sign_of (compare p q) }
 {
     notation::signs::sign_of(word::word::compare_words(p, q))
 }
 
-#[unsafe(no_mangle)]
-pub extern "C" fn pebblelinen_same_word(p: Word, q: Word) -> bool
+pub fn pebblelinen_same_word(p: Word, q: Word) -> bool
     ensures { result ≡ same p q }
 {
     word::word::same_word(p, q)
 }
 
-#[unsafe(no_mangle)]
-pub extern "C" fn pebblelinen_shares_qubit(p: Word, q: Word) -> bool
+pub fn pebblelinen_shares_qubit(p: Word, q: Word) -> bool
     ensures { result ≡ share p q }
 {
     word::word::shares_qubit(p, q)
@@ -114,8 +105,7 @@ pub struct Fitting {
     pub fits: bool,
 }
 
-#[unsafe(no_mangle)]
-pub extern "C" fn pebblelinen_fits_register(word: Word, n_qubits: usize) -> Fitting
+pub fn pebblelinen_fits_register(word: Word, n_qubits: usize) -> Fitting
     ensures { result ≡ fitting_of word n_qubits }
 {
     if MAX_QUBITS < n_qubits {

@@ -41,8 +41,7 @@ pub struct StepSizes {
     pub evolved: usize,
 }
 
-#[unsafe(no_mangle)]
-pub extern "C" fn pebblelinen_step_sizes(
+pub fn pebblelinen_step_sizes(
     qubits: usize,
     words: usize,
     protected: usize,

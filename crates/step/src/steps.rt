@@ -50,8 +50,7 @@ fn stepped_of(answer: Step) -> SteppedBasis
     }
 }
 
-#[unsafe(no_mangle)]
-pub extern "C" fn pebblelinen_step(
+pub fn pebblelinen_step(
     model: Model,
     h_words: &[u64],
     h_coeffs: &[f64],
