@@ -8,8 +8,8 @@
  *
  * Every function takes any input. Where an input is not accepted, the function says so by a
  * pebblelinen_status and changes nothing that it was lent, but for work tables, where the function
- * says so. Link dist/libpebblelinen.a, or build it with its proofs: `rt staticlib pebblelinen` writes
- * target/staticlib/libpebblelinen.a.
+ * says so. Link dist/libpebblelinen.a, or build it with its proofs: `tools/build-shared` writes
+ * target/shared/libpebblelinen.a.
  *
  * A slice is passed as a pointer, which is not NULL even where the length is 0, and a length.
  * Slices that a function writes to overlap no other slice of the call. Qubits are counted from 0.

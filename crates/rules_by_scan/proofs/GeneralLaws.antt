@@ -30,7 +30,6 @@ use Rattle.model.specs.declared.stored.Jump.TheVariants.{General}
 use Rattle.rule_terms.specs.Adds.{sandwich, dampen, jump_adds}
 use Rattle.rule_terms.specs.Steps.{sandwich_from}
 use Rattle.rules_by_scan.proofs.GatherLaws.{terms_parted, map_gathered}
-use Rattle.model.specs.Between.{onto}
 
 -- ---- sharing a qubit: none of the terms before place i does
 overlaps_append : (A B : List Term) (p : Word) → overlaps_over floats pauli (A ++ B) p ≡ overlaps_over floats pauli A p || overlaps_over floats pauli B p

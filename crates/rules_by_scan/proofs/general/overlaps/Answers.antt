@@ -3,7 +3,6 @@
 
 -- `general::overlaps` meets its contract: none of the terms so far shares a qubit with p. Assumes nothing.
 use mathlib.Core.Path.{sym, ◌∙◌}
-use Rattle.model.specs.Stored.{range}
 use Rattle.rules_by_scan.proofs.GeneralLaws.{none_start, none_next, none_done, one_found}
 use native.Mathlib.Omega.{arith}
 use Rattle.rules_by_scan.proofs.general.overlaps.Goals as goal

@@ -6,7 +6,6 @@ use mathlib.Core.Path.{ap}
 use lib.ListN.{length}
 use mir.Val.{Fits}
 use mir.Syntax.{w64}
-use Rattle.model.specs.Stored.{range}
 use Rattle.rule_terms.specs.Adds.{dampen}
 use Rattle.rules_by_scan.proofs.GatherLaws.{gather_start, gather_room, gather_term, gather_next, gather_full, gather_done}
 use borrow.Author.Rules.{rules}

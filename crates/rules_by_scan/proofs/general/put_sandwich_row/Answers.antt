@@ -10,7 +10,6 @@ use mir.Syntax.{w64}
 use Rattle.word.specs.declared.algebra.Phased.{Phased}
 use Rattle.word.proofs.WordLaws.{phase_lt}
 use Rattle.model.specs.Terms.{terms_of}
-use Rattle.model.specs.Stored.{range}
 use Rattle.rule_terms.specs.Steps.{sandwich_from}
 use Rattle.rule_terms.proofs.PutsLaws.{puts_one, puts_same}
 use Rattle.rules_by_scan.proofs.GatherLaws.{gather_start, gather_room, gather_term, gather_next, gather_full, gather_done, single_term}

@@ -8,7 +8,6 @@ use lib.ListN.{length}
 use mir.Val.{Fits}
 use mir.Syntax.{w64}
 use Rattle.model.specs.Terms.{Term, terms_of}
-use Rattle.model.specs.Stored.{range}
 use Rattle.rule_terms.specs.Adds.{sandwich}
 use Rattle.rule_terms.proofs.PutsLaws.{puts_same}
 use Rattle.rules_by_scan.proofs.GatherLaws.{gather_start, gather_room, gather_term, gather_next, gather_full, gather_done, pairs_gathered}

@@ -2,7 +2,6 @@
 -- SPDX-License-Identifier: Apache-2.0
 
 -- What lasts over the loop of `pair::put_factor_row`, and what falls.
-use mathlib.Core.Path.{ap}
 use Prim.Native.Nat.{◌-◌}
 use Rattle.model.specs.Stored.{range}
 use Rattle.rules_by_scan.proofs.GatherLaws.{GatherState}
