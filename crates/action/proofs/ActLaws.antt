@@ -34,7 +34,6 @@ use Rattle.rule_terms.specs.Sums.{SumsRoom, PutsAll}
 use Rattle.action.specs.declared.act.Acted.TheVariants.{Listed, Refused}
 use Rattle.action.specs.Acts.{listed, sums_of, action_of, sum_places, list_places, Acting, tested, act}
 use Rattle.action.specs.Between.{Lists, ListRoom}
-use Rattle.sums.specs.Between.{answer}
 
 -- ---- the sums: an empty table at first, and all of them where there is room
 pub empty_room : (room : ℕ) (words : List ℕ) (sums : List Float) → word_lanes * room ≤ length words → 2 * room ≤ length sums → SumsRoom room 0 words sums

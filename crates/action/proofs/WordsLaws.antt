@@ -15,7 +15,6 @@ use Rattle.refusal.specs.declared.Refusal.TheVariants.{CountAboveLimit, LengthMi
 use Rattle.refusal.specs.declared.Answer.{Answer}
 use Rattle.refusal.specs.declared.Answer.TheVariants.{Accepted, Refused}
 use Rattle.word.specs.Flat.{word_lanes}
-use Rattle.word.specs.Flat as Flat
 use Rattle.model.specs.Stored.{ModelTables}
 use Rattle.model.specs.Tested.{test_model}
 use Rattle.model.specs.declared.stored.Model.{Model}

@@ -13,7 +13,6 @@ use Rattle.word.specs.declared.word.Word.{Word}
 use Rattle.number.specs.Floats.{floats, float0}
 use Rattle.gksl.specs.Table.{put_all_over, without_over}
 use Rattle.gksl.specs.Words.{pauli}
-use Rattle.sums.specs.Sums.{sum_rows}
 use Rattle.model.specs.Stored.{ModelTables}
 use Rattle.model.specs.Tested.{test_model}
 use Rattle.model.specs.Terms.{Term}

@@ -8,7 +8,6 @@ use Rattle.order.specs.Magnitudes.{by_magnitude}
 use Rattle.slots.specs.Between.{Slotted}
 use Rattle.candidates.specs.Tables.{Rows}
 use Rattle.lent.specs.Read.{Read, got, refused}
-use Rattle.action.specs.declared.act.Acted.TheVariants.{Refused}
 use Rattle.passes.specs.declared.taken.Taken.{Taken}
 use Rattle.passes.specs.declared.taken.Taken.TheVariants as Steps
 use Rattle.passes.specs.Between.{rows_at, Placed}

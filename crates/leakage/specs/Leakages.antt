@@ -2,7 +2,7 @@
 -- SPDX-License-Identifier: Apache-2.0
 
 -- Leakage over a lent model, basis and protected list: refusals in their order, the answer, and every lent table afterwards.
-use Rattle.std.specs.Prelude.{ℕ, ◌+◌, ◌-◌, ◌*◌, ◌/◌, min, max, cond, List, [], ◌∷◌, ltb, eqb, Float, length, take, set, replicate}
+use Rattle.std.specs.Prelude.{ℕ, ◌+◌, ◌-◌, ◌*◌, ◌/◌, min, cond, List, [], ◌∷◌, ltb, Float, length, take, set, replicate}
 use Rattle.refusal.specs.declared.Refusal.TheVariants.{TableFull}
 use Rattle.refusal.specs.declared.Answer.{Answer}
 use Rattle.refusal.specs.declared.Answer.TheVariants as Tests
@@ -15,7 +15,7 @@ use Rattle.lent.specs.Laid.{laid}
 use Rattle.model.specs.Tested.{test_model}
 use Rattle.lent.specs.Tests.{counted, lent, where_any, and_then, equal, in_turn}
 use Rattle.lent.specs.Words.{max_words, inside_to}
-use Rattle.lent.specs.Numbers.{finite_to, finite_threshold}
+use Rattle.lent.specs.Numbers.{finite_to}
 use Rattle.model.specs.declared.stored.Model.{Model}
 use Rattle.action.specs.Acts.{list_places}
 use Rattle.action.specs.Counts.{row_lanes}
@@ -24,7 +24,6 @@ use Rattle.action.specs.declared.act.Acted.TheVariants.{Listed, Refused}
 use Rattle.passes.specs.Leaks.{candidates_of, above, words_of, sums_of}
 use Rattle.limits.specs.Defaults.{limit_of, tau_of, limit_tests, tau_tests}
 use Rattle.limits.specs.declared.Limits.{Limits}
-use Rattle.passes.specs.declared.taken.Taken.TheVariants as Steps
 
 -- ---- what is lent
 -- the first len places of the words and coefficients are the basis

@@ -16,7 +16,6 @@ use Rattle.word.specs.Flat.{word_lanes}
 use Rattle.number.specs.Floats.{floats, float0}
 use Rattle.gksl.specs.Model.{RealTerm}
 use Rattle.gksl.specs.Words.{pauli}
-use Rattle.model.specs.declared.stored.Model.{Model}
 use Rattle.model_build.specs.declared.spec.Built.TheVariants as Answers
 use Rattle.model.specs.Stored.{ModelTables}
 use Rattle.model_build.specs.Compiled.{Compiled}

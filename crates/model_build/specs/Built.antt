@@ -19,7 +19,6 @@ use Rattle.sums.specs.Numbers.{complexes, lay_number}
 use Rattle.lent.specs.Read.{Read, got, refused, each}
 use Rattle.model.specs.Terms.{Term}
 use Rattle.lent.specs.Laid.{laid}
-use Rattle.model.specs.declared.stored.Model.{Model}
 use Rattle.model_build.specs.declared.spec.Built.{Built}
 use Rattle.model_build.specs.declared.spec.Built.TheVariants as Answers
 use Rattle.lent.specs.Tests.{counted, lent, where_any, in_turn, and_then, registered, Test, equal}

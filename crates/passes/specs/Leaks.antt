@@ -12,7 +12,6 @@ use Rattle.order.specs.Magnitudes.{by_magnitude}
 use Rattle.order.specs.Places.{is_among}
 use Rattle.keep.specs.Retained.{pick}
 use Rattle.keep.specs.Chosen.{chosen}
-use Rattle.sums.specs.declared.sums.Added.TheVariants as Put
 use Rattle.candidates.specs.Sums.{Row, row}
 use Rattle.candidates.specs.Tables.{Rows, put_rows}
 use Rattle.model.specs.Stored.{ModelTables}

@@ -3,10 +3,10 @@
 
 -- The entries of the generator, column by column, have the raws of its columns: a term of an action is an entry exactly where its word
 -- is in the basis. Assumes nothing.
-use mathlib.Core.Path.{◌≡◌, refl, sym, ap, ap₂, ◌∙◌}
-use mathlib.Core.Bool.{Bool, true, false, not, cond}
+use mathlib.Core.Path.{◌≡◌, refl, sym, ap, ap₂}
+use mathlib.Core.Bool.{Bool, true, false, cond}
 use mathlib.Core.List.{List, [], ◌∷◌, ◌++◌, map}
-use Prim.Native.Nat.{ℕ, zero, suc, ◌-◌, ◌<◌, ◌≤◌}
+use Prim.Native.Nat.{ℕ, suc, ◌-◌, ◌<◌}
 use native.Mathlib.Omega.{arith}
 use borrow.Author.Tests.{eq-eqb, ne_eqb}
 use lib.Dec.{eqb}
@@ -22,7 +22,7 @@ use Rattle.model.specs.declared.stored.Model.{Model}
 use Rattle.action.specs.Acts.{action_of}
 use Rattle.columns.specs.Entries.{Entry, entry}
 use Rattle.columns.specs.Columns.{place_in, column_entries, columns_from, generator_of}
-use Rattle.column_norm.specs.Columns.{sum_from, total, inside_of, raw_of, largest}
+use Rattle.column_norm.specs.Columns.{sum_from, inside_of, raw_of, largest}
 use Rattle.raw_norm.specs.Unshifted.{unshifted_norm}
 use Rattle.raw_norm.specs.Between.{front_sum, front_size, raws_from}
 

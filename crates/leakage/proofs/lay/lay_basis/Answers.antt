@@ -8,7 +8,7 @@ use Prim.Native.Nat.{◌+◌, ◌*◌, ◌/◌}
 use native.Mathlib.Omega.{arith}
 use lib.ListN.{length, take, drop}
 use lib.Seq.{length-take-le, length_front}
-use Rattle.word.specs.Flat.{word_lanes, words}
+use Rattle.word.specs.Flat.{word_lanes}
 use Rattle.word.proofs.FlatLaws.{words_count}
 use Rattle.leakage.proofs.LeakLaws.{laid_first}
 use Rattle.leakage.proofs.lay.lay_basis.Goals as goal
