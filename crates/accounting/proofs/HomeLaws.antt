@@ -6,7 +6,7 @@
 use Prim.Native.Nat.{ℕ}
 use mathlib.Core.Path.{◌≡◌, refl, sym, ap, ◌∙◌}
 use mathlib.Core.Bool.{Bool, true, false, not, ◌&&◌, false≢true}
-use mathlib.Core.List.{List, ◌∷◌, map}
+use mathlib.Core.List.{List, [], ◌∷◌, map}
 use mathlib.Core.Logic.{◌⊎◌, inl, inr}
 use lib.Ieee.{Float}
 use lib.ListN.{length, get_or}
@@ -34,11 +34,13 @@ record TermOf (w : Word) (L : List Term) : Type 0 where
 
 term_of : (w : Word) (L : List Term) → Member w (map (λ (c : Term). c.word) L) → TermOf w L
 unfolding Member
+term_of w [] h = elim h [ ]
 term_of w (c ∷ L) (inl e) = record { term = c; listed = inl refl; word_is = sym e }
 term_of w (c ∷ L) (inr h) = let r = term_of w L h in record { term = r.term; listed = inr r.listed; word_is = r.word_is }
 
 has_term : (w : Word) (L : List Term) (c : Term) → Member c L → c.word ≡ w → Member w (map (λ (x : Term). x.word) L)
 unfolding Member
+has_term w [] c h e = elim h [ ]
 has_term w (x ∷ L) c (inl h) e = inl (sym e ∙ ap (λ (y : Term). y.word) h)
 has_term w (x ∷ L) c (inr h) e = inr (has_term w L c h e)
 
