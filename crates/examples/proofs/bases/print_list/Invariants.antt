@@ -7,7 +7,7 @@ use lib.ListN.{length}
 use Rattle.examples.proofs.bases.print_list.Given as goal
 
 abbrev pub invariant-loop-i : goal.invariant-loop-i
-invariant-loop-i l = l.i ≤ length l.words
+invariant-loop-i g l = l.i ≤ length l.values
 
 abbrev pub decreases-loop-i : goal.decreases-loop-i
-decreases-loop-i l = length l.words - l.i
+decreases-loop-i g l = length l.values - l.i

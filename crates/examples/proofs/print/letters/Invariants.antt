@@ -7,7 +7,7 @@ use lib.ListN.{length}
 use Rattle.examples.proofs.print.letters.Given as goal
 
 abbrev pub invariant-loop-q : goal.invariant-loop-q
-invariant-loop-q l = l.initial.q ≤ length l.rt
+invariant-loop-q g l = l.q ≤ length l.codes
 
 abbrev pub decreases-loop-q : goal.decreases-loop-q
-decreases-loop-q l = length l.rt - l.initial.q
+decreases-loop-q g l = length l.codes - l.q
