@@ -24,7 +24,7 @@ pub overflow_add-result : goal.overflow_add-result
 overflow_add-result c = sum_fits c.args.taken _ _ _ _ c.products_of-before.ensures c.in-Taken.is c.requires.0 c.requires.1
 
 pub returns-in-Taken : goal.returns-in-Taken
-returns-in-Taken c = added _ _ _ _ _ c.products_of-before.ensures c.in-Taken.is
+returns-in-Taken c = added c.args.taken _ _ _ _ c.products_of-before.ensures c.in-Taken.is
 
 pub returns-in-Refused : goal.returns-in-Refused
 returns-in-Refused c = rw c.in-Refused.is

@@ -52,12 +52,12 @@ returns-in-Refused c =
     let is = c.if-due-eq0.true in
     let b = c.begin_step-tests in
     let told = b.ensures.0 ∙ ap₂ (λ (x : List ℕ) (y : List Float). step_tests a.model t x y a.len a.protected.now a.limits a.dt a.drop_tol (length l.h_index) (length l.j_index) (length l.mask) (length l.order) (length l.heads) (length l.nexts) (length l.place_order) (length l.cand_sums) (length l.list_values) (length l.work_sums) (length l.grown_words) (length l.start) (length l.evolved)) we ce in
-    let q = c.tests-1.given in
-    let e = b.ensures.1 q.0.0 q.1 in
+    let q = c.in-Refused.is in
+    let e = b.ensures.1 _ q in
     let r = c.stepped_of in
     subst (λ (x : List ℕ). LeavesStep (step a.model t a.words.now a.coeffs.now a.len a.protected.now a.limits a.dt a.drop_tol s.work) r.result x l.coeffs (work_of l.h_index l.j_index l.mask l.work_words l.work_sums l.order c.begin_step-tests.new.heads c.begin_step-tests.new.nexts l.cand_words l.cand_sums l.place_order l.place_work l.list_words l.list_values l.stage_rows l.stage_columns l.columns l.values c.begin_step-tests.new.grown_words c.begin_step-tests.new.start c.begin_step-tests.new.evolved)) (sym we)
     (subst (λ (y : List Float). LeavesStep (step a.model t a.words.now a.coeffs.now a.len a.protected.now a.limits a.dt a.drop_tol s.work) r.result s.lanes y (work_of l.h_index l.j_index l.mask l.work_words l.work_sums l.order c.begin_step-tests.new.heads c.begin_step-tests.new.nexts l.cand_words l.cand_sums l.place_order l.place_work l.list_words l.list_values l.stage_rows l.stage_columns l.columns l.values c.begin_step-tests.new.grown_words c.begin_step-tests.new.start c.begin_step-tests.new.evolved)) (sym ce)
-    (turned_away s u.result l.taken l.hopped w d.stands is b.result told q.0.0 q.1 _ (work_same w _ _ _ _ _ e.0 e.1 e.2 e.3 e.4) r.result r.ensures))
+    (turned_away s u.result l.taken l.hopped w d.stands is b.result told _ q _ (work_same w _ _ _ _ _ e.0 e.1 e.2 e.3 e.4) r.result r.ensures))
 
 pub overflow_add-part : goal.overflow_add-part
 overflow_add-part c =
@@ -200,13 +200,11 @@ hop-hopped-requires c =
     let en = c.entries_of-entries in
     let hops = sym c.is_hop-hops.ensures ∙ c.if-hops.true in
     let pe : p.result ≡ grown_to s = p.ensures in
-    let ee : en.result ≡ entries_in l.taken = en.ensures in (
-      hop_given s u.result l.taken l.hopped w d.stands hops d.room,
-      (
-        subst (λ (g : ℕ). HopLong a.model.qubits (length a.protected.now / word_lanes) g en.result l.h_index l.j_index l.mask l.order l.heads l.nexts l.grown_words l.start l.evolved) (sym pe) (subst (λ (k : ℕ). HopLong a.model.qubits (length a.protected.now / word_lanes) (grown_to s) k l.h_index l.j_index l.mask l.order l.heads l.nexts l.grown_words l.start l.evolved) (sym ee) (hop_long s u.result l.taken l.hopped w d.stands hops d.room).hop),
-        subst (λ (g : ℕ). Holds a.model.qubits g en.result l.grown_words l.start l.evolved) (sym pe) (subst (λ (k : ℕ). Holds a.model.qubits (grown_to s) k l.grown_words l.start l.evolved) (sym ee) (poised s u.result l.taken l.hopped w d.stands hops d.room).held),
-      ),
-    )
+    let ee : en.result ≡ entries_in l.taken = en.ensures in record {
+      given = hop_given s u.result l.taken l.hopped w d.stands hops d.room;
+      long = subst (λ (g : ℕ). HopLong a.model.qubits (length a.protected.now / word_lanes) g en.result l.h_index l.j_index l.mask l.order l.heads l.nexts l.grown_words l.start l.evolved) (sym pe) (subst (λ (k : ℕ). HopLong a.model.qubits (length a.protected.now / word_lanes) (grown_to s) k l.h_index l.j_index l.mask l.order l.heads l.nexts l.grown_words l.start l.evolved) (sym ee) (hop_long s u.result l.taken l.hopped w d.stands hops d.room).hop);
+      holds = subst (λ (g : ℕ). Holds a.model.qubits g en.result l.grown_words l.start l.evolved) (sym pe) (subst (λ (k : ℕ). Holds a.model.qubits (grown_to s) k l.grown_words l.start l.evolved) (sym ee) (poised s u.result l.taken l.hopped w d.stands hops d.room).held);
+    }
 
 pub overflow_add-part-then-hops : goal.overflow_add-part-then-hops
 overflow_add-part-then-hops c =
@@ -279,13 +277,11 @@ evolve_after-done-requires c =
     let en = c.entries_of-entries in
     let not-hop = sym c.is_hop-hops.ensures ∙ c.if-hops.false in
     let pe : p.result ≡ grown_to s = p.ensures in
-    let ee : en.result ≡ entries_in l.taken = en.ensures in (
-      evolve_given s u.result l.taken l.hopped w d.stands d.below c.if-due-eq0.false c.if-due-eq5.false not-hop,
-      (
-        (λ k e. subst (λ (g : ℕ). EvolveLong a.model.qubits g k l.h_index l.j_index l.mask l.heads l.nexts l.place_order l.grown_words l.cand_sums l.list_values l.work_sums l.start l.evolved × GoodWords a.model.qubits (take k (words_in l.grown_words)) × AreFinite (take k l.start) × (k ≤ g)) (sym pe) (evolve_ready s u.result l.taken l.hopped w d.stands d.below c.if-due-eq0.false c.if-due-eq5.false not-hop k e)),
-        (zero_h_index s u.result l.taken l.hopped w d.stands d.below c.if-due-eq0.false c.if-due-eq5.false not-hop, zero_j_index s u.result l.taken l.hopped w d.stands d.below c.if-due-eq0.false c.if-due-eq5.false not-hop, zero_mask s u.result l.taken l.hopped w d.stands d.below c.if-due-eq0.false c.if-due-eq5.false not-hop, zero_work_words s u.result l.taken l.hopped w d.stands d.below c.if-due-eq0.false c.if-due-eq5.false not-hop, zero_work_sums s u.result l.taken l.hopped w d.stands d.below c.if-due-eq0.false c.if-due-eq5.false not-hop, zero_heads s u.result l.taken l.hopped w d.stands d.below c.if-due-eq0.false c.if-due-eq5.false not-hop, zero_nexts s u.result l.taken l.hopped w d.stands d.below c.if-due-eq0.false c.if-due-eq5.false not-hop, zero_cand_sums s u.result l.taken l.hopped w d.stands d.below c.if-due-eq0.false c.if-due-eq5.false not-hop, zero_place_order s u.result l.taken l.hopped w d.stands d.below c.if-due-eq0.false c.if-due-eq5.false not-hop, zero_list_values s u.result l.taken l.hopped w d.stands d.below c.if-due-eq0.false c.if-due-eq5.false not-hop),
-      ),
-    )
+    let ee : en.result ≡ entries_in l.taken = en.ensures in record {
+      tested = evolve_given s u.result l.taken l.hopped w d.stands d.below c.if-due-eq0.false c.if-due-eq5.false not-hop;
+      long = (λ k e. subst (λ (g : ℕ). EvolveLong a.model.qubits g k l.h_index l.j_index l.mask l.heads l.nexts l.place_order l.grown_words l.cand_sums l.list_values l.work_sums l.start l.evolved × GoodWords a.model.qubits (take k (words_in l.grown_words)) × AreFinite (take k l.start) × (k ≤ g)) (sym pe) (evolve_ready s u.result l.taken l.hopped w d.stands d.below c.if-due-eq0.false c.if-due-eq5.false not-hop k e));
+      cleared = (zero_h_index s u.result l.taken l.hopped w d.stands d.below c.if-due-eq0.false c.if-due-eq5.false not-hop, zero_j_index s u.result l.taken l.hopped w d.stands d.below c.if-due-eq0.false c.if-due-eq5.false not-hop, zero_mask s u.result l.taken l.hopped w d.stands d.below c.if-due-eq0.false c.if-due-eq5.false not-hop, zero_work_words s u.result l.taken l.hopped w d.stands d.below c.if-due-eq0.false c.if-due-eq5.false not-hop, zero_work_sums s u.result l.taken l.hopped w d.stands d.below c.if-due-eq0.false c.if-due-eq5.false not-hop, zero_heads s u.result l.taken l.hopped w d.stands d.below c.if-due-eq0.false c.if-due-eq5.false not-hop, zero_nexts s u.result l.taken l.hopped w d.stands d.below c.if-due-eq0.false c.if-due-eq5.false not-hop, zero_cand_sums s u.result l.taken l.hopped w d.stands d.below c.if-due-eq0.false c.if-due-eq5.false not-hop, zero_place_order s u.result l.taken l.hopped w d.stands d.below c.if-due-eq0.false c.if-due-eq5.false not-hop, zero_list_values s u.result l.taken l.hopped w d.stands d.below c.if-due-eq0.false c.if-due-eq5.false not-hop);
+    }
 
 pub add_products-taken-requires : goal.add_products-taken-requires
 add_products-taken-requires c =

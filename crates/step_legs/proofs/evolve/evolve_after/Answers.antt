@@ -18,7 +18,7 @@ ends_there-all-requires c = tt
 pub returns-then-all : goal.returns-then-all
 returns-then-all c =
     let a = c.args in
-    let z = c.requires.1.1 in
+    let z = c.requires.cleared in
     let e = c.in-Entries.is in
     let all = sym c.ends_there-all.ensures ∙ c.if-all.true in (
       follows_all a.hopped a.always a.len _ e a.evolved.now,
@@ -37,8 +37,8 @@ returns-then-all c =
 
 pub evolve_grown-requires : goal.evolve_grown-requires
 evolve_grown-requires c =
-    let o = c.requires.1.0 _ c.in-Entries.is in
-    (c.requires.0, (o.0, (o.1, o.2, o.3)))
+    let o = c.requires.long _ c.in-Entries.is in
+    record { tested = c.requires.tested; long = o.0; good_words = (o.1, o.2, o.3) }
 
 pub returns-else-all : goal.returns-else-all
 returns-else-all c =
@@ -63,7 +63,7 @@ returns-else-all c =
 pub returns-in-Refused : goal.returns-in-Refused
 returns-in-Refused c =
     let a = c.args in
-    let z = c.requires.1.1 in
+    let z = c.requires.cleared in
     let e = c.in-Refused.is in (
       follows_turned a.hopped a.always a.len _ e a.evolved.now,
       λ p protected k at f g. absurd (no_entries a.hopped _ e k f),

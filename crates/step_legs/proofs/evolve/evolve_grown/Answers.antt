@@ -25,7 +25,7 @@ overflow_mul-basis c =
     let a = c.args in
     let pre = c.requires in
     let t : ModelTables = model_tables a.h_words.now a.h_coeffs.now a.jumps.now a.rates.now a.t_words.now a.t_numbers.now in
-    let h : word_lanes * a.len ≤ length a.grown_words.now = omega (arith, lanes_fit a.m t pre.0.0 a.places a.len a.h_index.now a.j_index.now a.mask.now a.heads.now a.nexts.now a.place_order.now a.grown_words.now a.cand_sums.now a.list_values.now a.work_sums.now a.start.now a.evolved.now pre.1.0 pre.1.1.0 pre.1.1.1 pre.1.1.2) in
+    let h : word_lanes * a.len ≤ length a.grown_words.now = omega (arith, lanes_fit a.m t pre.tested.0 a.places a.len a.h_index.now a.j_index.now a.mask.now a.heads.now a.nexts.now a.place_order.now a.grown_words.now a.cand_sums.now a.list_values.now a.work_sums.now a.start.now a.evolved.now pre.long pre.good_words.0 pre.good_words.1 pre.good_words.2) in
     search (h, c.well_formed.1.1.1.1.1.1.1.1.1.1.1.0, rules)
 
 pub slice_bounds-basis-end : goal.slice_bounds-basis-end
@@ -33,25 +33,25 @@ slice_bounds-basis-end c =
     let a = c.args in
     let pre = c.requires in
     let t : ModelTables = model_tables a.h_words.now a.h_coeffs.now a.jumps.now a.rates.now a.t_words.now a.t_numbers.now in
-    sym (length-take-le (a.len * word_lanes) a.grown_words.now (lanes_fit a.m t pre.0.0 a.places a.len a.h_index.now a.j_index.now a.mask.now a.heads.now a.nexts.now a.place_order.now a.grown_words.now a.cand_sums.now a.list_values.now a.work_sums.now a.start.now a.evolved.now pre.1.0 pre.1.1.0 pre.1.1.1 pre.1.1.2))
+    sym (length-take-le (a.len * word_lanes) a.grown_words.now (lanes_fit a.m t pre.tested.0 a.places a.len a.h_index.now a.j_index.now a.mask.now a.heads.now a.nexts.now a.place_order.now a.grown_words.now a.cand_sums.now a.list_values.now a.work_sums.now a.start.now a.evolved.now pre.long pre.good_words.0 pre.good_words.1 pre.good_words.2))
 
 pub slice_bounds-lay_slots-end : goal.slice_bounds-lay_slots-end
 slice_bounds-lay_slots-end c =
     let pre = c.requires in
-    omega (arith, pre.1.0.nexts_long, pre.1.1.2)
+    omega (arith, pre.long.nexts_long, pre.good_words.2)
 
 pub slice_bounds-lay_slots-end-2 : goal.slice_bounds-lay_slots-end-2
 slice_bounds-lay_slots-end-2 c =
     let a = c.args in
     let pre = c.requires in
-    sym (length-take-le a.len a.nexts.now (omega (arith, pre.1.0.nexts_long, pre.1.1.2)))
+    sym (length-take-le a.len a.nexts.now (omega (arith, pre.long.nexts_long, pre.good_words.2)))
 
 pub lay_slots-requires : goal.lay_slots-requires
 lay_slots-requires c =
     let a = c.args in
     let pre = c.requires in
     let t : ModelTables = model_tables a.h_words.now a.h_coeffs.now a.jumps.now a.rates.now a.t_words.now a.t_numbers.now in
-    slots_lent a.m t pre.0.0 a.places a.len a.h_index.now a.j_index.now a.mask.now a.heads.now a.nexts.now a.place_order.now a.grown_words.now a.cand_sums.now a.list_values.now a.work_sums.now a.start.now a.evolved.now pre.1.0 pre.1.1.0 pre.1.1.1 pre.1.1.2
+    slots_lent a.m t pre.tested.0 a.places a.len a.h_index.now a.j_index.now a.mask.now a.heads.now a.nexts.now a.place_order.now a.grown_words.now a.cand_sums.now a.list_values.now a.work_sums.now a.start.now a.evolved.now pre.long pre.good_words.0 pre.good_words.1 pre.good_words.2
 
 pub build_matrix-built-requires : goal.build_matrix-built-requires
 build_matrix-built-requires c =
@@ -59,13 +59,13 @@ build_matrix-built-requires c =
     let pre = c.requires in
     let t : ModelTables = model_tables a.h_words.now a.h_coeffs.now a.jumps.now a.rates.now a.t_words.now a.t_numbers.now in
     let l = c.lay_slots in
-    (model_given a.m t pre.0.0 a.places a.len a.h_index.now a.j_index.now a.mask.now a.heads.now a.nexts.now a.place_order.now a.grown_words.now a.cand_sums.now a.list_values.now a.work_sums.now a.start.now a.evolved.now pre.1.0 pre.1.1.0 pre.1.1.1 pre.1.1.2, slots_given a.m t pre.0.0 a.places a.len a.h_index.now a.j_index.now a.mask.now a.heads.now a.nexts.now a.place_order.now a.grown_words.now a.cand_sums.now a.list_values.now a.work_sums.now a.start.now a.evolved.now pre.1.0 pre.1.1.0 pre.1.1.1 pre.1.1.2 l.new.heads l.new.nexts l.auto.heads l.auto.nexts l.ensures, starts_given a.m t pre.0.0 a.places a.len a.h_index.now a.j_index.now a.mask.now a.heads.now a.nexts.now a.place_order.now a.grown_words.now a.cand_sums.now a.list_values.now a.work_sums.now a.start.now a.evolved.now pre.1.0 pre.1.1.0 pre.1.1.1 pre.1.1.2)
+    (model_given a.m t pre.tested.0 a.places a.len a.h_index.now a.j_index.now a.mask.now a.heads.now a.nexts.now a.place_order.now a.grown_words.now a.cand_sums.now a.list_values.now a.work_sums.now a.start.now a.evolved.now pre.long pre.good_words.0 pre.good_words.1 pre.good_words.2, slots_given a.m t pre.tested.0 a.places a.len a.h_index.now a.j_index.now a.mask.now a.heads.now a.nexts.now a.place_order.now a.grown_words.now a.cand_sums.now a.list_values.now a.work_sums.now a.start.now a.evolved.now pre.long pre.good_words.0 pre.good_words.1 pre.good_words.2 l.new.heads l.new.nexts l.auto.heads l.auto.nexts l.ensures, starts_given a.m t pre.tested.0 a.places a.len a.h_index.now a.j_index.now a.mask.now a.heads.now a.nexts.now a.place_order.now a.grown_words.now a.cand_sums.now a.list_values.now a.work_sums.now a.start.now a.evolved.now pre.long pre.good_words.0 pre.good_words.1 pre.good_words.2)
 
 pub slice_bounds-evolve_and_clear-end : goal.slice_bounds-evolve_and_clear-end
 slice_bounds-evolve_and_clear-end c =
     let a = c.args in
     let pre = c.requires in
-    sym (length-take-le a.len a.start.now (omega (arith, pre.1.0.start_long, pre.1.1.2)))
+    sym (length-take-le a.len a.start.now (omega (arith, pre.long.start_long, pre.good_words.2)))
 
 pub evolve_and_clear-numbers-requires : goal.evolve_and_clear-numbers-requires
 evolve_and_clear-numbers-requires c =
@@ -74,7 +74,7 @@ evolve_and_clear-numbers-requires c =
     let t : ModelTables = model_tables a.h_words.now a.h_coeffs.now a.jumps.now a.rates.now a.t_words.now a.t_numbers.now in
     let l = c.lay_slots in
     let q = c.build_matrix-built in
-    rows_ready a.m t pre.0.0 (words_in (take (a.len * word_lanes) a.grown_words.now)) a.len (basis_size a.m t pre.0.0 a.places a.len a.h_index.now a.j_index.now a.mask.now a.heads.now a.nexts.now a.place_order.now a.grown_words.now a.cand_sums.now a.list_values.now a.work_sums.now a.start.now a.evolved.now pre.1.0 pre.1.1.0 pre.1.1.1 pre.1.1.2) (Generator.work_of a.h_index.now a.j_index.now a.mask.now l.new.heads (l.new.nexts ++ drop a.len a.nexts.now) a.work_words.now a.work_sums.now a.stage_rows.now a.stage_columns.now a.cand_sums.now) a.place_order.now a.columns.now a.values.now (starts_given a.m t pre.0.0 a.places a.len a.h_index.now a.j_index.now a.mask.now a.heads.now a.nexts.now a.place_order.now a.grown_words.now a.cand_sums.now a.list_values.now a.work_sums.now a.start.now a.evolved.now pre.1.0 pre.1.1.0 pre.1.1.1 pre.1.1.2) q.result q.new.offsets q.new.columns q.new.values q.ensures.rows q.auto.columns q.auto.values a.start.now q.new.stage_values a.list_values.now q.new.work_sums a.evolved.now (numbers_given a.m t pre.0.0 a.places a.len a.h_index.now a.j_index.now a.mask.now a.heads.now a.nexts.now a.place_order.now a.grown_words.now a.cand_sums.now a.list_values.now a.work_sums.now a.start.now a.evolved.now pre.1.0 pre.1.1.0 pre.1.1.1 pre.1.1.2 q.new.stage_values q.new.work_sums q.auto.stage_values q.auto.work_sums) q.auto.offsets
+    rows_ready a.m t pre.tested.0 (words_in (take (a.len * word_lanes) a.grown_words.now)) a.len (basis_size a.m t pre.tested.0 a.places a.len a.h_index.now a.j_index.now a.mask.now a.heads.now a.nexts.now a.place_order.now a.grown_words.now a.cand_sums.now a.list_values.now a.work_sums.now a.start.now a.evolved.now pre.long pre.good_words.0 pre.good_words.1 pre.good_words.2) (Generator.work_of a.h_index.now a.j_index.now a.mask.now l.new.heads (l.new.nexts ++ drop a.len a.nexts.now) a.work_words.now a.work_sums.now a.stage_rows.now a.stage_columns.now a.cand_sums.now) a.place_order.now a.columns.now a.values.now (starts_given a.m t pre.tested.0 a.places a.len a.h_index.now a.j_index.now a.mask.now a.heads.now a.nexts.now a.place_order.now a.grown_words.now a.cand_sums.now a.list_values.now a.work_sums.now a.start.now a.evolved.now pre.long pre.good_words.0 pre.good_words.1 pre.good_words.2) q.result q.new.offsets q.new.columns q.new.values q.ensures.rows q.auto.columns q.auto.values a.start.now q.new.stage_values a.list_values.now q.new.work_sums a.evolved.now (numbers_given a.m t pre.tested.0 a.places a.len a.h_index.now a.j_index.now a.mask.now a.heads.now a.nexts.now a.place_order.now a.grown_words.now a.cand_sums.now a.list_values.now a.work_sums.now a.start.now a.evolved.now pre.long pre.good_words.0 pre.good_words.1 pre.good_words.2 q.new.stage_values q.new.work_sums q.auto.stage_values q.auto.work_sums) q.auto.offsets
 
 pub step_of-requires : goal.step_of-requires
 step_of-requires c = tt
@@ -89,9 +89,9 @@ returns c =
     let r = c.evolve_and_clear-numbers in
     let w : Work = work_of (Generator.work_of a.h_index.now a.j_index.now a.mask.now a.heads.now a.nexts.now a.work_words.now a.work_sums.now a.stage_rows.now a.stage_columns.now a.cand_sums.now) a.place_order.now a.columns.now a.values.now a.cand_sums.now a.list_values.now a.work_sums.now in
     let e : Taylor.Evolves = record { answer = r.result; out = r.new.out } in (
-      λ p protected at. evolves_plain a.m t pre.0.0 a.dt a.drop_tol pre.0.1 pre.0.2 a.places a.len a.grown_words.now a.start.now w a.evolved.now pre.1.0 pre.1.1.0 pre.1.1.1 pre.1.1.2 e
-          (course_is a.m t pre.0.0 (words_in (take (a.len * word_lanes) a.grown_words.now)) a.len (basis_size a.m t pre.0.0 a.places a.len a.h_index.now a.j_index.now a.mask.now a.heads.now a.nexts.now a.place_order.now a.grown_words.now a.cand_sums.now a.list_values.now a.work_sums.now a.start.now a.evolved.now pre.1.0 pre.1.1.0 pre.1.1.1 pre.1.1.2) (Generator.work_of a.h_index.now a.j_index.now a.mask.now l.new.heads (l.new.nexts ++ drop a.len a.nexts.now) a.work_words.now a.work_sums.now a.stage_rows.now a.stage_columns.now a.cand_sums.now) a.place_order.now a.columns.now a.values.now (starts_given a.m t pre.0.0 a.places a.len a.h_index.now a.j_index.now a.mask.now a.heads.now a.nexts.now a.place_order.now a.grown_words.now a.cand_sums.now a.list_values.now a.work_sums.now a.start.now a.evolved.now pre.1.0 pre.1.1.0 pre.1.1.1 pre.1.1.2) q.result q.new.offsets q.new.columns q.new.values q.ensures.rows q.auto.columns q.auto.values q.new.stage_values a.list_values.now q.new.work_sums q.ensures.norm a.start.now a.dt a.drop_tol a.evolved.now e r.ensures.0
-          ∙ over_alike w l.new.heads (l.new.nexts ++ drop a.len a.nexts.now) q.new.stage_values q.new.work_sums a.evolved.now a.m t (basis_is a.m t pre.0.0 a.places a.len a.h_index.now a.j_index.now a.mask.now a.heads.now a.nexts.now a.place_order.now a.grown_words.now a.cand_sums.now a.list_values.now a.work_sums.now a.start.now a.evolved.now pre.1.0 pre.1.1.0 pre.1.1.1 pre.1.1.2) a.start.now a.len a.dt a.drop_tol)
+      λ p protected at. evolves_plain a.m t pre.tested.0 a.dt a.drop_tol pre.tested.1 pre.tested.2 a.places a.len a.grown_words.now a.start.now w a.evolved.now pre.long pre.good_words.0 pre.good_words.1 pre.good_words.2 e
+          (course_is a.m t pre.tested.0 (words_in (take (a.len * word_lanes) a.grown_words.now)) a.len (basis_size a.m t pre.tested.0 a.places a.len a.h_index.now a.j_index.now a.mask.now a.heads.now a.nexts.now a.place_order.now a.grown_words.now a.cand_sums.now a.list_values.now a.work_sums.now a.start.now a.evolved.now pre.long pre.good_words.0 pre.good_words.1 pre.good_words.2) (Generator.work_of a.h_index.now a.j_index.now a.mask.now l.new.heads (l.new.nexts ++ drop a.len a.nexts.now) a.work_words.now a.work_sums.now a.stage_rows.now a.stage_columns.now a.cand_sums.now) a.place_order.now a.columns.now a.values.now (starts_given a.m t pre.tested.0 a.places a.len a.h_index.now a.j_index.now a.mask.now a.heads.now a.nexts.now a.place_order.now a.grown_words.now a.cand_sums.now a.list_values.now a.work_sums.now a.start.now a.evolved.now pre.long pre.good_words.0 pre.good_words.1 pre.good_words.2) q.result q.new.offsets q.new.columns q.new.values q.ensures.rows q.auto.columns q.auto.values q.new.stage_values a.list_values.now q.new.work_sums q.ensures.norm a.start.now a.dt a.drop_tol a.evolved.now e r.ensures.0
+          ∙ over_alike w l.new.heads (l.new.nexts ++ drop a.len a.nexts.now) q.new.stage_values q.new.work_sums a.evolved.now a.m t (basis_is a.m t pre.tested.0 a.places a.len a.h_index.now a.j_index.now a.mask.now a.heads.now a.nexts.now a.place_order.now a.grown_words.now a.cand_sums.now a.list_values.now a.work_sums.now a.start.now a.evolved.now pre.long pre.good_words.0 pre.good_words.1 pre.good_words.2) a.start.now a.len a.dt a.drop_tol)
           p protected at _ c.step_of.ensures,
       ap (λ (y : Generator.Work). y.h_index) q.ensures.work,
       ap (λ (y : Generator.Work). y.j_index) q.ensures.work,

@@ -13,7 +13,7 @@ enter_listed-requires c =
     let a = c.args in
     let t : ModelTables = model_tables a.h_words.now a.h_coeffs.now a.jumps.now a.rates.now a.t_words.now a.t_numbers.now in
     let w : Work = work_of a.h_index.now a.j_index.now a.mask.now a.work_words.now a.work_sums.now a.order.now a.heads.now a.nexts.now a.cand_words.now a.cand_sums.now a.place_order.now a.place_work.now in
-    (list_stands a.m t a.protected.now a.limits c.requires.0 a.places a.len a.grown_words.now a.start.now a.evolved.now w a.list_words.now a.list_values.now c.requires.1.0 c.requires.1.1 _ c.leakage_with_prune-leaked.ensures, c.requires.1.0.grown_long, c.requires.1.0.start_long)
+    (list_stands a.m t a.protected.now a.limits c.requires.given a.places a.len a.grown_words.now a.start.now a.evolved.now w a.list_words.now a.list_values.now c.requires.long c.requires.holds _ c.leakage_with_prune-leaked.ensures, c.requires.long.grown_long, c.requires.long.start_long)
 
 pub returns : goal.returns
 returns c =
@@ -21,4 +21,4 @@ returns c =
     let t : ModelTables = model_tables a.h_words.now a.h_coeffs.now a.jumps.now a.rates.now a.t_words.now a.t_numbers.now in
     let w : Work = work_of a.h_index.now a.j_index.now a.mask.now a.work_words.now a.work_sums.now a.order.now a.heads.now a.nexts.now a.cand_words.now a.cand_sums.now a.place_order.now a.place_work.now in
     let e = c.enter_listed.ensures in
-    hop_is a.m t a.protected.now a.limits c.requires.0 a.places a.len a.grown_words.now a.start.now a.evolved.now w a.list_words.now a.list_values.now c.requires.1.0 c.requires.1.1 _ c.leakage_with_prune-leaked.ensures _ c.word_limit-limit.ensures _ _ _ _ _ _ e.0 _ _ e.1 e.2
+    hop_is a.m t a.protected.now a.limits c.requires.given a.places a.len a.grown_words.now a.start.now a.evolved.now w a.list_words.now a.list_values.now c.requires.long c.requires.holds _ c.leakage_with_prune-leaked.ensures _ c.word_limit-limit.ensures _ _ _ _ _ _ e.0 _ _ e.1 e.2

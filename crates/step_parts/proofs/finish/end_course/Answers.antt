@@ -12,11 +12,10 @@ finish-kept-requires c = c.requires.0 _ _ c.in-Taken.is
 pub returns-in-Taken : goal.returns-in-Taken
 returns-in-Taken c =
     let a = c.args in
-    let e = c.taken-1.given in
     let f = c.finish-kept.ensures in (
       (λ course told.
-          let k = f.0 e.0.1.0 in
-          course_taken (words_in a.protected.now) a.drop_tol a.max_basis a.words.now a.coeffs.now course _ (told.taken _ _ e.1) _ _ _ k.0 k.1 k.2),
+          let k = f.0 c.in-Taken.products in
+          course_taken (words_in a.protected.now) a.drop_tol a.max_basis a.words.now a.coeffs.now course _ (told.taken _ _ c.in-Taken.is) _ _ _ k.0 k.1 k.2),
       f.1,
       f.2,
       f.3,
