@@ -8,9 +8,7 @@ use Rattle.refusal.specs.Cause.{cause_of}
 use Rattle.refusal.specs.declared.Refusal.{Refusal}
 use Rattle.refusal.specs.declared.Refusal.TheVariants.{TooManyQubits, WrongLength, InvalidPauliByte, InvalidPauliCode, NegativeRate, EmptyLincomb, NumberOutOfRange, CountAboveLimit, LengthMismatch, KMatrixNotHermitian, WordOutsideRegister, RepeatedBasisWord, TableFull, SumNotFinite, WrittenCountTooLarge, TooManyProducts}
 use Rattle.action.specs.declared.act.Acted.{Acted}
-use Rattle.action.specs.declared.act.Acted.TheVariants as Acted
 use Rattle.truncate.specs.declared.kept.Kept.{Kept}
-use Rattle.truncate.specs.declared.kept.Kept.TheVariants as Kept
 use Rattle.pebblelinen.specs.Actions.{listed_of}
 use Rattle.matrix_market.specs.declared.write.Written.{Written}
 use Rattle.matrix_market.specs.declared.write.Written.TheVariants as Texts

@@ -31,7 +31,7 @@ use Rattle.generator_laws.proofs.RowPlaces.{columns_by, values_by, values_many, 
 use Rattle.generator_laws.proofs.SoundRows.{below, sized, generator_sound}
 use Rattle.csr.specs.Products.{length_tests, table_tests}
 use Rattle.csr.proofs.CheckLaws.{rows_accepted, lengths_then, lengths_accepted, Sound, sound_accepted}
-use Rattle.demands.specs.Calls.{Accepted, AllFinite}
+use Rattle.demands.specs.Calls.{AllFinite}
 use Rattle.demands.specs.Demands.{MakesProducts}
 use Rattle.demands.proofs.Matrices.{csr_answer}
 

@@ -37,22 +37,18 @@ use Rattle.model_build.specs.Compiled.{Compiled, compile_jump}
 use Rattle.model_build.specs.Built as Building
 use Rattle.model.specs.declared.stored.Model.{Model}
 use Rattle.model_build.specs.declared.spec.Built.{Built}
-use Rattle.model_build.specs.declared.spec.Built.TheVariants as Built
 use Rattle.k_matrix.specs.Pairs.{pairs_of}
 use Rattle.k_matrix.specs.Added as Adding
 use Rattle.keep.specs.Retained.{flagged, retained_lanes, retained_numbers}
 use Rattle.keep.specs.Admitted.{appended_lanes, appended_zeros, picked}
 use Rattle.action.specs.Acts as Acts
 use Rattle.action.specs.declared.act.Acted.{Acted}
-use Rattle.action.specs.declared.act.Acted.TheVariants as Acted
 use Rattle.action.specs.declared.count.Counted.{Counted}
-use Rattle.action.specs.declared.count.Counted.TheVariants as Counted
 use Rattle.lent.specs.Tests.{counted, first_to}
 use Rattle.lent.specs.Numbers.{not_finite}
 use Rattle.truncate.specs.Prunes as Prunes
 use Rattle.truncate.specs.Admissions as Admissions
 use Rattle.truncate.specs.declared.kept.Kept.{Kept}
-use Rattle.truncate.specs.declared.kept.Kept.TheVariants as Kept
 use Rattle.candidates.specs.Tables.{Rows}
 use Rattle.passes.specs.Leaks.{words_of, sums_of, above}
 use Rattle.leakage.specs.Leakages as Leakage
@@ -70,23 +66,18 @@ use Rattle.matrix_market.specs.declared.write.Written.{Written}
 use Rattle.matrix_market.specs.declared.write.Written.TheVariants as Texts
 use Rattle.csr.specs.Products as Products
 use Rattle.taylor.specs.declared.evolve.Evolved.{Evolved}
-use Rattle.taylor.specs.declared.evolve.Evolved.TheVariants as Evolved
 use Rattle.evolution_laws.proofs.SameMatrix.{evolve_kept}
 use Rattle.step_parts.specs.declared.taken.Step.{Step}
 use Rattle.step_parts.specs.declared.taken.Step.TheVariants as Steps
-use Rattle.step.specs.Calls.{Stepping, step}
+use Rattle.step.specs.Calls.{Stepping}
 use Rattle.step.specs.Exports.{stepped_of}
 use Rattle.step.specs.declared.steps.SteppedBasis.{SteppedBasis}
 use Rattle.step.proofs.PlainLaws.{Turned, by_test, by_part, step_turned}
 use Rattle.csr.specs.declared.reader.RowRead.{RowRead}
-use Rattle.csr.specs.declared.reader.RowRead.TheVariants as RowRead
 use Rattle.expm.specs.declared.Chosen.{Chosen}
-use Rattle.expm.specs.declared.Chosen.TheVariants as Chosen
 use Rattle.expm.specs.Selects.{chosen}
 use Rattle.norm.specs.declared.norm.Normed.{Normed}
-use Rattle.norm.specs.declared.norm.Normed.TheVariants as Normed
 use Rattle.norm.specs.declared.degree.Selected.{Selected}
-use Rattle.norm.specs.declared.degree.Selected.TheVariants as Selected
 use Rattle.pebblelinen.specs.Words.{parsed_of, fitting_of}
 use Rattle.pebblelinen.specs.Models.{built_of}
 use Rattle.pebblelinen.specs.Actions.{listed_of, counted_of}

@@ -12,7 +12,7 @@ use Rattle.step_parts.specs.declared.taken.Step.TheVariants as Steps
 use Rattle.step.specs.Exports.{stepped_of}
 use Rattle.step.specs.declared.steps.SteppedBasis.{SteppedBasis}
 use Rattle.step.proofs.PlainLaws.{step_takes}
-use Rattle.demands.specs.Calls.{Accepted, StepCall}
+use Rattle.demands.specs.Calls.{Accepted}
 use Rattle.demands.specs.Requests.{given_to, StepsKeep}
 use Rattle.demands.proofs.Accepts.{numbered}
 

@@ -8,7 +8,6 @@ use lib.ListN.{take}
 use Rattle.generator_export.specs.Exports.{entry_line}
 use Rattle.generator_export.proofs.TextLaws.{exported_text}
 use Rattle.matrix_market.specs.Text.{text_of}
-use Rattle.matrix_market.specs.declared.write.Written.TheVariants as Texts
 use Rattle.matrix_market.proofs.ReadingLaws.{text_determines}
 use Rattle.demands.specs.Calls.{Accepted, MarketCall}
 use Rattle.demands.specs.Requests.{entries_of, TextsDetermine}

@@ -57,7 +57,6 @@ use Rattle.step.specs.Calls.{Stepping, step}
 use Rattle.step.specs.Exports.{LeavesStep}
 use Rattle.step.specs.declared.steps.SteppedBasis.{SteppedBasis}
 use Rattle.csr.specs.declared.reader.RowRead.{RowRead}
-use Rattle.csr.specs.declared.reader.RowRead.TheVariants as RowRead
 use Rattle.expm.specs.Selects.{chosen}
 use Rattle.expm.specs.declared.Chosen.TheVariants as Chosen
 use Rattle.norm.specs.Norms as Norm
