@@ -29,7 +29,7 @@ examples: pebblelinen io
 TOOLCHAIN = """\
 #!/bin/sh
 kit=$(dirname "$0")
-echo "$*" >>"$kit/asked"
+echo "$*${RT_JOBS+, $RT_JOBS jobs}" >>"$kit/asked"
 case $1 in
 version) echo "a toolchain" ;;
 doc) echo "$kit/START-HERE.md" ;;
@@ -51,9 +51,10 @@ esac
 BUILD = """\
 #!/bin/sh
 kit=$(dirname "$(dirname "$0")")
-echo "$1 $3" >>"$kit/asked"
+asked="$1 $3"
 while [ $# -gt 2 ]; do
     case $1 in
+    --jobs) asked="$asked, $2 jobs" ;;
     --crate-name) crate=$2 ;;
     --extern)
         case $2 in
@@ -64,6 +65,7 @@ while [ $# -gt 2 ]; do
     esac
     shift
 done
+echo "$asked" >>"$kit/asked"
 ar x "$STATIC" "$crate.o"
 ar rcsD "$2" "$crate.o"
 """
@@ -144,7 +146,7 @@ class Case(unittest.TestCase):
         return (self.tree / "rt" / "asked").read_text().splitlines()
 
     def builds(self):
-        return self.asked().count("build pebblelinen_c")
+        return len([line for line in self.asked() if line.startswith("build pebblelinen_c")])
 
 
 class Libraries(Case):
@@ -176,13 +178,14 @@ class Libraries(Case):
         self.write("crates/word/src/lib.rt", "word")
         self.assertEqual(self.answered(path=self.bare()), "")
 
-    def test_changed_sources_are_built_once(self):
+    def test_changed_sources_are_built_once_on_all_cores(self):
         self.write("crates/word/src/lib.rt", "changed")
         self.assertIn("building the library with its proofs", self.answered())
+        cores = subprocess.run(["nproc"], capture_output=True, text=True).stdout.strip()
         # Proved are the crates below the exports, and nothing else.
         proved = self.asked()[-8:]
-        self.assertEqual(proved[:5], ["ci", "pebblelinen", "refusal", "step", "word"])
-        self.assertEqual(proved[5:], ["doc", "build pebblelinen_c", "build step_c"])
+        self.assertEqual(proved[:5], [f"ci, {cores} jobs", "pebblelinen", "refusal", "step", "word"])
+        self.assertEqual(proved[5:], ["doc", *(f"build {crate}, {cores} jobs" for crate in ("pebblelinen_c", "step_c"))])
         self.assertEqual(self.builds(), 2)
         self.assertEqual(self.answered(), "")
         self.assertEqual(self.builds(), 2)
