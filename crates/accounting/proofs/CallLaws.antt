@@ -16,7 +16,7 @@ use Rattle.model.specs.Terms.{Term}
 use Rattle.model.specs.Stored.{ModelTables}
 use Rattle.model.specs.declared.stored.Model.{Model}
 use Rattle.action.specs.Acts.{action_of}
-use Rattle.action.specs.declared.act.Acted.TheVariants.{Listed}
+use Rattle.std.specs.Prelude.{Ok}
 use Rattle.in_use.specs.InUse.{SameModel}
 use Rattle.in_use.proofs.SameModels.{same_back, same_action}
 use Rattle.passes.specs.Leaks.{words_of}
@@ -33,8 +33,8 @@ use Rattle.accounting.proofs.HomeLaws.{accounted_without_room, accounted}
 
 -- the generator is lent t and lanes, leakage t' and b: the same in the places in use
 module _ (m : Model) (t t' : ModelTables) (same : SameModel m t t') (lanes : List ℕ) (len : ℕ) (b : Leakage.Basis) (same-words : Lent.basis_of lanes len ≡ basis_words b)
-    (rows columns : List ℕ) (values : List Float) (g : Lent.Work) (n : ℕ) (generated : (generate rows columns values g m t lanes len).out.answer ≡ Listed n)
-    (outWords : List ℕ) (outValues : List Float) (w : Leakage.Work) (l : Limits) (k : ℕ) (leaked : (Leakage.leak outWords outValues w m t' b l).out.answer ≡ Listed k) where
+    (rows columns : List ℕ) (values : List Float) (g : Lent.Work) (n : ℕ) (generated : (generate rows columns values g m t lanes len).out.answer ≡ Ok n)
+    (outWords : List ℕ) (outValues : List Float) (w : Leakage.Work) (l : Limits) (k : ℕ) (leaked : (Leakage.leak outWords outValues w m t' b l).out.answer ≡ Ok k) where
   abbrev Has : ℕ → ℕ → Float → Type 0
   Has = Lists (generate rows columns values g m t lanes len).out
 

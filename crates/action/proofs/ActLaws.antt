@@ -13,8 +13,8 @@ use lib.Ieee.{Float}
 use lib.ListN.{length, replicate}
 use Rattle.refusal.specs.declared.Refusal.{Refusal}
 use Rattle.refusal.specs.declared.Refusal.TheVariants.{WordOutsideRegister, TableFull}
-use Rattle.refusal.specs.declared.Answer.{Answer}
-use Rattle.refusal.specs.declared.Answer.TheVariants as Tests
+use Rattle.std.specs.Prelude.{Option, Some, None, Ok, Err}
+use Rattle.refusal.specs.Cause.{Answer}
 use Rattle.word.specs.Flat.{word_lanes}
 use Rattle.word.specs.Register.{reaches}
 use Rattle.word.specs.declared.word.Word.{Word}
@@ -22,8 +22,6 @@ use Rattle.number.specs.Floats.{floats, float0}
 use Rattle.gksl.specs.Table.{put_all_over}
 use Rattle.gksl.specs.Words.{pauli}
 use Rattle.sums.specs.Sums.{sum_rows}
-use Rattle.sums.specs.declared.sums.Added.{Added}
-use Rattle.sums.specs.declared.sums.Added.TheVariants.{Held, Full}
 use Rattle.sums.proofs.SumLaws.{rising_empty, answer_held, answer_full}
 use Rattle.model.specs.Stored.{ModelTables}
 use Rattle.model.specs.Tested.{test_model}
@@ -31,7 +29,6 @@ use Rattle.model.specs.Terms.{Term}
 use Rattle.model.specs.declared.stored.Model.{Model}
 use Rattle.rule_terms.specs.Adds.{rules_stored}
 use Rattle.rule_terms.specs.Sums.{SumsRoom, PutsAll}
-use Rattle.action.specs.declared.act.Acted.TheVariants.{Listed, Refused}
 use Rattle.action.specs.Acts.{listed, sums_of, action_of, sum_places, list_places, Acting, tested, act}
 use Rattle.action.specs.Between.{Lists, ListRoom}
 
@@ -39,13 +36,13 @@ use Rattle.action.specs.Between.{Lists, ListRoom}
 pub empty_room : (room : ℕ) (words : List ℕ) (sums : List Float) → word_lanes * room ≤ length words → 2 * room ≤ length sums → SumsRoom room 0 words sums
 empty_room room words sums l k = record { lanes_long = l; sums_long = k; inside = omega arith; rises = rising_empty words sums }
 
-module _ (m : Model) (t : ModelTables) (p : Word) (room : ℕ) (words : List ℕ) (sums : List Float) (words' : List ℕ) (sums' : List Float) (r : Added)
+module _ (m : Model) (t : ModelTables) (p : Word) (room : ℕ) (words : List ℕ) (sums : List Float) (words' : List ℕ) (sums' : List Float) (r : Option ℕ)
     (g : PutsAll room 0 (rules_stored m t p) words sums words' sums' r) where
-  pub sums_full : r ≡ Full → room < length (sums_of m t p)
+  pub sums_full : r ≡ None → room < length (sums_of m t p)
   unfolding sums_of
   sums_full e = answer_full room (put_all_over floats pauli (rules_stored m t p) []) (sym e ∙ g.answers)
 
-  module _ (len : ℕ) (e : r ≡ Held len) where
+  module _ (len : ℕ) (e : r ≡ Some len) where
     pub sums_held : (len ≡ length (sums_of m t p)) × (length (sums_of m t p) ≤ room)
     unfolding sums_of
     sums_held = answer_held room len (put_all_over floats pauli (rules_stored m t p) []) (sym e ∙ g.answers)
@@ -72,28 +69,28 @@ module _ (outWords : List ℕ) (outValues : List Float) (workWords : List ℕ) (
   abbrev done : Acting
   done = act outWords outValues workWords workSums m t p
 
-  pub act_refused : (r : Refusal) → test_model m t ≡ Tests.Refused r
-      → record { answer = Refused r; out_words = outWords; out_values = outValues; work_words = workWords; work_sums = workSums } ≡ done
+  pub act_refused : (r : Refusal) → test_model m t ≡ Err r
+      → record { answer = Err r; out_words = outWords; out_values = outValues; work_words = workWords; work_sums = workSums } ≡ done
   unfolding act
   act_refused r e = rw e
 
-  module _ (ok : test_model m t ≡ Tests.Accepted) where
+  module _ (ok : test_model m t ≡ Ok tt) where
     pub act_outside : reaches p m.qubits ≡ true
-        → record { answer = Refused (WordOutsideRegister 0); out_words = outWords; out_values = outValues; work_words = workWords; work_sums = workSums } ≡ done
+        → record { answer = Err (WordOutsideRegister 0); out_words = outWords; out_values = outValues; work_words = workWords; work_sums = workSums } ≡ done
     unfolding act
     act_outside e = rw (ok, e)
 
     module _ (inside : reaches p m.qubits ≡ false) where
       pub act_full : (places : ℕ) (words : List ℕ) (sums : List Float) → places ≡ sum_places workWords workSums → places < length (sums_of m t p)
           → words ≡ replicate (length workWords) 0 → sums ≡ replicate (length workSums) float0
-          → record { answer = Refused (TableFull 1 places); out_words = outWords; out_values = outValues; work_words = words; work_sums = sums } ≡ done
+          → record { answer = Err (TableFull 1 places); out_words = outWords; out_values = outValues; work_words = words; work_sums = sums } ≡ done
       unfolding act
       act_full places words sums e h ew es = rw (ok, inside, sym e, lt-ltb places (length (sums_of m t p)) h, ew, es)
 
       module _ (fits : length (sums_of m t p) ≤ sum_places workWords workSums) where
         pub act_unlisted : (places : ℕ) (words : List ℕ) (sums : List Float) → places ≡ list_places outWords outValues → places < length (action_of m t p)
             → words ≡ replicate (length workWords) 0 → sums ≡ replicate (length workSums) float0
-            → record { answer = Refused (TableFull 3 places); out_words = outWords; out_values = outValues; work_words = words; work_sums = sums } ≡ done
+            → record { answer = Err (TableFull 3 places); out_words = outWords; out_values = outValues; work_words = words; work_sums = sums } ≡ done
         unfolding act
         act_unlisted places words sums e h ew es =
             rw (ok, inside, le-ltb (sum_places workWords workSums) (length (sums_of m t p)) fits, sym e, lt-ltb places (length (action_of m t p)) h, ew, es)
@@ -101,7 +98,7 @@ module _ (outWords : List ℕ) (outValues : List Float) (workWords : List ℕ) (
         pub act_listed : (count : ℕ) (words : List ℕ) (sums : List Float) (outWords' : List ℕ) (outValues' : List Float) (L : List Term) → L ≡ action_of m t p → count ≡ length L
             → count ≤ list_places outWords outValues → Lists L outWords outValues outWords' outValues'
             → words ≡ replicate (length workWords) 0 → sums ≡ replicate (length workSums) float0
-            → record { answer = Listed count; out_words = outWords'; out_values = outValues'; work_words = words; work_sums = sums } ≡ done
+            → record { answer = Ok count; out_words = outWords'; out_values = outValues'; work_words = words; work_sums = sums } ≡ done
         unfolding act
         act_listed count words sums outWords' outValues' L k e h l ew es =
             let n : length (action_of m t p) ≤ list_places outWords outValues = subst (λ (A : List Term). length A ≤ list_places outWords outValues) k (omega (arith, e)) in
@@ -119,8 +116,8 @@ by_cond false h k = k
 
 module _ (outWords : List ℕ) (outValues : List Float) (words words' : List ℕ) (sums sums' : List Float) where
   by_test : (a : Answer) {b b' : Acting} → Alike b b' → Alike (tested outWords outValues words sums a b) (tested outWords outValues words' sums' a b')
-  by_test Tests.Accepted h = h
-  by_test (Tests.Refused r) h = record { answers = refl; out_words = refl; out_values = refl }
+  by_test (Ok _) h = h
+  by_test (Err r) h = record { answers = refl; out_words = refl; out_values = refl }
 
   pub act_independent : length words ≡ length words' → length sums ≡ length sums' → (m : Model) (t : ModelTables) (p : Word)
       → Alike (act outWords outValues words sums m t p) (act outWords outValues words' sums' m t p)

@@ -13,7 +13,8 @@ use lib.ListN.{length, get_or, drop, replicate, drop_of_length-le}
 use lib.Seq.{drop-cons}
 use Rattle.refusal.specs.declared.Refusal.{Refusal}
 use Rattle.refusal.specs.declared.Refusal.TheVariants.{TableFull}
-use Rattle.refusal.specs.declared.Answer.TheVariants as Tests
+use Rattle.std.specs.Prelude.{Result, Ok, Err}
+use Rattle.action.specs.declared.count.Counted.{Counted}
 use Rattle.word.specs.Word.{identity}
 use Rattle.word.specs.Flat.{words}
 use Rattle.word.specs.declared.word.Word.{Word}
@@ -22,8 +23,6 @@ use Rattle.model.specs.Stored.{ModelTables}
 use Rattle.model.specs.declared.stored.Model.{Model}
 use Rattle.action.specs.Acts.{sum_places}
 use Rattle.action.specs.Counts.{most, touched_by, listed_by, most_places, words_tests, count_places}
-use Rattle.action.specs.declared.count.Counted.{Counted}
-use Rattle.action.specs.declared.count.Counted.TheVariants.{Places, Refused}
 
 -- ---- the largest so far, and what is left
 most_next : (f : Word → ℕ) (ps : List Word) (k : ℕ) (p : Word) → k < length ps → p ≡ get_or ps k identity → most f (drop k ps) ≡ max (f p) (most f (drop (k + 1) ps))
@@ -35,18 +34,14 @@ unfolding most
 most_none f ps k h = ap (most f) (drop_of_length-le ps h)
 
 pub record MostState (touch list : Word → ℕ) (ps : List Word) (room touched listed k : ℕ) : Type 0 where
-  pub high : k ≤ length ps
   pub touched_left : max touched (most touch (drop k ps)) ≡ most touch ps
   pub listed_left : max listed (most list (drop k ps)) ≡ most list ps
   pub fits : touched ≤ room
 
 module _ (touch list : Word → ℕ) (ps : List Word) (room : ℕ) where
-  pub most_start : MostState touch list ps room 0 0 0
-  most_start = record { high = omega arith; touched_left = omega arith; listed_left = omega arith; fits = omega arith }
-
   module _ (touched listed k : ℕ) (s : MostState touch list ps room touched listed k) where
     module _ (p : Word) (h : k < length ps) (e : p ≡ get_or ps k identity) where
-      pub most_full : room < touch p → Refused (TableFull 1 room) ≡ most_places room touch list ps
+      pub most_full : room < touch p → Err (TableFull 1 room) ≡ most_places room touch list ps
       unfolding most_places
       most_full l = let n = most_next touch ps k p h e in rw (lt-ltb room (most touch ps) (omega (arith, n, s.touched_left)))
 
@@ -54,9 +49,9 @@ module _ (touch list : Word → ℕ) (ps : List Word) (room : ℕ) where
       most_more t l et el f =
           let n = most_next touch ps k p h e in
           let o = most_next list ps k p h e in
-          record { high = omega arith; touched_left = omega (arith, n, et, s.touched_left); listed_left = omega (arith, o, el, s.listed_left); fits = omega (arith, et, s.fits) }
+          record { touched_left = omega (arith, n, et, s.touched_left); listed_left = omega (arith, o, el, s.listed_left); fits = omega (arith, et, s.fits) }
 
-    pub most_done : length ps ≤ k → Places touched listed ≡ most_places room touch list ps
+    pub most_done : length ps ≤ k → Ok (record { touched = touched; listed = listed }) ≡ most_places room touch list ps
     unfolding most_places
     most_done h =
         let n = most_none touch ps k h in
@@ -69,13 +64,13 @@ module _ (touch list : Word → ℕ) (ps : List Word) (room : ℕ) where
 
 -- ---- the answers
 module _ (hIndex jIndex mask workWords : List ℕ) (workSums : List Float) (m : Model) (t : ModelTables) (lanes : List ℕ) where
-  pub count_refused : (r : Refusal) → words_tests m t lanes (length hIndex) (length jIndex) (length mask) ≡ Tests.Refused r
-      → record { answer = Refused r; h_index = hIndex; j_index = jIndex; mask = mask; work_words = workWords; work_sums = workSums } ≡ count_places hIndex jIndex mask workWords workSums m t lanes
+  pub count_refused : (r : Refusal) → words_tests m t lanes (length hIndex) (length jIndex) (length mask) ≡ Err r
+      → record { answer = Err r; h_index = hIndex; j_index = jIndex; mask = mask; work_words = workWords; work_sums = workSums } ≡ count_places hIndex jIndex mask workWords workSums m t lanes
   unfolding count_places
   count_refused r e = rw e
 
-  pub count_answered : words_tests m t lanes (length hIndex) (length jIndex) (length mask) ≡ Tests.Accepted
-      → (r : Counted) (hIndex' jIndex' mask' workWords' : List ℕ) (workSums' : List Float) (room : ℕ) → room ≡ sum_places workWords workSums
+  pub count_answered : words_tests m t lanes (length hIndex) (length jIndex) (length mask) ≡ Ok tt
+      → (r : Result Counted Refusal) (hIndex' jIndex' mask' workWords' : List ℕ) (workSums' : List Float) (room : ℕ) → room ≡ sum_places workWords workSums
       → r ≡ most_places room (touched_by m t) (listed_by m t) (words lanes)
       → hIndex' ≡ replicate (length hIndex) 0 → jIndex' ≡ replicate (length jIndex) 0 → mask' ≡ replicate (length mask) 0
       → workWords' ≡ replicate (length workWords) 0 → workSums' ≡ replicate (length workSums) float0

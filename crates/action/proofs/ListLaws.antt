@@ -2,7 +2,7 @@
 -- SPDX-License-Identifier: Apache-2.0
 
 -- The sums that are listed, one by one: what is left to list after the first of them. Assumes nothing.
-use mathlib.Core.Path.{◌≡◌, refl, sym, ap, ◌∙◌, subst}
+use mathlib.Core.Path.{◌≡◌, sym, ap, ◌∙◌, subst}
 use mathlib.Core.Bool.{Bool, true, false, cond}
 use mathlib.Core.List.{List, [], ◌∷◌, map}
 use Prim.Native.Nat.{ℕ, suc, ◌+◌, ◌*◌, ◌≤◌, ◌<◌}
@@ -60,17 +60,16 @@ module _ (len : ℕ) (lanes : List ℕ) (sums : List Float) (hl : word_lanes * l
 
 -- ---- counting them
 pub record CountState (len : ℕ) (lanes : List ℕ) (sums : List Float) (count i : ℕ) : Type 0 where
-  pub high : i ≤ len
   pub few : count ≤ i
   pub counted : count + length (left len lanes sums i) ≡ length (listed (sum_rows len lanes sums))
 
 module _ (len : ℕ) (lanes : List ℕ) (sums : List Float) (hl : word_lanes * len ≤ length lanes) (hs : 2 * len ≤ length sums) (count i : ℕ) (s : CountState len lanes sums count i) where
   module _ (h : i < len) (t : Term) (e : t ≡ term_at lanes sums i) where
     pub count_passes : floats.is_zero t.num.re ≡ true → CountState len lanes sums count (i + 1)
-    count_passes f = record { high = omega arith; few = omega (arith, s.few); counted = subst (λ (L : List Term). count + length L ≡ length (listed (sum_rows len lanes sums))) (left_passed len lanes sums hl hs i h t e f) s.counted }
+    count_passes f = record { few = omega (arith, s.few); counted = subst (λ (L : List Term). count + length L ≡ length (listed (sum_rows len lanes sums))) (left_passed len lanes sums hl hs i h t e f) s.counted }
 
     pub count_lists : floats.is_zero t.num.re ≡ false → CountState len lanes sums (count + 1) (i + 1)
-    count_lists f = let k = ap length (left_listed len lanes sums hl hs i h t e f) in record { high = omega arith; few = omega (arith, s.few); counted = omega (arith, s.counted, k) }
+    count_lists f = let k = ap length (left_listed len lanes sums hl hs i h t e f) in record { few = omega (arith, s.few); counted = omega (arith, s.counted, k) }
 
   pub count_done : len ≤ i → count ≡ length (listed (sum_rows len lanes sums))
   unfolding without_over
@@ -90,9 +89,6 @@ module _ (len : ℕ) (lanes : List ℕ) (sums : List Float) (outWords₀ : List 
 
   abbrev State : List ℕ → List Float → ℕ → ℕ → Type 0
   State = ListState len lanes sums outWords₀ outValues₀
-
-  pub list_start : State outWords₀ outValues₀ 0 0
-  list_start = record { words_same = refl; values_same = refl; count = omega arith; words_left = refl; values_left = refl }
 
   module _ (outWords : List ℕ) (outValues : List Float) (place i : ℕ) (s : State outWords outValues place i) where
     module _ (h : i < len) (t : Term) (e : t ≡ term_at lanes sums i) where

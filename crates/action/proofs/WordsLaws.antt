@@ -12,8 +12,8 @@ use lib.Dec.{eqb, ltb}
 use lib.ListN.{length}
 use Rattle.refusal.specs.declared.Refusal.{Refusal}
 use Rattle.refusal.specs.declared.Refusal.TheVariants.{CountAboveLimit, LengthMismatch, WordOutsideRegister}
-use Rattle.refusal.specs.declared.Answer.{Answer}
-use Rattle.refusal.specs.declared.Answer.TheVariants.{Accepted, Refused}
+use Rattle.std.specs.Prelude.{Ok, Err}
+use Rattle.refusal.specs.Cause.{Answer}
 use Rattle.word.specs.Flat.{word_lanes}
 use Rattle.model.specs.Stored.{ModelTables}
 use Rattle.model.specs.Tested.{test_model}
@@ -33,57 +33,57 @@ module _ (m : Model) (t : ModelTables) (lanes : List ℕ) (h j k : ℕ) where
   abbrev words : ℕ
   words = length lanes / word_lanes
 
-  pub model_refused : (r : Refusal) → test_model m t ≡ Refused r → Refused r ≡ tests
+  pub model_refused : (r : Refusal) → test_model m t ≡ Err r → Err r ≡ tests
   unfolding words_tests
   model_refused r e = rw e
 
-  module _ (ok : test_model m t ≡ Accepted) where
-    pub words_many : max_words < words → Refused (CountAboveLimit words) ≡ tests
+  module _ (ok : test_model m t ≡ Ok tt) where
+    pub words_many : max_words < words → Err (CountAboveLimit words) ≡ tests
     unfolding words_tests
     words_many l = rw (ok, lt-ltb max_words words l)
 
     module _ (few : words ≤ max_words) where
-      pub lanes_over : eqb (length lanes) (words * word_lanes) ≡ false → Refused (LengthMismatch (words * word_lanes) (length lanes)) ≡ tests
+      pub lanes_over : eqb (length lanes) (words * word_lanes) ≡ false → Err (LengthMismatch (words * word_lanes) (length lanes)) ≡ tests
       unfolding words_tests
       lanes_over e = rw (ok, le-ltb max_words words few, e)
 
       module _ (four : eqb (length lanes) (words * word_lanes) ≡ true) {rows row : ℕ} (rows_are : rows ≡ where_any words (row_lanes * m.qubits)) (row_is : row ≡ where_any words row_lanes) where
-        pub h_index_short : h < rows → Refused (LengthMismatch rows h) ≡ tests
+        pub h_index_short : h < rows → Err (LengthMismatch rows h) ≡ tests
         unfolding words_tests
         h_index_short l = rw (ok, le-ltb max_words words few, four, ← rows_are, lt-ltb h rows l)
 
         module _ (h-long : rows ≤ h) where
-          pub j_index_short : j < rows → Refused (LengthMismatch rows j) ≡ tests
+          pub j_index_short : j < rows → Err (LengthMismatch rows j) ≡ tests
           unfolding words_tests
           j_index_short l = rw (ok, le-ltb max_words words few, four, ← rows_are, le-ltb h rows h-long, lt-ltb j rows l)
 
           module _ (j-long : rows ≤ j) where
-            pub mask_short : k < row → Refused (LengthMismatch row k) ≡ tests
+            pub mask_short : k < row → Err (LengthMismatch row k) ≡ tests
             unfolding words_tests
             mask_short l = rw (ok, le-ltb max_words words few, four, ← rows_are, le-ltb h rows h-long, le-ltb j rows j-long, ← row_is, lt-ltb k row l)
 
             module _ (mask-long : row ≤ k) (first : ℕ) (is : first ≡ first_to words (outside_at lanes m.qubits)) where
-              reached : inside_to words lanes m.qubits Accepted ≡ tests
+              reached : inside_to words lanes m.qubits (Ok tt) ≡ tests
               unfolding words_tests
               reached = rw (ok, le-ltb max_words words few, four, ← rows_are, le-ltb h rows h-long, le-ltb j rows j-long, ← row_is, le-ltb k row mask-long)
 
-              pub word_outside : first < words → Refused (WordOutsideRegister first) ≡ tests
+              pub word_outside : first < words → Err (WordOutsideRegister first) ≡ tests
               unfolding inside_to
               word_outside l = (rw (sym is, lt-ltb first words l)) ∙ reached
 
-              pub words_accepted : words ≤ first → Accepted ≡ tests
+              pub words_accepted : words ≤ first → (Ok tt) ≡ tests
               unfolding inside_to
               words_accepted l = (rw (sym is, le-ltb first words l)) ∙ reached
 
 -- ---- what is known where all tests are passed
 pub record Passed (m : Model) (t : ModelTables) (lanes : List ℕ) (h j k : ℕ) : Type 0 where
-  pub model : test_model m t ≡ Accepted
+  pub model : test_model m t ≡ Ok tt
   pub h_long : 0 < length lanes / word_lanes → row_lanes * m.qubits ≤ h
   pub j_long : 0 < length lanes / word_lanes → row_lanes * m.qubits ≤ j
   pub mask_long : 0 < length lanes / word_lanes → row_lanes ≤ k
   pub inside : AllInside lanes m.qubits
 
-pub words_passed : (m : Model) (t : ModelTables) (lanes : List ℕ) (h j k : ℕ) → words_tests m t lanes h j k ≡ Accepted → Passed m t lanes h j k
+pub words_passed : (m : Model) (t : ModelTables) (lanes : List ℕ) (h j k : ℕ) → words_tests m t lanes h j k ≡ Ok tt → Passed m t lanes h j k
 unfolding words_tests inside_to
 words_passed m t lanes h j k e =
     let words : ℕ = length lanes / word_lanes in

@@ -2,11 +2,10 @@
 -- SPDX-License-Identifier: Apache-2.0
 
 -- The action of a lent model on a word: the model's refusals, 11, 13; what is listed, and every lent table afterwards.
-use Rattle.std.specs.Prelude.{ℕ, ◌/◌, min, cond, List, [], map, ltb, Float, length, set, replicate}
+use Rattle.std.specs.Prelude.{ℕ, ◌/◌, min, cond, List, [], map, ltb, Float, length, set, replicate, Result, Ok, Err}
 use Rattle.refusal.specs.declared.Refusal.{Refusal}
 use Rattle.refusal.specs.declared.Refusal.TheVariants.{WordOutsideRegister, TableFull}
-use Rattle.refusal.specs.declared.Answer.{Answer}
-use Rattle.refusal.specs.declared.Answer.TheVariants as Tests
+use Rattle.refusal.specs.Cause.{Answer}
 use Rattle.word.specs.Flat.{lay_word, word_lanes}
 use Rattle.word.specs.Register.{reaches}
 use Rattle.word.specs.declared.word.Word.{Word}
@@ -19,8 +18,6 @@ use Rattle.model.specs.Terms.{Term}
 use Rattle.lent.specs.Laid.{laid}
 use Rattle.model.specs.declared.stored.Model.{Model}
 use Rattle.rule_terms.specs.Adds.{rules_stored}
-use Rattle.action.specs.declared.act.Acted.{Acted}
-use Rattle.action.specs.declared.act.Acted.TheVariants.{Listed, Refused}
 
 -- every sum starts at 0; zero sums are among them
 unfoldable pub sums_of : Model → ModelTables → Word → List Term
@@ -43,7 +40,7 @@ list_places words values = min (length words / word_lanes) (length values)
 
 -- ---- what the call answers, and the lent tables afterwards
 pub record Acting : Type 0 where
-  pub answer : Acted
+  pub answer : Result ℕ Refusal
   pub out_words : List ℕ
   pub out_values : List Float
   pub work_words : List ℕ
@@ -52,16 +49,16 @@ pub record Acting : Type 0 where
 module _ (outWords : List ℕ) (outValues : List Float) (workWords : List ℕ) (workSums : List Float) where
   -- a refusal changes nothing
   abbrev pub refusal : Refusal → Acting
-  refusal r = record { answer = Refused r; out_words = outWords; out_values = outValues; work_words = workWords; work_sums = workSums }
+  refusal r = record { answer = Err r; out_words = outWords; out_values = outValues; work_words = workWords; work_sums = workSums }
 
   -- work tables are zero after acceptance and 13
   abbrev pub full : ℕ → ℕ → Acting
   full table places =
-      record { answer = Refused (TableFull table places); out_words = outWords; out_values = outValues; work_words = replicate (length workWords) 0; work_sums = replicate (length workSums) float0 }
+      record { answer = Err (TableFull table places); out_words = outWords; out_values = outValues; work_words = replicate (length workWords) 0; work_sums = replicate (length workSums) float0 }
 
   abbrev pub listing : List Term → Acting
   listing L = record {
-    answer = Listed (length L);
+    answer = Ok (length L);
     out_words = laid lay_word 0 (map (λ c. c.word) L) outWords;
     out_values = laid set 0 (map (λ c. c.num.re) L) outValues;
     work_words = replicate (length workWords) 0;
@@ -69,8 +66,8 @@ module _ (outWords : List ℕ) (outValues : List Float) (workWords : List ℕ) (
   }
 
   abbrev pub tested : Answer → Acting → Acting
-  tested Tests.Accepted after = after
-  tested (Tests.Refused r) after = refusal r
+  tested (Ok _) after = after
+  tested (Err r) after = refusal r
 
   unfoldable pub act : Model → ModelTables → Word → Acting
   act m t p =

@@ -3,11 +3,11 @@
 
 -- How many places the actions of a lent model on many words need: the model's refusals, 8, 9, 11, 13; the answer, and every lent
 -- table afterwards.
-use Rattle.std.specs.Prelude.{ℕ, ◌*◌, ◌/◌, max, cond, List, [], ◌∷◌, ltb, Float, length, replicate}
+use Rattle.std.specs.Prelude.{ℕ, ◌*◌, ◌/◌, max, cond, List, [], ◌∷◌, ltb, Float, length, replicate, Result, Ok, Err}
 use Rattle.refusal.specs.declared.Refusal.{Refusal}
 use Rattle.refusal.specs.declared.Refusal.TheVariants.{TableFull}
-use Rattle.refusal.specs.declared.Answer.{Answer}
-use Rattle.refusal.specs.declared.Answer.TheVariants as Tests
+use Rattle.action.specs.declared.count.Counted.{Counted}
+use Rattle.refusal.specs.Cause.{Answer}
 use Rattle.word.specs.Flat.{words, word_lanes}
 use Rattle.word.specs.declared.word.Word.{Word}
 use Rattle.number.specs.Floats.{float0}
@@ -17,8 +17,6 @@ use Rattle.model.specs.Tested.{test_model}
 use Rattle.lent.specs.Tests.{counted, lent, where_any, and_then, equal, in_turn}
 use Rattle.model.specs.declared.stored.Model.{Model}
 use Rattle.action.specs.Acts.{sums_of, action_of, sum_places}
-use Rattle.action.specs.declared.count.Counted.{Counted}
-use Rattle.action.specs.declared.count.Counted.TheVariants.{Places, Refused}
 
 -- the largest of a number for each word
 unfoldable pub most : (Word → ℕ) → List Word → ℕ
@@ -33,8 +31,8 @@ abbrev pub listed_by : Model → ModelTables → Word → ℕ
 listed_by m t p = length (action_of m t p)
 
 -- 13 where one action touches more words than there is room for
-unfoldable pub most_places : ℕ → (Word → ℕ) → (Word → ℕ) → List Word → Counted
-most_places room touched listed ps = cond (ltb room (most touched ps)) (Refused (TableFull 1 room)) (Places (most touched ps) (most listed ps))
+unfoldable pub most_places : ℕ → (Word → ℕ) → (Word → ℕ) → List Word → Result Counted Refusal
+most_places room touched listed ps = cond (ltb room (most touched ps)) (Err (TableFull 1 room)) (Ok (record { touched = most touched ps; listed = most listed ps }))
 
 -- the lanes of an index for each qubit, and of a mask
 abbrev pub row_lanes : ℕ
@@ -51,11 +49,11 @@ words_tests m t lanes hIndex jIndex mask =
     ∷ lent (where_any (length lanes / word_lanes) (row_lanes * m.qubits)) jIndex
     ∷ lent (where_any (length lanes / word_lanes) row_lanes) mask
     ∷ inside_to (length lanes / word_lanes) lanes m.qubits
-    ∷ []) Tests.Accepted
+    ∷ []) (Ok tt)
 
 -- ---- what the call answers, and the lent tables afterwards
 pub record Counting : Type 0 where
-  pub answer : Counted
+  pub answer : Result Counted Refusal
   pub h_index : List ℕ
   pub j_index : List ℕ
   pub mask : List ℕ
@@ -65,10 +63,10 @@ pub record Counting : Type 0 where
 module _ (hIndex jIndex mask workWords : List ℕ) (workSums : List Float) where
   -- a refusal changes nothing
   abbrev pub unchanged : Refusal → Counting
-  unchanged r = record { answer = Refused r; h_index = hIndex; j_index = jIndex; mask = mask; work_words = workWords; work_sums = workSums }
+  unchanged r = record { answer = Err r; h_index = hIndex; j_index = jIndex; mask = mask; work_words = workWords; work_sums = workSums }
 
   -- work tables are zero after acceptance and 13
-  abbrev pub zeroed : Counted → Counting
+  abbrev pub zeroed : Result Counted Refusal → Counting
   zeroed r = record {
     answer = r;
     h_index = replicate (length hIndex) 0;
@@ -79,8 +77,8 @@ module _ (hIndex jIndex mask workWords : List ℕ) (workSums : List Float) where
   }
 
   abbrev pub tested_words : Answer → Counting → Counting
-  tested_words Tests.Accepted after = after
-  tested_words (Tests.Refused r) after = unchanged r
+  tested_words (Ok _) after = after
+  tested_words (Err r) after = unchanged r
 
   unfoldable pub count_places : Model → ModelTables → List ℕ → Counting
   count_places m t lanes =

@@ -4,7 +4,6 @@
 // The action of a lent model on a word: the model is tested, its rules are put to a table of sums, and
 // the words whose real part is not 0 are listed.
 ghost use Rattle.std.specs.Prelude.{◌≡◌};
-ghost use Rattle.refusal.specs.declared.Answer.TheVariants.{Accepted};
 ghost use Rattle.model.specs.Between.{model_tables};
 ghost use Rattle.model.specs.Tested.{test_model};
 ghost use Rattle.action.specs.Acts.{act};
@@ -14,18 +13,10 @@ use lent::clear::{clear_lanes, clear_numbers};
 use lent::sizes::{LIST_TABLE, SUMS_TABLE, smaller};
 use model::stored::Model;
 use model::test::test_model;
-use refusal::{Answer, Refusal};
+use refusal::Refusal;
 use rules_by_scan::rules::put_rules;
-use sums::sums::Added;
 use word::flat::WORD_LANES;
 use word::word::{Word, reaches_beyond};
-
-// How many words are listed.
-#[derive(Clone, Copy)]
-pub enum Acted {
-    Listed(usize),
-    Refused(Refusal),
-}
 
 // The same of a model that passed its test.
 fn act_tested(
@@ -41,22 +32,21 @@ fn act_tested(
     work_sums: &mut [f64],
     out_words: &mut [u64],
     out_values: &mut [f64],
-) -> Acted
-    requires { test_model m (model_tables h_words.now h_coeffs.now jumps.now rates.now t_words.now t_numbers.now) ≡ Accepted }
+) -> Result<usize, Refusal>
+    requires { test_model m (model_tables h_words.now h_coeffs.now jumps.now rates.now t_words.now t_numbers.now) ≡ Ok tt }
     ensures { record { answer = result; out_words = out_words.new; out_values = out_values.new; work_words = work_words.new; work_sums = work_sums.new } ≡ act out_words.old out_values.old work_words.old work_sums.old m (model_tables h_words.now h_coeffs.now jumps.now rates.now t_words.now t_numbers.now) p }
 {
     let n = m.qubits;
     if reaches_beyond(p, n) {
-        return Acted::Refused(Refusal::WordOutsideRegister { position: 0 });
+        return Err(Refusal::WordOutsideRegister { position: 0 });
     }
     let room = smaller(work_words.len() / WORD_LANES, work_sums.len() / 2);
-    let added = put_rules(
+    let Some(len) = put_rules(
         work_words, work_sums, room, m, h_words, h_coeffs, jumps, rates, t_words, t_numbers, p,
-    );
-    let Added::Held(len) = added else {
+    ) else {
         clear_lanes(work_words);
         clear_numbers(work_sums);
-        return Acted::Refused(Refusal::TableFull {
+        return Err(Refusal::TableFull {
             table: SUMS_TABLE,
             places: room,
         });
@@ -66,7 +56,7 @@ fn act_tested(
     if places < count {
         clear_lanes(work_words);
         clear_numbers(work_sums);
-        return Acted::Refused(Refusal::TableFull {
+        return Err(Refusal::TableFull {
             table: LIST_TABLE,
             places,
         });
@@ -74,7 +64,7 @@ fn act_tested(
     list_sums(work_words, work_sums, len, out_words, out_values);
     clear_lanes(work_words);
     clear_numbers(work_sums);
-    Acted::Listed(count)
+    Ok(count)
 }
 
 pub fn compute_action_terms(
@@ -90,15 +80,12 @@ pub fn compute_action_terms(
     work_sums: &mut [f64],
     out_words: &mut [u64],
     out_values: &mut [f64],
-) -> Acted
+) -> Result<usize, Refusal>
     ensures { record { answer = result; out_words = out_words.new; out_values = out_values.new; work_words = work_words.new; work_sums = work_sums.new } ≡ act out_words.old out_values.old work_words.old work_sums.old m (model_tables h_words.now h_coeffs.now jumps.now rates.now t_words.now t_numbers.now) p }
 {
-    let answer = test_model(m, h_words, h_coeffs, jumps, rates, t_words, t_numbers);
-    let Answer::Refused(refusal) = answer else {
-        return act_tested(
-            m, h_words, h_coeffs, jumps, rates, t_words, t_numbers, p, work_words, work_sums,
-            out_words, out_values,
-        );
-    };
-    Acted::Refused(refusal)
+    test_model(m, h_words, h_coeffs, jumps, rates, t_words, t_numbers)?;
+    act_tested(
+        m, h_words, h_coeffs, jumps, rates, t_words, t_numbers, p, work_words, work_sums,
+        out_words, out_values,
+    )
 }

@@ -4,7 +4,6 @@
 // How many places the actions of a lent model on many words need. The model is tested once and its index
 // built once; each action then visits only the items that share a qubit with its word.
 ghost use Rattle.std.specs.Prelude.{◌≡◌, ◌*◌, ◌/◌, ◌≤◌, ◌<◌, length};
-ghost use Rattle.refusal.specs.declared.Answer.TheVariants.{Accepted};
 ghost use Rattle.word.specs.Flat.{words, word_lanes};
 ghost use Rattle.model.specs.Between.{model_tables};
 ghost use Rattle.lent.specs.Between.{AllInside};
@@ -17,17 +16,16 @@ use crate::words::check_words;
 use lent::clear::{clear_lanes, clear_numbers};
 use lent::sizes::{SUMS_TABLE, larger, smaller};
 use model::stored::Model;
-use refusal::{Answer, Refusal};
+use refusal::Refusal;
 use rules_by_index::indexed::index_model;
 use rules_by_index::near::put_rules_near;
-use sums::sums::Added;
 use word::flat::{WORD_LANES, word_at};
 
 // The most words that one action touches, and the most that one lists.
-#[derive(Drop)]
-pub enum Counted {
-    Places { touched: usize, listed: usize },
-    Refused(Refusal),
+#[derive(Clone, Copy)]
+pub struct Counted {
+    pub touched: usize,
+    pub listed: usize,
 }
 
 // The same of a model that passed its test, with its index where there is a word, and a table of sums of
@@ -47,22 +45,20 @@ fn most_places(
     work_words: &mut [u64],
     work_sums: &mut [f64],
     room: usize,
-) -> Counted
-    requires { (test_model m (model_tables h_words.now h_coeffs.now jumps.now rates.now t_words.now t_numbers.now) ≡ Accepted) × (0 < length list.now / word_lanes → ModelIndexed m (model_tables h_words.now h_coeffs.now jumps.now rates.now t_words.now t_numbers.now) h_index.now j_index.now × (64 * m.qubits ≤ length h_index.now) × (64 * m.qubits ≤ length j_index.now) × (64 ≤ length mask.old)) × (word_lanes * room ≤ length work_words.old) × (2 * room ≤ length work_sums.old) × AllInside list.now m.qubits }
+) -> Result<Counted, Refusal>
+    requires { (test_model m (model_tables h_words.now h_coeffs.now jumps.now rates.now t_words.now t_numbers.now) ≡ (Ok tt)) × (0 < length list.now / word_lanes → ModelIndexed m (model_tables h_words.now h_coeffs.now jumps.now rates.now t_words.now t_numbers.now) h_index.now j_index.now × (64 * m.qubits ≤ length h_index.now) × (64 * m.qubits ≤ length j_index.now) × (64 ≤ length mask.old)) × (word_lanes * room ≤ length work_words.old) × (2 * room ≤ length work_sums.old) × AllInside list.now m.qubits }
     ensures { result ≡ most_places room (touched_by m (model_tables h_words.now h_coeffs.now jumps.now rates.now t_words.now t_numbers.now)) (listed_by m (model_tables h_words.now h_coeffs.now jumps.now rates.now t_words.now t_numbers.now)) (words list.now) }
 {
     let count = list.len() / WORD_LANES;
     let mut touched = 0;
     let mut listed = 0;
-    let mut k = 0;
-    while k < count {
+    for k in 0..count {
         let p = word_at(list, k);
-        let added = put_rules_near(
+        let Some(len) = put_rules_near(
             work_words, work_sums, room, m, h_words, h_coeffs, jumps, rates, t_words, t_numbers,
             h_index, j_index, mask, p,
-        );
-        let Added::Held(len) = added else {
-            return Counted::Refused(Refusal::TableFull {
+        ) else {
+            return Err(Refusal::TableFull {
                 table: SUMS_TABLE,
                 places: room,
             });
@@ -70,9 +66,8 @@ fn most_places(
         let entries = count_listed(work_words, work_sums, len);
         touched = larger(touched, len);
         listed = larger(listed, entries);
-        k += 1;
     }
-    Counted::Places { touched, listed }
+    Ok(Counted { touched, listed })
 }
 
 // The same with the index built, and the work tables zero afterwards.
@@ -90,8 +85,8 @@ fn count_tested(
     mask: &mut [u64],
     work_words: &mut [u64],
     work_sums: &mut [f64],
-) -> Counted
-    requires { words_tests m (model_tables h_words.now h_coeffs.now jumps.now rates.now t_words.now t_numbers.now) list.now (length h_index.old) (length j_index.old) (length mask.old) ≡ Accepted }
+) -> Result<Counted, Refusal>
+    requires { words_tests m (model_tables h_words.now h_coeffs.now jumps.now rates.now t_words.now t_numbers.now) list.now (length h_index.old) (length j_index.old) (length mask.old) ≡ Ok tt }
     ensures { record { answer = result; h_index = h_index.new; j_index = j_index.new; mask = mask.new; work_words = work_words.new; work_sums = work_sums.new } ≡ count_places h_index.old j_index.old mask.old work_words.old work_sums.old m (model_tables h_words.now h_coeffs.now jumps.now rates.now t_words.now t_numbers.now) list.now }
 {
     let count = list.len() / WORD_LANES;
@@ -123,10 +118,10 @@ pub fn count_action_terms(
     mask: &mut [u64],
     work_words: &mut [u64],
     work_sums: &mut [f64],
-) -> Counted
+) -> Result<Counted, Refusal>
     ensures { record { answer = result; h_index = h_index.new; j_index = j_index.new; mask = mask.new; work_words = work_words.new; work_sums = work_sums.new } ≡ count_places h_index.old j_index.old mask.old work_words.old work_sums.old m (model_tables h_words.now h_coeffs.now jumps.now rates.now t_words.now t_numbers.now) list.now }
 {
-    let answer = check_words(
+    check_words(
         m,
         h_words,
         h_coeffs,
@@ -138,12 +133,9 @@ pub fn count_action_terms(
         h_index.len(),
         j_index.len(),
         mask.len(),
-    );
-    let Answer::Refused(refusal) = answer else {
-        return count_tested(
-            m, h_words, h_coeffs, jumps, rates, t_words, t_numbers, list, h_index, j_index, mask,
-            work_words, work_sums,
-        );
-    };
-    Counted::Refused(refusal)
+    )?;
+    count_tested(
+        m, h_words, h_coeffs, jumps, rates, t_words, t_numbers, list, h_index, j_index, mask,
+        work_words, work_sums,
+    )
 }

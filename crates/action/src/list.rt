@@ -18,14 +18,10 @@ pub fn count_listed(words: &[u64], sums: &[f64], len: usize) -> usize
     ensures { result ≡ length (listed (sum_rows len words.now sums.now)) }
 {
     let mut count = 0;
-    let mut i = 0;
-    while i < len {
+    for i in 0..len {
         let t = term_at(words, sums, i);
-        if is_zero(t.number.re) {
-            i += 1;
-        } else {
+        if !is_zero(t.number.re) {
             count += 1;
-            i += 1;
         }
     }
     count
@@ -43,18 +39,15 @@ pub fn list_sums(
     ensures { Lists (listed (sum_rows len words.now sums.now)) out_words.old out_values.old out_words.new out_values.new }
 {
     let mut place = 0;
-    let mut i = 0;
-    while i < len {
+    for i in 0..len {
         let t = term_at(words, sums, i);
         let x = t.number.re;
         if is_zero(x) {
-            i += 1;
-        } else {
-            let w = t.word;
-            set_word(out_words, place, w);
-            out_values[place] = x;
-            place += 1;
-            i += 1;
+            continue;
         }
+        let w = t.word;
+        set_word(out_words, place, w);
+        out_values[place] = x;
+        place += 1;
     }
 }

@@ -10,7 +10,7 @@ use lent::tests::{mismatch, where_any};
 use lent::words::{MAX_WORDS, first_outside};
 use model::stored::Model;
 use model::test::test_model;
-use refusal::{Answer, Refusal};
+use refusal::Refusal;
 use word::flat::WORD_LANES;
 
 // The lanes of an index for each qubit, and of a mask.
@@ -28,16 +28,13 @@ pub fn check_words(
     h_index: usize,
     j_index: usize,
     mask: usize,
-) -> Answer
+) -> Result<(), Refusal>
     ensures { result ≡ words_tests m (model_tables h_words.now h_coeffs.now jumps.now rates.now t_words.now t_numbers.now) words.now h_index j_index mask }
 {
-    let model = test_model(m, h_words, h_coeffs, jumps, rates, t_words, t_numbers);
-    let Answer::Accepted = model else {
-        return model;
-    };
+    test_model(m, h_words, h_coeffs, jumps, rates, t_words, t_numbers)?;
     let count = words.len() / WORD_LANES;
     if MAX_WORDS < count {
-        return Answer::Refused(Refusal::CountAboveLimit { count });
+        return Err(Refusal::CountAboveLimit { count });
     }
     if words.len() != count * WORD_LANES {
         return mismatch(count * WORD_LANES, words.len());
@@ -56,7 +53,7 @@ pub fn check_words(
     let n = m.qubits;
     let first = first_outside(words, count, n);
     if first < count {
-        return Answer::Refused(Refusal::WordOutsideRegister { position: first });
+        return Err(Refusal::WordOutsideRegister { position: first });
     }
-    Answer::Accepted
+    Ok(())
 }

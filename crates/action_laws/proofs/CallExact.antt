@@ -12,10 +12,10 @@ use borrow.Author.Tests.{ltb-false}
 use lib.Dec.{ltb}
 use lib.Ieee.{Float}
 use lib.ListN.{length, take, set, length-map}
-use Rattle.refusal.specs.declared.Refusal.{Refusal}
 use Rattle.refusal.specs.declared.Refusal.TheVariants.{WordOutsideRegister}
-use Rattle.refusal.specs.declared.Answer.{Answer}
-use Rattle.refusal.specs.declared.Answer.TheVariants as Tests
+use Rattle.std.specs.Prelude.{Ok, Err}
+use Rattle.refusal.specs.Cause.{Answer}
+use Rattle.refusal.proofs.Told.{refused_not}
 use Rattle.word.specs.Order.{same}
 use Rattle.word.specs.Register.{reaches}
 use Rattle.word.specs.Word.{Sound}
@@ -38,7 +38,6 @@ use Rattle.model.specs.declared.stored.Model.{Model}
 use Rattle.lent.specs.Every.{Every}
 use Rattle.lent.proofs.Lists.{every_map}
 use Rattle.action.specs.Acts.{sums_of, action_of, sum_places, list_places, Acting, refusal, full, listing, tested, act}
-use Rattle.action.specs.declared.act.Acted.TheVariants.{Listed, Refused}
 use Rattle.action_laws.specs.Made.{Made}
 use Rattle.action_laws.specs.WholeModel.{WholeModel}
 use Rattle.action_laws.specs.Exact.{listed_at, list_in, ListsGenerator}
@@ -47,16 +46,13 @@ use Rattle.action_laws.proofs.ListedWords.{listed_sound}
 use Rattle.action_laws.proofs.MadeExact.{made_exact}
 
 -- ---- an accepted call lists the action, for which there is room
-refused_lists : (q : Refusal) (n : ℕ) → Refused q ≡ Listed n → ⊥
-refused_lists q n e = let z : ◌≡◌ {A = ℕ} 0 1 = cc in omega arith
-
 module _ (outWords : List ℕ) (outValues : List Float) (workWords : List ℕ) (workSums : List Float) (m : Model) (t : ModelTables) (p : Word) (n : ℕ) where
   record Accepts : Type 0 where
     count : n ≡ length (action_of m t p)
     places : length (action_of m t p) ≤ list_places outWords outValues
     is : act outWords outValues workWords workSums m t p ≡ listing outWords outValues workWords workSums (action_of m t p)
 
-  accepts : (act outWords outValues workWords workSums m t p).answer ≡ Listed n → Accepts
+  accepts : (act outWords outValues workWords workSums m t p).answer ≡ Ok n → Accepts
   unfolding act
   accepts e =
       go (test_model m t) (reaches p m.qubits) (ltb (sum_places workWords workSums) (length (sums_of m t p)))
@@ -70,12 +66,12 @@ module _ (outWords : List ℕ) (outValues : List Float) (workWords : List ℕ) (
           (cond over (full outWords outValues workWords workSums 3 (list_places outWords outValues)) (listing outWords outValues workWords workSums (action_of m t p)))))
 
       go : (a : Answer) (outside many over : Bool) → act outWords outValues workWords workSums m t p ≡ result a outside many over
-          → ltb (list_places outWords outValues) (length (action_of m t p)) ≡ over → (result a outside many over).answer ≡ Listed n → Accepts
-      go (Tests.Refused q) outside many over is z h = absurd (refused_lists q n h)
-      go Tests.Accepted true many over is z h = absurd (refused_lists _ n h)
-      go Tests.Accepted false true over is z h = absurd (refused_lists _ n h)
-      go Tests.Accepted false false true is z h = absurd (refused_lists _ n h)
-      go Tests.Accepted false false false is z h = record { count = cc; places = ltb-false (list_places outWords outValues) (length (action_of m t p)) z; is = is }
+          → ltb (list_places outWords outValues) (length (action_of m t p)) ≡ over → (result a outside many over).answer ≡ Ok n → Accepts
+      go (Err q) outside many over is z h = absurd (refused_not q n h)
+      go (Ok _) true many over is z h = absurd (refused_not _ n h)
+      go (Ok _) false true over is z h = absurd (refused_not _ n h)
+      go (Ok _) false false true is z h = absurd (refused_not _ n h)
+      go (Ok _) false false false is z h = record { count = cc; places = ltb-false (list_places outWords outValues) (length (action_of m t p)) z; is = is }
 
 -- ---- a list by its words and real parts
 abbrev only_real : Term → Term
@@ -143,7 +139,7 @@ read_back L outWords outValues sound room =
 
 -- ---- the call
 module _ (g : ModelOver floats pauli) (m : Model) (t : ModelTables) (made : Made g m t) (w : ModelOver whole pauli) (numbers : WholeModel g w) (p : Word) (sound : Sound p)
-    (outWords : List ℕ) (outValues : List Float) (workWords : List ℕ) (workSums : List Float) (n : ℕ) (answers : (act outWords outValues workWords workSums m t p).answer ≡ Listed n) where
+    (outWords : List ℕ) (outValues : List Float) (workWords : List ℕ) (workSums : List Float) (n : ℕ) (answers : (act outWords outValues workWords workSums m t p).answer ≡ Ok n) where
   -- the first n words and values of the lent tables are exactly the generator's
   pub call_exact : ListsGenerator w p (list_in n (act outWords outValues workWords workSums m t p).out_words (act outWords outValues workWords workSums m t p).out_values)
   call_exact =

@@ -12,7 +12,7 @@ use borrow.Author.Tests.{leb-true, le-leb, lt-ltb, not-false}
 use lib.Dec.{T, eqb, leb}
 use lib.Ieee.{Float}
 use lib.ListN.{get_or, take, drop}
-use Rattle.refusal.specs.declared.Answer.TheVariants.{Accepted}
+use Rattle.std.specs.Prelude.{Ok}
 use Rattle.word.specs.Register.{share}
 use Rattle.word.specs.Word.{identity}
 use Rattle.word.specs.Flat.{words}
@@ -180,5 +180,5 @@ module _ (m : Model) (t : ModelTables) (s : Stands m t) (p : Word) where
       (append (each_jump (jump_adds p t) (λ j l. jump_small j l _ refl)) (each_jump (pair_adds p t) (λ j l. pair_small j l _ refl)))
 
 -- every sum of the action is finite
-pub sums_finite_stored : (m : Model) (t : ModelTables) → test_model m t ≡ Accepted → (p : Word) → Every (λ c. T (is_finite c.num.re) × T (is_finite c.num.im)) (put_all_over floats pauli (rules_stored m t p) [])
+pub sums_finite_stored : (m : Model) (t : ModelTables) → test_model m t ≡ Ok tt → (p : Word) → Every (λ c. T (is_finite c.num.re) × T (is_finite c.num.im)) (put_all_over floats pauli (rules_stored m t p) [])
 sums_finite_stored m t accepted p = sums_finite (rules_stored m t p) (rules_stored_small m t (tested_stands m t accepted) p).each

@@ -7,7 +7,7 @@ use mathlib.Core.List.{List, [], ◌∷◌, ◌++◌, map}
 use Prim.Native.Nat.{ℕ, suc, ◌+◌}
 use native.Mathlib.Omega.{arith}
 use lib.ListN.{length, length-map}
-use Rattle.refusal.specs.declared.Answer.TheVariants.{Accepted}
+use Rattle.std.specs.Prelude.{Ok}
 use Rattle.number.specs.Whole.{whole}
 use Rattle.number.specs.Floats.{floats}
 use Rattle.gksl.specs.Model.{MatrixOver, ModelOver, AllModerate}
@@ -35,7 +35,7 @@ use Rattle.action_laws.proofs.MadeRules.{made_passes}
 
 -- a matrix that passed its test, over operators of at most 16 terms
 record Accepts (k : MatrixOver floats pauli) : Type 0 where
-  square : hermitian (length k.ops) k.entries Accepted ≡ Accepted
+  square : hermitian (length k.ops) k.entries (Ok tt) ≡ Ok tt
   few : Every FewTerms k.ops
 
 -- the counts of a model are those of what was given, whose parts passed
@@ -78,7 +78,7 @@ made_parts _ _ _ (added g m t made i workWords workNumbers m' As answer read) =
       jumps = before.jumps;
       matrices = every_append Accepts g.matrices (k ∷ []) before.matrices (
         record {
-          square = ap (λ (n : ℕ). hermitian n (matrix i) Accepted) (sym many) ∙ is.0.square;
+          square = ap (λ (n : ℕ). hermitian n (matrix i) (Ok tt)) (sym many) ∙ is.0.square;
           few = every_weaken (OperatorGood m.qubits) FewTerms (λ A g. g.0) As (operators_good m.qubits i As read);
         },
         tt,
@@ -111,7 +111,7 @@ all_moderate [] (w ∷ Gs) a h = absurd h
 all_moderate (k ∷ Ks) [] a h = absurd h
 all_moderate (k ∷ Ks) (w ∷ Gs) a h =
     let many = beside_length (Exactly 256) k.ops w.ops h.0.ops in
-    (accepted_moderate w k.entries h.0.entries (ap (λ (n : ℕ). hermitian n k.entries Accepted) (sym many) ∙ a.0.square), all_moderate Ks Gs a.1 h.1)
+    (accepted_moderate w k.entries h.0.entries (ap (λ (n : ℕ). hermitian n k.entries (Ok tt)) (sym many) ∙ a.0.square), all_moderate Ks Gs a.1 h.1)
 
 pub made_moderate : (g : ModelOver floats pauli) (m : Model) (t : ModelTables) → Made g m t → (w : ModelOver whole pauli) → WholeModel g w → AllModerate pauli w.matrices
 made_moderate g m t made w h = all_moderate g.matrices w.matrices (made_parts g m t made).matrices h.matrices

@@ -6,14 +6,13 @@ use mathlib.Core.Path.{◌≡◌, refl, sym, ap, ◌∙◌}
 use mathlib.Core.Bool.{Bool, true, false, cond}
 use mathlib.Core.List.{List, ◌++◌, map}
 use Prim.Native.Nat.{ℕ, ◌+◌, ◌*◌}
-use native.Mathlib.Omega.{arith}
 use lib.Dec.{ltb}
 use lib.Ieee.{Float}
 use lib.ListN.{length}
-use Rattle.refusal.specs.declared.Refusal.{Refusal}
 use Rattle.refusal.specs.declared.Refusal.TheVariants.{TooManyQubits, TableFull}
-use Rattle.refusal.specs.declared.Answer.{Answer}
-use Rattle.refusal.specs.declared.Answer.TheVariants as Tests
+use Rattle.std.specs.Prelude.{Ok, Err}
+use Rattle.refusal.specs.Cause.{Answer}
+use Rattle.refusal.proofs.Told.{refused_not}
 use Rattle.word.specs.Word.{max_qubits}
 use Rattle.number.specs.Floats.{floats}
 use Rattle.gksl.specs.Model.{RealTerm, JumpOver}
@@ -28,7 +27,6 @@ use Rattle.model_build.specs.Compiled.{Compiled, compile_jump}
 use Rattle.model_build.specs.Built.{Building, finished, tested, when_read, read_hamiltonian, read_jumps, terms_of, term_places}
 use Rattle.model_build.specs.Built as Compiling
 use Rattle.model.specs.declared.stored.Model.{Model}
-use Rattle.model_build.specs.declared.spec.Built.TheVariants as Answers
 use Rattle.lent.specs.Tests.{counted}
 use Rattle.lent.proofs.Passed.{both, counted_passed}
 use Rattle.k_matrix.specs.Matrix.{hermitian}
@@ -38,24 +36,21 @@ use Rattle.k_matrix.specs.Added as Adding
 use Rattle.k_matrix.proofs.MatrixLengths.{LengthsFit, lengths_fit}
 
 -- ---- a refusal is no model
-no_model : (r : Refusal) (m : Model) → Answers.Refused r ≡ Answers.Model m → ⊥
-no_model r m e = let z : ◌≡◌ {A = ℕ} 0 1 = cc in omega arith
-
 module _ (t : ModelTables) (workWords : List ℕ) (workNumbers : List Float) (m : Model) where
-  by_test : (a : Answer) (after : Building) → (tested t workWords workNumbers a after).answer ≡ Answers.Model m → (a ≡ Tests.Accepted) × (tested t workWords workNumbers a after ≡ after)
-  by_test Tests.Accepted after e = (refl, refl)
-  by_test (Tests.Refused r) after e = absurd (no_model r m e)
+  by_test : (a : Answer) (after : Building) → (tested t workWords workNumbers a after).answer ≡ Ok m → (a ≡ Ok tt) × (tested t workWords workNumbers a after ≡ after)
+  by_test (Ok _) after e = (refl, refl)
+  by_test (Err r) after e = absurd (refused_not r m e)
 
   by_room : (places terms : ℕ) (made : Model) (after : ModelTables)
-      → (cond (ltb places terms) (finished t workWords workNumbers (Answers.Refused (TableFull 4 places)) t) (finished t workWords workNumbers (Answers.Model made) after)).answer ≡ Answers.Model m
+      → (cond (ltb places terms) (finished t workWords workNumbers (Err (TableFull 4 places)) t) (finished t workWords workNumbers (Ok made) after)).answer ≡ Ok m
       → (made ≡ m)
-      × ((cond (ltb places terms) (finished t workWords workNumbers (Answers.Refused (TableFull 4 places)) t) (finished t workWords workNumbers (Answers.Model made) after)).tables ≡ after)
+      × ((cond (ltb places terms) (finished t workWords workNumbers (Err (TableFull 4 places)) t) (finished t workWords workNumbers (Ok made) after)).tables ≡ after)
   by_room places terms made after = go (ltb places terms)
     where
-      go : (b : Bool) → (cond b (finished t workWords workNumbers (Answers.Refused (TableFull 4 places)) t) (finished t workWords workNumbers (Answers.Model made) after)).answer ≡ Answers.Model m
+      go : (b : Bool) → (cond b (finished t workWords workNumbers (Err (TableFull 4 places)) t) (finished t workWords workNumbers (Ok made) after)).answer ≡ Ok m
           → (made ≡ m)
-          × ((cond b (finished t workWords workNumbers (Answers.Refused (TableFull 4 places)) t) (finished t workWords workNumbers (Answers.Model made) after)).tables ≡ after)
-      go true e = absurd (no_model (TableFull 4 places) m e)
+          × ((cond b (finished t workWords workNumbers (Err (TableFull 4 places)) t) (finished t workWords workNumbers (Ok made) after)).tables ≡ after)
+      go true e = absurd (refused_not (TableFull 4 places) m e)
       go false e = (cc, refl)
 
 -- ---- building
@@ -65,10 +60,10 @@ module _ (n : ℕ) (i : Compiling.Input) (t : ModelTables) (workWords : List ℕ
 
   abbrev first_tests : Answer
   first_tests =
-      cond (ltb max_qubits n) (Tests.Refused (TooManyQubits n max_qubits))
+      cond (ltb max_qubits n) (Err (TooManyQubits n max_qubits))
       (counted max_hamiltonian (length i.h_numbers) (counted max_jumps (length i.rates) (Compiling.lengths_answer i t workWords workNumbers)))
 
-  pub built_is : (Compiling.build n i t workWords workNumbers).answer ≡ Answers.Model m → read_hamiltonian n i ≡ got hs → read_jumps n i ≡ got js
+  pub built_is : (Compiling.build n i t workWords workNumbers).answer ≡ Ok m → read_hamiltonian n i ≡ got hs → read_jumps n i ≡ got js
       → (record { qubits = n; hamiltonian = length hs; jumps = length jumps; terms = length (terms_of jumps) } ≡ m)
       × ((Compiling.build n i t workWords workNumbers).tables ≡ Compiling.stored hs jumps t)
   unfolding Compiling.build
@@ -88,9 +83,9 @@ module _ (m : Model) (i : Adding.Input) (t : ModelTables) (workWords : List ℕ)
   -- what the tests before the operators settle
   pub record Settled : Type 0 where
     pub lengths : LengthsFit m i t workWords workNumbers
-    pub square : hermitian (operators i) (matrix i) Tests.Accepted ≡ Tests.Accepted
+    pub square : hermitian (operators i) (matrix i) (Ok tt) ≡ Ok tt
 
-  settles : matrix_tests m i t workWords workNumbers ≡ Tests.Accepted → Settled
+  settles : matrix_tests m i t workWords workNumbers ≡ Ok tt → Settled
   unfolding matrix_tests
   settles e =
       let e1 = both (test_model m t) _ e in
@@ -105,7 +100,7 @@ module _ (m : Model) (i : Adding.Input) (t : ModelTables) (workWords : List ℕ)
     abbrev made : Model
     made = record { qubits = m.qubits; hamiltonian = m.hamiltonian; jumps = m.jumps + length pairs; terms = m.terms + length (all_terms As ++ terms_of pairs) }
 
-    pub added_is : (Adding.add m i t workWords workNumbers).answer ≡ Answers.Model m' → read_operators m.qubits i ≡ got As
+    pub added_is : (Adding.add m i t workWords workNumbers).answer ≡ Ok m' → read_operators m.qubits i ≡ got As
         → Settled × (made ≡ m') × ((Adding.add m i t workWords workNumbers).tables ≡ Adding.stored m i t workWords workNumbers As pairs)
     unfolding Adding.add
     added_is e read =

@@ -9,7 +9,7 @@ use Prim.Native.Nat.{ℕ, ◌+◌}
 use native.Mathlib.Omega.{arith}
 use lib.Ieee.{Float}
 use lib.ListN.{length, set, length-map, length-set}
-use Rattle.refusal.specs.declared.Answer.TheVariants.{Accepted}
+use Rattle.std.specs.Prelude.{Ok}
 use Rattle.word.specs.Word.{Sound}
 use Rattle.word.specs.Flat.{words, lay_word}
 use Rattle.word.specs.declared.word.Word.{Word}
@@ -32,7 +32,6 @@ use Rattle.model_build.specs.Compiled.{Compiled, compile_jump}
 use Rattle.model_build.specs.Built.{hamiltonian, jumps_given, read_hamiltonian, read_jumps, entries_from, terms_of, rates_of}
 use Rattle.model_build.specs.Built as Building
 use Rattle.model.specs.declared.stored.Model.{Model}
-use Rattle.model_build.specs.declared.spec.Built.TheVariants as Answers
 use Rattle.lent.specs.Every.{Every}
 use Rattle.lent.proofs.Lists.{every_of, every_weaken, every_append, every_map}
 use Rattle.lent.proofs.LaidLaws.{laid_length}
@@ -58,7 +57,7 @@ use Rattle.action_laws.proofs.MadeParts.{built_is, added_is}
 use Rattle.word.specs.Count.{up_to}
 
 -- a model that was made passes the test
-pub made_passes : (g : ModelOver floats pauli) (m : Model) (t : ModelTables) → Made g m t → test_model m t ≡ Accepted
+pub made_passes : (g : ModelOver floats pauli) (m : Model) (t : ModelTables) → Made g m t → test_model m t ≡ Ok tt
 made_passes _ _ _ (built n i t workWords workNumbers m hs js answer reals jumps) = built_passes n i t workWords workNumbers m answer
 made_passes _ _ _ (added g m t made i workWords workNumbers m' As answer read) = added_passes m i t workWords workNumbers m' answer
 made_passes _ _ _ (lent g m t t' made same) = same_passes m t t' same (made_passes g m t made)
@@ -82,7 +81,7 @@ laying_of m t a s rates reals eight terms = record {
 
 -- ---- building
 module _ (n : ℕ) (i : Building.Input) (t : ModelTables) (workWords : List ℕ) (workNumbers : List Float) (m : Model) (hs : List (RealTerm floats pauli)) (js : List (JumpOver floats pauli))
-    (answer : (Building.build n i t workWords workNumbers).answer ≡ Answers.Model m) (reals : read_hamiltonian n i ≡ got hs) (read : read_jumps n i ≡ got js) where
+    (answer : (Building.build n i t workWords workNumbers).answer ≡ Ok m) (reals : read_hamiltonian n i ≡ got hs) (read : read_jumps n i ≡ got js) where
   abbrev compiled_jumps : List Compiled
   compiled_jumps = map compile_jump js
 
@@ -152,8 +151,8 @@ matrices_last (j ∷ Ks) k p =
 at_the_end : (a b c d : List Term) → a ++ (b ++ (c ++ d)) ≡ (a ++ (b ++ c)) ++ d
 at_the_end a b c d = ap (λ (l : List Term). a ++ l) (sym (append_assoc b c d)) ∙ sym (append_assoc a (b ++ c) d)
 
-module _ (m : Model) (t : ModelTables) (tested : test_model m t ≡ Accepted) (i : Adding.Input) (workWords : List ℕ) (workNumbers : List Float) (m' : Model) (As : List (List Term))
-    (answer : (Adding.add m i t workWords workNumbers).answer ≡ Answers.Model m') (read : read_operators m.qubits i ≡ got As) where
+module _ (m : Model) (t : ModelTables) (tested : test_model m t ≡ Ok tt) (i : Adding.Input) (workWords : List ℕ) (workNumbers : List Float) (m' : Model) (As : List (List Term))
+    (answer : (Adding.add m i t workWords workNumbers).answer ≡ Ok m') (read : read_operators m.qubits i ≡ got As) where
   abbrev pairs : List Compiled
   pairs = pairs_of m.terms i.counts (matrix i) As
 

@@ -8,7 +8,7 @@ use mathlib.Core.List.{[]}
 use Prim.Native.Nat.{ℕ, ◌<◌}
 use lib.Dec.{T}
 use lib.ListN.{get_or}
-use Rattle.refusal.specs.declared.Answer.TheVariants.{Accepted}
+use Rattle.std.specs.Prelude.{Ok}
 use Rattle.word.specs.Word.{max_qubits, letter_at, identity}
 use Rattle.word.specs.Flat.{words}
 use Rattle.word.specs.declared.word.Word.{Word}
@@ -34,7 +34,7 @@ unfolding action_of sums_of put_all_over without_over
 identity_action m t = rw (identity_nothing m t)
 
 -- a qubit on which none of the model's words acts keeps p's letter
-pub listed_near : (m : Model) (t : ModelTables) → test_model m t ≡ Accepted → (q : ℕ) → q < max_qubits
+pub listed_near : (m : Model) (t : ModelTables) → test_model m t ≡ Ok tt → (q : ℕ) → q < max_qubits
     → ((i : ℕ) → i < m.hamiltonian → letter_at (get_or (words t.h_words) i identity) q ≡ 0)
     → ((i : ℕ) → i < m.terms → letter_at (get_or (words t.t_words) i identity) q ≡ 0)
     → (p : Word) → Every (λ c. letter_at c.word q ≡ letter_at p q) (action_of m t p)
@@ -48,6 +48,6 @@ unfolding action_of sums_of
 made_near g m t made q low untouched p = every_without _ _ _ (sums_made g m t made q low untouched p)
 
 -- however many items a model that passed its test has
-pub listed_finite : (m : Model) (t : ModelTables) → test_model m t ≡ Accepted → (p : Word) → Every (λ c. T (is_finite c.num.re) × T (is_finite c.num.im)) (action_of m t p)
+pub listed_finite : (m : Model) (t : ModelTables) → test_model m t ≡ Ok tt → (p : Word) → Every (λ c. T (is_finite c.num.re) × T (is_finite c.num.im)) (action_of m t p)
 unfolding action_of sums_of
 listed_finite m t ok p = every_without _ _ _ (sums_finite_stored m t ok p)

@@ -12,7 +12,7 @@ use borrow.Author.Tests.{leb-true, not-false}
 use lib.Dec.{eqb, leb}
 use lib.Ieee.{Float}
 use lib.ListN.{get_or, take, drop}
-use Rattle.refusal.specs.declared.Answer.TheVariants.{Accepted}
+use Rattle.std.specs.Prelude.{Ok}
 use Rattle.word.specs.Letter.{mul_letter}
 use Rattle.word.specs.Product.{mul}
 use Rattle.word.specs.Word.{max_qubits, identity, letter_at}
@@ -234,7 +234,7 @@ module _ (q l : ℕ) where
   put_all_near (c ∷ A) T h k = put_all_near A (put_over floats pauli c T) h.1 (put_near c T h.0 k)
 
 -- ---- a model whose tables were accepted, and a qubit on which none of its words acts
-module _ (m : Model) (t : ModelTables) (accepted : test_model m t ≡ Accepted) (q : ℕ) (low : q < max_qubits)
+module _ (m : Model) (t : ModelTables) (accepted : test_model m t ≡ Ok tt) (q : ℕ) (low : q < max_qubits)
     (reals : (i : ℕ) → i < m.hamiltonian → letter_at (get_or (words t.h_words) i identity) q ≡ 0)
     (terms : (i : ℕ) → i < m.terms → letter_at (get_or (words t.t_words) i identity) q ≡ 0) (p : Word) where
   each_jump : (f : Jump → List Term) → ((j : Jump) → bad_jump m.terms j ≡ false → Near q (letter_at p q) (f j)) → Near q (letter_at p q) (gather_jumps f (jumps_in m t))

@@ -16,7 +16,7 @@ use Rattle.word.specs.declared.word.Word.{Word}
 use Rattle.number.specs.Floats.{floats, is_finite}
 use Rattle.candidates.specs.Sums.{Row, row, Rising}
 use Rattle.candidates.specs.Tables.{Rows, rows}
-use Rattle.candidates.specs.Between.{those, in_word_order, LowestBad, BadPlace}
+use Rattle.candidates.specs.Between.{those, in_word_order, BadPlace}
 use Rattle.candidates.proofs.PutLaws.{strict, most_trans, asym}
 use Rattle.candidates.proofs.RisingLaws.{order_rising}
 use Rattle.candidates.proofs.RowLaws.{no_row, rows_at, rows_few, rows_long}
@@ -33,9 +33,6 @@ module _ (ws : List Word) (xs : List Float) where
     pub inside : q < length xs
     pub bad : is_finite (get_or xs q nan) ≡ false
     pub lowest : (k : ℕ) → k < i → is_finite (get_or xs k nan) ≡ false → before (get_or ws k identity) (get_or ws q identity) ≡ false
-
-  pub lowest_start : (q : ℕ) → q < length xs → is_finite (get_or xs q nan) ≡ false → Lowest q 0
-  lowest_start q h e = record { inside = h; bad = e; lowest = λ k l. absurd (omega arith) }
 
   module _ (q i : ℕ) (o : Lowest q i) where
     more : (v : ℕ) → ((k : ℕ) → k < i → Bad k → before (get_or ws k identity) (get_or ws v identity) ≡ false) → (Bad i → before (get_or ws i identity) (get_or ws v identity) ≡ false)
@@ -56,9 +53,6 @@ module _ (ws : List Word) (xs : List Float) where
 
     pub lowest_stays : (v w : Word) → v ≡ get_or ws i identity → w ≡ get_or ws q identity → before v w ≡ false → Lowest q (i + 1)
     lowest_stays v w is-v is-w b = record { inside = o.inside; bad = o.bad; lowest = more q o.lowest (λ z. rw (← is-v, ← is-w) b) }
-
-    pub lowest_done : length xs ≤ i → LowestBad (length xs) ws xs q
-    lowest_done h = record { inside = o.inside; bad = o.bad; lowest = λ k l b. o.lowest k (omega arith) b }
 
 -- ---- in word order
 none_more : (p : Row Word Float → Bool) (k : ℕ) → k + length (those p []) ≡ k

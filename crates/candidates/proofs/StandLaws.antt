@@ -19,7 +19,7 @@ use Rattle.number.specs.Floats.{floats}
 use Rattle.slots.specs.Slots.{last_of}
 use Rattle.slots.specs.Between.{Slotted}
 use Rattle.slots.proofs.PlaceLaws.{last_inside, last_word, last_after}
-use Rattle.sums.specs.declared.sums.Added.TheVariants.{Full, Held}
+use Rattle.std.specs.Prelude.{Some, None}
 use Rattle.candidates.specs.Sums.{Row, row}
 use Rattle.candidates.specs.Tables.{Rows, rows, candidate_rows, put_row}
 use Rattle.candidates.specs.Between.{in_word_order, Standing, Puts}
@@ -31,11 +31,11 @@ abbrev Other : Word → Row Word Float → Type 0
 Other w r = r.word ≡ w → ⊥
 
 -- ---- answers
-pub puts_held : (room m : ℕ) (T : Rows) (lanes : List ℕ) (sums : List Float) (heads nexts : List ℕ) → Standing room m lanes sums heads nexts → in_word_order (candidate_rows m lanes sums) ≡ T → Puts room T lanes sums heads nexts (Held m)
+pub puts_held : (room m : ℕ) (T : Rows) (lanes : List ℕ) (sums : List Float) (heads nexts : List ℕ) → Standing room m lanes sums heads nexts → in_word_order (candidate_rows m lanes sums) ≡ T → Puts room T lanes sums heads nexts (Some m)
 puts_held room m T lanes sums heads nexts s e =
     record { held = λ k z. let q : m ≡ k = cc in (rw (← q) s, rw (← q) e); full = λ z. let q : ◌≡◌ {A = ℕ} 0 1 = cc in absurd (omega arith) }
 
-pub puts_full : (room : ℕ) (T : Rows) (lanes : List ℕ) (sums : List Float) (heads nexts : List ℕ) → room < length T → Puts room T lanes sums heads nexts Full
+pub puts_full : (room : ℕ) (T : Rows) (lanes : List ℕ) (sums : List Float) (heads nexts : List ℕ) → room < length T → Puts room T lanes sums heads nexts None
 puts_full room T lanes sums heads nexts h =
     record { held = λ k z. let q : ◌≡◌ {A = ℕ} 0 1 = cc in absurd (omega arith); full = λ z. h }
 
@@ -110,7 +110,7 @@ module _ (room n : ℕ) (lanes : List ℕ) (sums : List Float) (heads nexts : Li
       U_split : U ≡ take q U ++ (row w (get_or sums q nan) ∷ drop (suc q) U)
       U_split = split_at U q no_row (omega (arith, U_long, place_low)) ∙ ap (λ (r : Row Word Float). take q U ++ (r ∷ drop (suc q) U)) here
 
-      pub put_added : Puts room (put_row w v (in_word_order (candidate_rows n lanes sums))) lanes (set sums (at - 1) (floats.plus (get_or sums (at - 1) nan) v)) heads nexts (Held n)
+      pub put_added : Puts room (put_row w v (in_word_order (candidate_rows n lanes sums))) lanes (set sums (at - 1) (floats.plus (get_or sums (at - 1) nan) v)) heads nexts (Some n)
       unfolding in_word_order
       put_added =
           let law = put_standing before floats.nought strict floats.plus (take q U) w (get_or sums q nan) v (drop (suc q) U) rest in
@@ -137,13 +137,13 @@ module _ (room n : ℕ) (lanes : List ℕ) (sums : List Float) (heads nexts : Li
       unfolding in_word_order
       grown = (put_behind before floats.nought strict floats.plus U w v new).1 ∙ ap suc s.once
 
-      pub put_no_place : room ≤ n → Puts room (put_row w v (in_word_order (candidate_rows n lanes sums))) lanes sums heads nexts Full
+      pub put_no_place : room ≤ n → Puts room (put_row w v (in_word_order (candidate_rows n lanes sums))) lanes sums heads nexts None
       put_no_place h = puts_full room (put_row w v (in_word_order U)) lanes sums heads nexts (omega (arith, grown))
 
       pub put_new_row : n < room → (lanes' : List ℕ) (sums' : List Float) (heads' nexts' : List ℕ) → (words lanes' ≡ set (words lanes) n w) × (sums' ≡ set sums n (floats.plus floats.nought v))
           → ((us : List Word) → length us ≡ n → Slotted us heads (take n nexts) → Slotted (us ++ (w ∷ [])) heads' (take (n + 1) nexts'))
           → length lanes' ≡ length lanes → length heads' ≡ length heads → length nexts' ≡ length nexts
-          → Puts room (put_row w v (in_word_order (candidate_rows n lanes sums))) lanes' sums' heads' nexts' (Held (n + 1))
+          → Puts room (put_row w v (in_word_order (candidate_rows n lanes sums))) lanes' sums' heads' nexts' (Some (n + 1))
       unfolding in_word_order
       put_new_row h lanes' sums' heads' nexts' laid linked el eh en =
           let y : Float = floats.plus floats.nought v in

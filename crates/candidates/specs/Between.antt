@@ -2,13 +2,11 @@
 -- SPDX-License-Identifier: Apache-2.0
 
 -- Contracts between functions: candidates that stand in the order in which they came, found by slots; what putting one leaves, which of them stay, and which sum is the first in word order that is not finite.
-use Rattle.std.specs.Prelude.{ℕ, ◌*◌, ◌≤◌, ◌<◌, ◌≡◌, Bool, false, not, ◌&&◌, ◌||◌, cond, List, [], ◌∷◌, Float, length, get_or, take}
+use Rattle.std.specs.Prelude.{ℕ, ◌*◌, ◌≤◌, ◌<◌, ◌≡◌, Bool, false, not, ◌&&◌, ◌||◌, cond, List, [], ◌∷◌, Float, length, get_or, take, Option, Some, None}
 use Rattle.std.specs.Float.{nan}
 use Rattle.std.specs.Float.Ieee.{lt}
 use Rattle.word.specs.Flat.{words, word_lanes}
 use Rattle.slots.specs.Between.{Slotted}
-use Rattle.sums.specs.declared.sums.Added.{Added}
-use Rattle.sums.specs.declared.sums.Added.TheVariants.{Held, Full}
 use Rattle.word.specs.Order.{before}
 use Rattle.word.specs.Word.{identity}
 use Rattle.word.specs.declared.word.Word.{Word}
@@ -34,9 +32,9 @@ pub record Standing (room n : ℕ) (lanes : List ℕ) (sums : List Float) (heads
   pub once : length (in_word_order (candidate_rows n lanes sums)) ≡ n
 
 -- how many rows stand, which in word order are T; or that T is more than there are places for
-pub record Puts (room : ℕ) (T : Rows) (lanes : List ℕ) (sums : List Float) (heads nexts : List ℕ) (r : Added) : Type 0 where
-  pub held : (m : ℕ) → r ≡ Held m → Standing room m lanes sums heads nexts × (in_word_order (candidate_rows m lanes sums) ≡ T)
-  pub full : r ≡ Full → room < length T
+pub record Puts (room : ℕ) (T : Rows) (lanes : List ℕ) (sums : List Float) (heads nexts : List ℕ) (r : Option ℕ) : Type 0 where
+  pub held : (m : ℕ) → r ≡ Some m → Standing room m lanes sums heads nexts × (in_word_order (candidate_rows m lanes sums) ≡ T)
+  pub full : r ≡ None → room < length T
 
 -- ---- the room rule and 14 on rows that stand in any order
 -- those that pass a test, in their order

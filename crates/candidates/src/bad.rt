@@ -11,9 +11,8 @@ ghost use Rattle.number.specs.Floats.{is_finite};
 ghost use Rattle.candidates.specs.Between.{those, LowestBad, BadPlace};
 
 use number::scalar::is_finite;
-use order::places::is_before;
 use word::flat::{WORD_LANES, word_at};
-use word::word::Word;
+use word::word::{Word, is_before};
 
 // The row with the lowest word of those whose sum is not finite; there is one, at `bad`.
 fn lowest_bad(words: &[u64], sums: &[f64], bad: usize) -> usize
@@ -21,19 +20,14 @@ fn lowest_bad(words: &[u64], sums: &[f64], bad: usize) -> usize
     ensures { LowestBad (length sums.now) (words_in words.now) sums.now result }
 {
     let mut q = bad;
-    let mut i = 0;
-    while i < sums.len() {
+    for i in 0..sums.len() {
         if is_finite(sums[i]) {
-            i += 1;
-        } else {
-            let v = word_at(words, i);
-            let w = word_at(words, q);
-            if is_before(v, w) {
-                q = i;
-                i += 1;
-            } else {
-                i += 1;
-            }
+            continue;
+        }
+        let v = word_at(words, i);
+        let w = word_at(words, q);
+        if is_before(v, w) {
+            q = i;
         }
     }
     q
@@ -44,14 +38,10 @@ fn count_before(words: &[u64], w: Word) -> usize
 {
     let n = words.len() / WORD_LANES;
     let mut count = 0;
-    let mut i = 0;
-    while i < n {
+    for i in 0..n {
         let v = word_at(words, i);
         if is_before(v, w) {
             count += 1;
-            i += 1;
-        } else {
-            i += 1;
         }
     }
     count

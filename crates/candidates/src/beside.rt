@@ -11,9 +11,8 @@ ghost use Rattle.candidates.specs.Between.{row_at, those, stays_beside};
 
 use crate::rows::lay_row;
 use number::scalar::magnitude;
-use order::places::is_before;
 use word::flat::word_at;
-use word::word::Word;
+use word::word::{Word, is_before};
 
 // Words are looked at only where magnitudes are the same.
 fn stays_at(words: &[u64], sums: &[f64], i: usize, last: Word, y: f64) -> bool
@@ -39,13 +38,9 @@ pub fn count_beside(words: &[u64], sums: &[f64], last: Word, y: f64) -> usize
     ensures { result ≡ length (those (stays_beside (row last y)) (rows (words_in words.now) sums.now)) }
 {
     let mut count = 0;
-    let mut i = 0;
-    while i < sums.len() {
+    for i in 0..sums.len() {
         if stays_at(words, sums, i, last, y) {
             count += 1;
-            i += 1;
-        } else {
-            i += 1;
         }
     }
     count
@@ -57,16 +52,12 @@ pub fn retain_beside(words: &mut [u64], sums: &mut [f64], last: Word, y: f64) ->
     ensures { (result ≤ length sums.old) × (candidate_rows result words.new sums.new ≡ those (stays_beside (row last y)) (rows (words_in words.old) sums.old)) }
 {
     let mut held = 0;
-    let mut i = 0;
-    while i < sums.len() {
+    for i in 0..sums.len() {
         if stays_at(words, sums, i, last, y) {
             let w = word_at(words, i);
             let x = sums[i];
             lay_row(words, sums, held, w, x);
             held += 1;
-            i += 1;
-        } else {
-            i += 1;
         }
     }
     held

@@ -8,7 +8,6 @@ ghost use Rattle.candidates.specs.Between.{in_word_order, Standing, Puts};
 
 use crate::rows::lay_row;
 use slots::{add_slot, last_place};
-use sums::sums::Added;
 use word::flat::WORD_LANES;
 use word::word::Word;
 
@@ -22,7 +21,7 @@ pub fn put_candidate(
     room: usize,
     w: Word,
     v: f64,
-) -> Added
+) -> Option<usize>
     requires { Standing room n words.old sums.old heads.old nexts.old }
     ensures { Puts room (put_row w v (in_word_order (candidate_rows n words.old sums.old))) words.new sums.new heads.new nexts.new result }
 {
@@ -30,12 +29,12 @@ pub fn put_candidate(
     if 0 < at {
         let q = at - 1;
         sums[q] = sums[q] + v;
-        return Added::Held(n);
+        return Some(n);
     }
     if room <= n {
-        return Added::Full;
+        return None;
     }
     lay_row(words, sums, n, w, 0.0 + v);
     add_slot(heads, nexts, n, w);
-    Added::Held(n + 1)
+    Some(n + 1)
 }

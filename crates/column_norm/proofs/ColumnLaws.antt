@@ -6,7 +6,6 @@ use mathlib.Core.Path.{◌≡◌, refl, sym, ap, ◌∙◌, subst}
 use mathlib.Core.Bool.{Bool, true, false, cond}
 use mathlib.Core.List.{List, ◌∷◌, map}
 use Prim.Native.Nat.{ℕ, ◌+◌, ◌*◌, ◌≤◌, ◌<◌}
-use native.Mathlib.Omega.{arith}
 use lib.Ieee.{Float}
 use lib.ListN.{length}
 use Rattle.word.specs.Flat.{word_lanes}
@@ -30,17 +29,16 @@ module _ (bs : List Word) (len : ℕ) (lanes : List ℕ) (sums : List Float) whe
 
   -- what is added so far, and what is left to add
   pub record RawState (raw : Float) (i : ℕ) : Type 0 where
-    pub high : i ≤ len
     pub added : sum_from raw (sizes bs (left len lanes sums i)) ≡ all
 
   pub raw_start : RawState float0 0
   unfolding raw_of
-  raw_start = record { high = omega arith; added = refl }
+  raw_start = record { added = refl }
 
   module _ (hl : word_lanes * len ≤ length lanes) (hs : 2 * len ≤ length sums) (i : ℕ) (raw : Float) (s : RawState raw i) where
     module _ (h : i < len) (t : Term) (e : t ≡ term_at lanes sums i) where
       pub raw_passes : floats.is_zero t.num.re ≡ true → RawState raw (i + 1)
-      raw_passes f = record { high = omega arith; added = subst (λ (L : List Term). sum_from raw (sizes bs L) ≡ all) (left_passed len lanes sums hl hs i h t e f) s.added }
+      raw_passes f = record { added = subst (λ (L : List Term). sum_from raw (sizes bs L) ≡ all) (left_passed len lanes sums hl hs i h t e f) s.added }
 
       module _ (f : floats.is_zero t.num.re ≡ false) where
         added_next : (b : Bool) → is_among t.word bs ≡ b → sum_from raw (map (λ (c : Term). magnitude c.num.re) (cond b (t ∷ inside_of bs (left len lanes sums (i + 1))) (inside_of bs (left len lanes sums (i + 1))))) ≡ all
@@ -51,10 +49,10 @@ module _ (bs : List Word) (len : ℕ) (lanes : List ℕ) (sums : List Float) whe
 
         pub raw_adds : is_among t.word bs ≡ true → (x : Float) → x ≡ magnitude t.num.re → RawState (floats.plus raw x) (i + 1)
         unfolding sum_from
-        raw_adds eb x ex = record { high = omega arith; added = rw ex (added_next true eb) }
+        raw_adds eb x ex = record { added = rw ex (added_next true eb) }
 
         pub raw_leaves : is_among t.word bs ≡ false → RawState raw (i + 1)
-        raw_leaves eb = record { high = omega arith; added = added_next false eb }
+        raw_leaves eb = record { added = added_next false eb }
 
     pub raw_done : len ≤ i → raw ≡ all
     unfolding sum_from inside_of
@@ -63,17 +61,13 @@ module _ (bs : List Word) (len : ℕ) (lanes : List ℕ) (sums : List Float) whe
 module _ (len : ℕ) (lanes : List ℕ) (sums : List Float) where
   -- the word was not passed yet
   pub record DiagState (w : Word) (i : ℕ) : Type 0 where
-    pub high : i ≤ len
     pub ahead : diag_of w (left len lanes sums i) ≡ diag_of w (listed (sum_rows len lanes sums))
-
-  pub diag_start : (w : Word) → DiagState w 0
-  diag_start w = record { high = omega arith; ahead = refl }
 
   module _ (hl : word_lanes * len ≤ length lanes) (hs : 2 * len ≤ length sums) (i : ℕ) where
     module _ (h : i < len) (t : Term) (e : t ≡ term_at lanes sums i) where
       module _ (f : floats.is_zero t.num.re ≡ true) where
         pub diag_passes : (w : Word) → DiagState w i → DiagState w (i + 1)
-        diag_passes w s = record { high = omega arith; ahead = subst (λ (L : List Term). diag_of w L ≡ diag_of w (listed (sum_rows len lanes sums))) (left_passed len lanes sums hl hs i h t e f) s.ahead }
+        diag_passes w s = record { ahead = subst (λ (L : List Term). diag_of w L ≡ diag_of w (listed (sum_rows len lanes sums))) (left_passed len lanes sums hl hs i h t e f) s.ahead }
 
       module _ (f : floats.is_zero t.num.re ≡ false) where
         module _ (w : Word) (s : DiagState w i) where
@@ -87,7 +81,7 @@ module _ (len : ℕ) (lanes : List ℕ) (sums : List Float) where
           diag_found eb = here true eb
 
           pub diag_other : same t.word w ≡ false → DiagState w (i + 1)
-          diag_other eb = record { high = omega arith; ahead = here false eb }
+          diag_other eb = record { ahead = here false eb }
 
     module _ (h : len ≤ i) where
       pub diag_none : (w : Word) → DiagState w i → float0 ≡ diag_of w (listed (sum_rows len lanes sums))

@@ -2,7 +2,7 @@
 -- SPDX-License-Identifier: Apache-2.0
 
 -- The mean and the largest column norm, column by column. Assumes nothing.
-use mathlib.Core.Path.{◌≡◌, refl, sym, ap, ap₂, ◌∙◌, subst}
+use mathlib.Core.Path.{◌≡◌, sym, ap, ap₂, ◌∙◌, subst}
 use mathlib.Core.List.{List, [], ◌∷◌}
 use Prim.Native.Nat.{ℕ, suc, ◌+◌, ◌≤◌, ◌<◌}
 use native.Mathlib.Numerals.{add-one}
@@ -29,11 +29,7 @@ module _ (len : ℕ) (l : List Float) (long : len ≤ length l) where
 module _ (len : ℕ) (l : List Float) where
   -- what is added so far, and what is left to add
   pub record SumState (sum : Float) (i : ℕ) : Type 0 where
-    pub high : i ≤ len
     pub added : sum_from sum (drop i (take len l)) ≡ total (take len l)
-
-  pub sum_start : SumState float0 0
-  sum_start = record { high = omega arith; added = refl }
 
   pub mean_none : len ≡ 0 → float0 ≡ mean_of (take len l)
   unfolding mean_of
@@ -47,7 +43,7 @@ module _ (len : ℕ) (l : List Float) where
   module _ (long : len ≤ length l) (sum : Float) (i : ℕ) (s : SumState sum i) where
     pub sum_adds : i < len → SumState (floats.plus sum (get_or l i nan)) (i + 1)
     unfolding sum_from
-    sum_adds h = record { high = omega arith; added = subst (λ (r : List Float). sum_from sum r ≡ total (take len l)) (first_next len l long i h) s.added }
+    sum_adds h = record { added = subst (λ (r : List Float). sum_from sum r ≡ total (take len l)) (first_next len l long i h) s.added }
 
     sum_done : len ≤ i → sum ≡ total (take len l)
     unfolding sum_from
@@ -66,18 +62,14 @@ module _ (mu : Float) (len : ℕ) (raws diags : List Float) where
   all = largest (column_norms mu (take len raws) (take len diags))
 
   pub record LargestState (norm : Float) (i : ℕ) : Type 0 where
-    pub high : i ≤ len
     pub left : largest_from norm (columns_from i) ≡ all
-
-  pub largest_start : LargestState float0 0
-  largest_start = record { high = omega arith; left = refl }
 
   module _ (rl : len ≤ length raws) (dl : len ≤ length diags) (norm : Float) (i : ℕ) (s : LargestState norm i) where
     pub largest_more : i < len → (column next : Float) → column ≡ column_norm mu (get_or raws i nan) (get_or diags i nan) → next ≡ floats.larger norm column → LargestState next (i + 1)
     unfolding largest_from column_norms
     largest_more h column next ec en =
         let e : columns_from i ≡ column_norm mu (get_or raws i nan) (get_or diags i nan) ∷ columns_from (i + 1) = ap₂ (column_norms mu) (first_next len raws rl i h) (first_next len diags dl i h) in
-        record { high = omega arith; left = rw (en, ec) (subst (λ (r : List Float). largest_from norm r ≡ all) e s.left) }
+        record { left = rw (en, ec) (subst (λ (r : List Float). largest_from norm r ≡ all) e s.left) }
 
     pub largest_done : len ≤ i → norm ≡ all
     unfolding largest_from column_norms

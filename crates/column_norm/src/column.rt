@@ -29,20 +29,15 @@ pub fn raw_of(
     ensures { result ≡ raw_of (take len (words_in words.now)) (listed (sum_rows count sum_words.now sums.now)) }
 {
     let mut raw = 0.0;
-    let mut i = 0;
-    while i < count {
+    for i in 0..count {
         let t = term_at(sum_words, sums, i);
         let x = t.number.re;
         let w = t.word;
         if is_zero(x) {
-            i += 1;
-        } else {
-            if in_basis(words, len, heads, nexts, w) {
-                raw = raw + magnitude(x);
-                i += 1;
-            } else {
-                i += 1;
-            }
+            continue;
+        }
+        if in_basis(words, len, heads, nexts, w) {
+            raw = raw + magnitude(x);
         }
     }
     raw
@@ -53,18 +48,15 @@ pub fn diagonal_of(words: &[u64], sums: &[f64], len: usize, w: Word) -> f64
     requires { (word_lanes * len ≤ length words.now) × (2 * len ≤ length sums.now) }
     ensures { result ≡ diag_of w (listed (sum_rows len words.now sums.now)) }
 {
-    let mut i = 0;
-    while i < len {
+    for i in 0..len {
         let t = term_at(words, sums, i);
         let x = t.number.re;
         let v = t.word;
         if is_zero(x) {
-            i += 1;
-        } else {
-            if same_word(v, w) {
-                return x;
-            }
-            i += 1;
+            continue;
+        }
+        if same_word(v, w) {
+            return x;
         }
     }
     0.0

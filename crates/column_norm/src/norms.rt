@@ -17,10 +17,8 @@ pub fn mean(diags: &[f64], len: usize) -> f64
         return 0.0;
     }
     let mut sum = 0.0;
-    let mut i = 0;
-    while i < len {
+    for i in 0..len {
         sum = sum + diags[i];
-        i += 1;
     }
     sum / (len as f64)
 }
@@ -37,11 +35,9 @@ pub fn largest_column(raws: &[f64], diags: &[f64], len: usize, mu: f64) -> f64
     ensures { result ≡ largest (column_norms mu (take len raws.now) (take len diags.now)) }
 {
     let mut norm = 0.0;
-    let mut i = 0;
-    while i < len {
+    for i in 0..len {
         let column = column_norm(raws[i], diags[i], mu);
         norm = larger(norm, column);
-        i += 1;
     }
     norm
 }

@@ -12,7 +12,7 @@ use borrow.Author.Tests.{ltb-false, eqb-false}
 use lib.Dec.{eqb, ltb}
 use lib.ListN.{length, length-append}
 use Rattle.refusal.specs.declared.Refusal.TheVariants.{TableFull}
-use Rattle.refusal.specs.declared.Answer.TheVariants.{Accepted}
+use Rattle.std.specs.Prelude.{Ok}
 use Rattle.word.specs.declared.word.Word.{Word}
 use Rattle.order.specs.Between.{All, AllBelow}
 use Rattle.order.proofs.Members.{all_append}
@@ -60,7 +60,7 @@ rows_below m t bs = columns_below (action_of m t) bs 0 bs
 
 -- ---- what no column refused fits
 module _ (touch : Word → ℕ) (act : Word → List Term) (bs : List Word) (sumRoom entryRoom : ℕ) where
-  columns_fit : (c before : ℕ) (ps : List Word) → before ≤ entryRoom → column_tests touch act bs sumRoom entryRoom c before ps ≡ Accepted → before + length (columns_from act bs c ps) ≤ entryRoom
+  columns_fit : (c before : ℕ) (ps : List Word) → before ≤ entryRoom → column_tests touch act bs sumRoom entryRoom c before ps ≡ Ok tt → before + length (columns_from act bs c ps) ≤ entryRoom
   unfolding column_tests columns_from
   columns_fit c before [] h e = omega arith
   columns_fit c before (p ∷ ps) h e =
@@ -71,6 +71,6 @@ module _ (touch : Word → ℕ) (act : Word → List Term) (bs : List Word) (sum
       let l = length-append (column_entries bs c (act p)) (columns_from act bs (suc c) ps) in
       omega (arith, i, l)
 
-pub generator_fits : (m : Model) (t : ModelTables) (bs : List Word) (sumRoom entryRoom : ℕ) → generator_room m t bs sumRoom entryRoom ≡ Accepted → length (generator_of m t bs) ≤ entryRoom
+pub generator_fits : (m : Model) (t : ModelTables) (bs : List Word) (sumRoom entryRoom : ℕ) → generator_room m t bs sumRoom entryRoom ≡ Ok tt → length (generator_of m t bs) ≤ entryRoom
 unfolding generator_room generator_of
 generator_fits m t bs sumRoom entryRoom e = let h = columns_fit (touched_by m t) (action_of m t) bs sumRoom entryRoom 0 0 bs (omega arith) e in omega (arith, h)

@@ -8,7 +8,7 @@ use mathlib.Core.List.{List, [], ◌∷◌}
 use Prim.Native.Nat.{ℕ, suc, ◌+◌, ◌≤◌, ◌<◌}
 use native.Mathlib.Numerals.{add-one}
 use native.Mathlib.Omega.{arith}
-use borrow.Author.Tests.{eqb-true, eq-eqb, ne_eqb}
+use borrow.Author.Tests.{eqb-true}
 use lib.Dec.{eqb}
 use lib.ListN.{length, get_or, take, drop, replicate, drop_of_length-le}
 use lib.Seq.{drop-cons, get_or-take, length-take-le}
@@ -24,21 +24,6 @@ use Rattle.columns.specs.Between.{all_zero, LaysDistinct}
 use Rattle.slots.specs.Between.{Slotted}
 
 -- ---- tables that are zero
-module _ (l : List ℕ) (i : ℕ) where
-  zero_step : (b : Bool) → i < length l → eqb (get_or l i 0) 0 ≡ b → all_zero (drop i l) ≡ (b && all_zero (drop (i + 1) l))
-  unfolding all_zero
-  zero_step b h e = rw (add-one i) (ap all_zero (drop-cons l i 0 h) ∙ ap (λ (c : Bool). c && all_zero (drop (suc i) l)) e)
-
-  pub zero_next : i < length l → get_or l i 0 ≡ 0 → all_zero (drop i l) ≡ all_zero l → all_zero (drop (i + 1) l) ≡ all_zero l
-  zero_next h e s = sym (zero_step true h (eq-eqb (get_or l i 0) 0 e)) ∙ s
-
-  pub zero_not : i < length l → (get_or l i 0 ≡ 0 → ⊥) → all_zero (drop i l) ≡ all_zero l → false ≡ all_zero l
-  zero_not h e s = sym (zero_step false h (ne_eqb (get_or l i 0) 0 e)) ∙ s
-
-  pub zero_end : length l ≤ i → all_zero (drop i l) ≡ all_zero l → true ≡ all_zero l
-  unfolding all_zero
-  zero_end h s = ap all_zero (sym (drop_of_length-le l h)) ∙ s
-
 pub zero_all : (l : List ℕ) → all_zero l ≡ true → l ≡ replicate (length l) 0
 unfolding all_zero
 zero_all [] e = refl
@@ -59,13 +44,9 @@ both_second false b e = absurd (let z : ◌≡◌ {A = ℕ} 0 1 = cc in omega ar
 -- ---- comparing with all before
 -- what is left to compare from place i on
 pub record Comparing (w : Word) (ws : List Word) (k i : ℕ) : Type 0 where
-  pub high : i ≤ k
   pub left : is_among w (drop i (take k ws)) ≡ is_among w (take k ws)
 
 module _ (w : Word) (ws : List Word) (k : ℕ) where
-  pub compare_start : Comparing w ws k 0
-  compare_start = record { high = omega arith; left = refl }
-
   module _ (is : w ≡ get_or ws k identity) (inside : k < length ws) (i : ℕ) (s : Comparing w ws k i) where
     module _ (h : i < k) (v : Word) (e : v ≡ get_or ws i identity) where
       by_test : (b : Bool) → same v w ≡ b → is_among w (drop i (take k ws)) ≡ (b || is_among w (drop (i + 1) (take k ws)))
@@ -82,7 +63,7 @@ module _ (w : Word) (ws : List Word) (k : ℕ) where
       compare_found t = sym (by_test true t) ∙ s.left ∙ ap (λ (u : Word). is_among u (take k ws)) is
 
       pub compare_on : same v w ≡ false → Comparing w ws k (i + 1)
-      compare_on t = record { high = omega arith; left = sym (by_test false t) ∙ s.left }
+      compare_on t = record { left = sym (by_test false t) ∙ s.left }
 
     pub compare_end : k ≤ i → false ≡ repeats_at ws k
     unfolding repeats_at is_among

@@ -2,7 +2,7 @@
 -- SPDX-License-Identifier: Apache-2.0
 
 -- The entries of a column laid one by one: what is laid, followed by what is left to lay, is the whole throughout. Assumes nothing.
-use mathlib.Core.Path.{◌≡◌, refl, sym, ap, ◌∙◌}
+use mathlib.Core.Path.{◌≡◌, sym, ap, ◌∙◌}
 use mathlib.Core.Bool.{Bool, true, false, cond}
 use mathlib.Core.List.{List, [], ◌∷◌, ◌++◌, append_assoc, append-nil}
 use Prim.Native.Nat.{ℕ, ◌+◌, ◌-◌, ◌*◌, ◌≤◌, ◌<◌}
@@ -16,7 +16,7 @@ use Rattle.word.specs.declared.word.Word.{Word}
 use Rattle.number.specs.Floats.{floats}
 use Rattle.slots.proofs.PlaceLaws.{last_inside}
 use Rattle.sums.specs.Sums as Terms
-use Rattle.sums.specs.declared.sums.Added.TheVariants.{Held, Full}
+use Rattle.std.specs.Prelude.{Some, None}
 use Rattle.model.specs.Terms.{Term, term_at}
 use Rattle.action.specs.Acts.{listed}
 use Rattle.action.proofs.ListLaws.{left, left_none, left_passed, left_listed}
@@ -37,12 +37,8 @@ module _ (bs : List Word) (column touched : ℕ) (lanes : List ℕ) (sums : List
     pub rows_same : length rows ≡ length rows₀
     pub columns_same : length columns ≡ length columns₀
     pub values_same : length values ≡ length values₀
-    pub high : i ≤ touched
     pub inside : end ≤ room
     pub gives : staged end rows columns values ++ to_lay i ≡ whole
-
-  pub term_start : count ≤ room → TermState rows₀ columns₀ values₀ count 0
-  term_start h = record { rows_same = refl; columns_same = refl; values_same = refl; high = omega arith; inside = h; gives = refl }
 
   module _ (hl : word_lanes * touched ≤ length lanes) (hs : 2 * touched ≤ length sums) (lent : StageRoom room rows₀ columns₀ values₀) (rows columns : List ℕ) (values : List Float) (end i : ℕ) (s : TermState rows columns values end i) where
     long : length (staged end rows columns values) ≡ end
@@ -57,7 +53,6 @@ module _ (bs : List Word) (column touched : ℕ) (lanes : List ℕ) (sums : List
             rows_same = s.rows_same;
             columns_same = s.columns_same;
             values_same = s.values_same;
-            high = omega arith;
             inside = s.inside;
             gives = ap (λ (L : List Entry). staged end rows columns values ++ L) (sym q) ∙ s.gives;
           }
@@ -84,7 +79,7 @@ module _ (bs : List Word) (column touched : ℕ) (lanes : List ℕ) (sums : List
           found_next = by_test false (ne_eqb place 0 g)
 
           -- no room for it
-          pub term_full : end ≡ room → Lays room whole rows columns values Full
+          pub term_full : end ≡ room → Lays room whole rows columns values None
           term_full q =
               let n : length whole ≡ end + length (to_lay i) = ap length (sym s.gives) ∙ length-append (staged end rows columns values) (to_lay i) ∙ ap (λ (k : ℕ). k + length (to_lay i)) long in
               let k = ap length found_next in
@@ -106,7 +101,6 @@ module _ (bs : List Word) (column touched : ℕ) (lanes : List ℕ) (sums : List
                   rows_same = length-set rows end (place - 1) ∙ s.rows_same;
                   columns_same = length-set columns end column ∙ s.columns_same;
                   values_same = length-set values end t.num.re ∙ s.values_same;
-                  high = omega arith;
                   inside = omega (arith, s.inside);
                   gives =
                       ap (λ (L : List Entry). L ++ to_lay (i + 1)) m
@@ -115,7 +109,7 @@ module _ (bs : List Word) (column touched : ℕ) (lanes : List ℕ) (sums : List
                       ∙ s.gives;
                 }
 
-    pub term_done : touched ≤ i → Lays room whole rows columns values (Held end)
+    pub term_done : touched ≤ i → Lays room whole rows columns values (Some end)
     unfolding column_entries
     term_done h =
         let n : to_lay i ≡ [] = ap (column_entries bs column) (left_none touched lanes sums hl hs i h) in

@@ -2,28 +2,24 @@
 -- SPDX-License-Identifier: Apache-2.0
 
 -- Contracts between functions: what the functions that stage entries ask for, answer and leave.
-use Rattle.std.specs.Prelude.{ℕ, suc, ◌<◌, ◌≤◌, ◌*◌, ◌≡◌, List, [], ◌∷◌, Float, length, get_or, Bool, true, ◌&&◌, cond, eqb, ltb}
+use Rattle.std.specs.Prelude.{ℕ, suc, ◌<◌, ◌≤◌, ◌*◌, ◌≡◌, List, [], ◌∷◌, Float, length, get_or, Bool, true, ◌&&◌, cond, eqb, ltb, Option, Some, None, Result, Ok}
 use Rattle.word.specs.Word.{identity}
 use Rattle.word.specs.declared.word.Word.{Word}
 use Rattle.model.specs.Terms.{Term}
 use Rattle.columns.specs.Columns.{place_in}
 use Rattle.slots.specs.Between.{Slotted}
-use Rattle.refusal.specs.declared.Answer.{Answer}
+use Rattle.refusal.specs.declared.Refusal.{Refusal}
+use Rattle.refusal.specs.Cause.{Answer}
 use Rattle.word.specs.Flat.{words, word_lanes}
-use Rattle.sums.specs.declared.sums.Added.{Added}
-use Rattle.sums.specs.declared.sums.Added.TheVariants.{Held, Full}
 use Rattle.model.specs.Stored.{ModelTables}
 use Rattle.model.specs.Tested.{test_model}
 use Rattle.model.specs.declared.stored.Model.{Model}
 use Rattle.rules_by_index.specs.Near.{ModelIndexed}
 use Rattle.lent.specs.Between.{AllInside}
-use Rattle.action.specs.declared.act.Acted.{Acted}
 use Rattle.columns.specs.Entries.{Entry, staged}
 use Rattle.order.specs.Members.{Member}
 use Rattle.columns.specs.Repeats.{first_repeat}
 use Rattle.columns.specs.Stages.{answered}
-use Rattle.refusal.specs.declared.Answer.TheVariants as Tests
-use Rattle.action.specs.declared.act.Acted.TheVariants as Acts
 
 -- a term of the action on the word at column c whose word stands at row r, with its real part
 pub record Entered (act : Word → List Term) (bs : List Word) (r c : ℕ) (v : Float) : Type 0 where
@@ -45,7 +41,7 @@ pub record LaysDistinct (ws : List Word) (heads nexts heads' nexts' : List ℕ) 
 
 -- a tested model with its index, and a mask
 pub record ModelReady (m : Model) (t : ModelTables) (hIndex jIndex mask : List ℕ) : Type 0 where
-  pub tested : test_model m t ≡ Tests.Accepted
+  pub tested : test_model m t ≡ Ok tt
   pub indexed : ModelIndexed m t hIndex jIndex
   pub h_rows : 64 * m.qubits ≤ length hIndex
   pub j_rows : 64 * m.qubits ≤ length jIndex
@@ -69,15 +65,15 @@ pub record StageRoom (room : ℕ) (rows columns : List ℕ) (values : List Float
   pub values_long : room ≤ length values
 
 -- Full where there are more entries than places, else how many stand
-abbrev pub answer : ℕ → List Entry → Added
-answer room E = cond (ltb room (length E)) Full (Held (length E))
+abbrev pub answer : ℕ → List Entry → Option ℕ
+answer room E = cond (ltb room (length E)) None (Some (length E))
 
 -- what laying entries behind those that stand answers and leaves
-pub record Lays (room : ℕ) (E : List Entry) (rows columns : List ℕ) (values : List Float) (r : Added) : Type 0 where
+pub record Lays (room : ℕ) (E : List Entry) (rows columns : List ℕ) (values : List Float) (r : Option ℕ) : Type 0 where
   pub answers : r ≡ answer room E
-  pub held : (n : ℕ) → r ≡ Held n → staged n rows columns values ≡ E
+  pub held : (n : ℕ) → r ≡ Some n → staged n rows columns values ≡ E
 
 -- what laying all columns answers and leaves
-pub record Stages (tests : Answer) (E : List Entry) (rows columns : List ℕ) (values : List Float) (r : Acted) : Type 0 where
+pub record Stages (tests : Answer) (E : List Entry) (rows columns : List ℕ) (values : List Float) (r : Result ℕ Refusal) : Type 0 where
   pub answers : r ≡ answered tests (length E)
-  pub held : (n : ℕ) → r ≡ Acts.Listed n → staged n rows columns values ≡ E
+  pub held : (n : ℕ) → r ≡ Ok n → staged n rows columns values ≡ E

@@ -2,10 +2,9 @@
 -- SPDX-License-Identifier: Apache-2.0
 
 -- The generator over a basis, listed by column, then word; and 13, where one of its columns finds no room.
-use Rattle.std.specs.Prelude.{ℕ, suc, ◌+◌, ◌-◌, cond, List, [], ◌∷◌, ◌++◌, eqb, ltb, length}
+use Rattle.std.specs.Prelude.{ℕ, suc, ◌+◌, ◌-◌, cond, List, [], ◌∷◌, ◌++◌, eqb, ltb, length, Ok, Err}
 use Rattle.refusal.specs.declared.Refusal.TheVariants.{TableFull}
-use Rattle.refusal.specs.declared.Answer.{Answer}
-use Rattle.refusal.specs.declared.Answer.TheVariants.{Accepted, Refused}
+use Rattle.refusal.specs.Cause.{Answer}
 use Rattle.word.specs.declared.word.Word.{Word}
 use Rattle.slots.specs.Slots.{last_of}
 use Rattle.model.specs.Stored.{ModelTables}
@@ -36,12 +35,12 @@ generator_of m t bs = columns_from (action_of m t) bs 0 bs
 -- ---- 13
 -- where more places of a table are needed than lent
 abbrev pub room_for : ℕ → ℕ → ℕ → Answer → Answer
-room_for table places needed after = cond (ltb places needed) (Refused (TableFull table places)) after
+room_for table places needed after = cond (ltb places needed) (Err (TableFull table places)) after
 
 -- columns in position order, so many entries before them: for each table 1, words touched by its action, then table 3, entries
 module _ (touched : Word → ℕ) (act : Word → List Term) (bs : List Word) (sumRoom entryRoom : ℕ) where
   unfoldable pub column_tests : ℕ → ℕ → List Word → Answer
-  column_tests c before [] = Accepted
+  column_tests c before [] = (Ok tt)
   column_tests c before (p ∷ ps) =
       room_for 1 sumRoom (touched p)
       (room_for 3 entryRoom (before + length (column_entries bs c (act p)))

@@ -2,13 +2,11 @@
 -- SPDX-License-Identifier: Apache-2.0
 
 -- Entries staged in lent tables: what the functions that lay them ask for, answer and leave.
-use Rattle.std.specs.Prelude.{ℕ}
-use Rattle.refusal.specs.declared.Answer.{Answer}
-use Rattle.refusal.specs.declared.Answer.TheVariants as Tests
-use Rattle.action.specs.declared.act.Acted.{Acted}
-use Rattle.action.specs.declared.act.Acted.TheVariants as Acts
+use Rattle.std.specs.Prelude.{ℕ, Result, Ok, Err}
+use Rattle.refusal.specs.declared.Refusal.{Refusal}
+use Rattle.refusal.specs.Cause.{Answer}
 
 -- how many entries stand where no column was refused
-abbrev pub answered : Answer → ℕ → Acted
-answered Tests.Accepted n = Acts.Listed n
-answered (Tests.Refused q) n = Acts.Refused q
+abbrev pub answered : Answer → ℕ → Result ℕ Refusal
+answered (Ok _) n = Ok n
+answered (Err q) n = Err q

@@ -19,14 +19,7 @@ use word::word::same_word;
 fn all_zero(t: &[u64]) -> bool
     ensures { result ≡ all_zero t.now }
 {
-    let mut i = 0;
-    while i < t.len() {
-        if t[i] != 0 {
-            return false;
-        }
-        i += 1;
-    }
-    true
+    t.iter().all(|x| *x == 0)
 }
 
 fn both_zero(a: &[u64], b: &[u64]) -> bool
@@ -45,13 +38,11 @@ fn stood_before(lanes: &[u64], k: usize) -> bool
     ensures { result ≡ repeats_at (words lanes.now) k }
 {
     let w = word_at(lanes, k);
-    let mut i = 0;
-    while i < k {
+    for i in 0..k {
         let v = word_at(lanes, i);
         if same_word(v, w) {
             return true;
         }
-        i += 1;
     }
     false
 }
@@ -60,12 +51,10 @@ fn search_plainly(lanes: &[u64]) -> usize
     ensures { result ≡ first_repeat (words lanes.now) }
 {
     let count = lanes.len() / WORD_LANES;
-    let mut k = 0;
-    while k < count {
+    for k in 0..count {
         if stood_before(lanes, k) {
             return k;
         }
-        k += 1;
     }
     count
 }
@@ -75,13 +64,11 @@ fn search_slots(lanes: &[u64], heads: &[u64], nexts: &[u64]) -> usize
     ensures { result ≡ first_repeat (words lanes.now) }
 {
     let count = nexts.len();
-    let mut i = 0;
-    while i < count {
+    for i in 0..count {
         let place = place_before(lanes, heads, nexts, i);
         if place != 0 {
             return i;
         }
-        i += 1;
     }
     count
 }

@@ -10,12 +10,10 @@ ghost use Rattle.columns.specs.Between.{ModelReady, BasisReady, SumRoom, StageRo
 ghost use Rattle.columns.specs.Columns.{generator_of, generator_room};
 
 use crate::terms::stage_terms;
-use action::act::Acted;
 use lent::sizes::{LIST_TABLE, SUMS_TABLE};
 use model::stored::Model;
 use refusal::Refusal;
 use rules_by_index::near::put_rules_near;
-use sums::sums::Added;
 use word::flat::{WORD_LANES, word_at};
 
 // How many entries are staged; 13 at the first column that finds no room.
@@ -40,21 +38,20 @@ pub fn stage_columns(
     columns: &mut [u32],
     values: &mut [f64],
     entry_room: usize,
-) -> Acted
+) -> Result<usize, Refusal>
     requires { (0 < length basis.now / word_lanes → ModelReady m (model_tables h_words.now h_coeffs.now jumps.now rates.now t_words.now t_numbers.now) h_index.now j_index.now mask.old) × BasisReady m.qubits basis.now heads.now nexts.now × SumRoom sum_room work_words.old work_sums.old × StageRoom entry_room rows.old columns.old values.old }
     ensures { Stages (generator_room m (model_tables h_words.now h_coeffs.now jumps.now rates.now t_words.now t_numbers.now) (words basis.now) sum_room entry_room) (generator_of m (model_tables h_words.now h_coeffs.now jumps.now rates.now t_words.now t_numbers.now) (words basis.now)) rows.new columns.new values.new result }
 {
     let len = basis.len() / WORD_LANES;
     let mut end = 0;
-    let mut c = 0;
-    while c < len {
+    for c in 0..len {
         let p = word_at(basis, c);
         let added = put_rules_near(
             work_words, work_sums, sum_room, m, h_words, h_coeffs, jumps, rates, t_words,
             t_numbers, h_index, j_index, mask, p,
         );
-        let Added::Held(touched) = added else {
-            return Acted::Refused(Refusal::TableFull {
+        let Some(touched) = added else {
+            return Err(Refusal::TableFull {
                 table: SUMS_TABLE,
                 places: sum_room,
             });
@@ -63,14 +60,13 @@ pub fn stage_columns(
             work_words, work_sums, touched, basis, heads, nexts, c, rows, columns, values,
             entry_room, end,
         );
-        let Added::Held(n) = laid else {
-            return Acted::Refused(Refusal::TableFull {
+        let Some(n) = laid else {
+            return Err(Refusal::TableFull {
                 table: LIST_TABLE,
                 places: entry_room,
             });
         };
         end = n;
-        c += 1;
     }
-    Acted::Listed(end)
+    Ok(end)
 }

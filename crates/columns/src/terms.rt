@@ -14,7 +14,6 @@ ghost use Rattle.columns.specs.Between.{StageRoom, Lays};
 use model::term::term_at;
 use number::scalar::is_zero;
 use slots::last_place;
-use sums::sums::Added;
 
 // Lays an entry for each of the first `touched` sums that is listed and whose word is in the basis,
 // behind the `count` entries that stand: how many stand then, or that there is no room.
@@ -31,34 +30,30 @@ pub fn stage_terms(
     values: &mut [f64],
     room: usize,
     count: usize,
-) -> Added
+) -> Option<usize>
     requires { (word_lanes * touched ≤ length sum_words.now) × (2 * touched ≤ length sums.now) × Slotted (words basis.now) heads.now nexts.now × (length (words basis.now) < 4294967296) × (column < 4294967296) × StageRoom room rows.old columns.old values.old × (count ≤ room) }
     ensures { Lays room (staged count rows.old columns.old values.old ++ column_entries (words basis.now) column (listed (sum_rows touched sum_words.now sums.now))) rows.new columns.new values.new result }
 {
     let mut end = count;
-    let mut i = 0;
-    while i < touched {
+    for i in 0..touched {
         let t = term_at(sum_words, sums, i);
         let x = t.number.re;
         if is_zero(x) {
-            i += 1;
-        } else {
-            let w = t.word;
-            let place = last_place(basis, heads, nexts, w);
-            if place == 0 {
-                i += 1;
-            } else {
-                if end == room {
-                    return Added::Full;
-                }
-                let row = place - 1;
-                rows[end] = row as u32;
-                columns[end] = column as u32;
-                values[end] = x;
-                end += 1;
-                i += 1;
-            }
+            continue;
         }
+        let w = t.word;
+        let place = last_place(basis, heads, nexts, w);
+        if place == 0 {
+            continue;
+        }
+        if end == room {
+            return None;
+        }
+        let row = place - 1;
+        rows[end] = row as u32;
+        columns[end] = column as u32;
+        values[end] = x;
+        end += 1;
     }
-    Added::Held(end)
+    Some(end)
 }

@@ -13,8 +13,8 @@ use lib.ListN.{get_or, length, take, drop, replicate, length-append, length-drop
 use lib.Seq.{length-take-le, take_all, take_at, drop_at}
 use Rattle.refusal.specs.declared.Refusal.{Refusal}
 use Rattle.refusal.specs.declared.Refusal.TheVariants.{SumNotFinite}
-use Rattle.refusal.specs.declared.Answer.{Answer}
-use Rattle.refusal.specs.declared.Answer.TheVariants.{Accepted, Refused}
+use Rattle.std.specs.Prelude.{Ok, Err}
+use Rattle.refusal.specs.Cause.{Answer}
 use Rattle.number.specs.Floats.{float0}
 use Rattle.lent.specs.Tests.{first_to}
 use Rattle.lent.proofs.Firsts.{NoneBefore, first_before, first_none, first_inside}
@@ -49,7 +49,7 @@ module _ (offsets columns : List ℕ) (values input : List Float) (overwrite : B
   full = full_product offsets columns values input overwrite output
 
   abbrev tests : Answer
-  tests = table_tests rows offsets columns values input overwrite output Accepted
+  tests = table_tests rows offsets columns values input overwrite output (Ok tt)
 
   abbrev stops : ℕ → Bool
   stops = row_stops offsets columns values input overwrite output
@@ -99,12 +99,12 @@ module _ (offsets columns : List ℕ) (values input : List Float) (overwrite : B
     abbrev left_with : Answer → List Float → List Float → Multiplying
     left_with r output' work' = record { answer = r; output = output'; work = work' }
 
-    pub refused_answer : (a : Answer) (r : Refusal) (work' : List Float) → a ≡ tests → a ≡ Refused r → work' ≡ work → left_with a output work' ≡ answered
-    refused_answer a r work' e f g = rw (sym e, f, g)
+    pub refused_answer : (r : Refusal) (work' : List Float) → tests ≡ Err r → work' ≡ work → left_with (Err r) output work' ≡ answered
+    refused_answer r work' e f = rw (e, f)
 
     module _ (outs : length output ≡ rows) (enough : rows ≤ length work) where
-      stored_answer : (work' output'' work'' : List Float) → tests ≡ Accepted → first_to rows (not_finite products) ≡ rows → work' ≡ products ++ drop rows work
-          → output'' ≡ take (length output) work' → work'' ≡ replicate (length work') float0 → left_with Accepted output'' work'' ≡ answered
+      stored_answer : (work' output'' work'' : List Float) → tests ≡ Ok tt → first_to rows (not_finite products) ≡ rows → work' ≡ products ++ drop rows work
+          → output'' ≡ take (length output) work' → work'' ≡ replicate (length work') float0 → left_with (Ok tt) output'' work'' ≡ answered
       unfolding finished
       stored_answer work' output'' work'' ok f e x y =
           let l = product_length rows offsets columns values input overwrite output in
@@ -112,11 +112,11 @@ module _ (offsets columns : List ℕ) (values input : List Float) (overwrite : B
           let n : length work' ≡ length work = ap length e ∙ rw (length-append, l, length-drop) (omega arith) in
           rw (ok, f, le-ltb rows rows (omega arith), x, y, t, n)
 
-      pub quick_answer : (summed : Bool) (work' output'' work'' : List Float) → QuickTo summed work' → summed ≡ true → output'' ≡ take (length output) work' → work'' ≡ replicate (length work') float0 → left_with Accepted output'' work'' ≡ answered
+      pub quick_answer : (summed : Bool) (work' output'' work'' : List Float) → QuickTo summed work' → summed ≡ true → output'' ≡ take (length output) work' → work'' ≡ replicate (length work') float0 → left_with (Ok tt) output'' work'' ≡ answered
       quick_answer summed work' output'' work'' q e x y = let p = q.passed e in stored_answer work' output'' work'' p.0 p.1 p.2 x y
 
       -- ---- all tests passed, and a second walk
-      module _ (sized : length offsets ≡ rows + 1) (same : length values ≡ length columns) (ok : tests ≡ Accepted) (d : ℕ) (work' : List Float) (w : WalkedTo d work') where
+      module _ (sized : length offsets ≡ rows + 1) (same : length values ≡ length columns) (ok : tests ≡ Ok tt) (d : ℕ) (work' : List Float) (w : WalkedTo d work') where
         first_is : d ≡ first_to rows (not_finite products)
         first_is = w.stopped ∙ stops_first offsets columns values input overwrite output sized same (accepted_sound rows offsets columns values input overwrite output ok)
 
@@ -126,11 +126,11 @@ module _ (offsets columns : List ℕ) (values input : List Float) (overwrite : B
             let f = first_is in
             ap length w.laid ∙ rw (length-append, front_length d (omega arith), length-drop) (omega arith)
 
-        pub late_answer : (work'' : List Float) → work'' ≡ replicate (length work') float0 → d < rows → left_with (Refused (SumNotFinite d)) output work'' ≡ answered
+        pub late_answer : (work'' : List Float) → work'' ≡ replicate (length work') float0 → d < rows → left_with (Err (SumNotFinite d)) output work'' ≡ answered
         unfolding finished
         late_answer work'' y h = rw (ok, sym first_is, lt-ltb d rows h, y, late_length)
 
-        pub slow_answer : (output'' work'' : List Float) → output'' ≡ take (length output) work' → work'' ≡ replicate (length work') float0 → rows ≤ d → left_with Accepted output'' work'' ≡ answered
+        pub slow_answer : (output'' work'' : List Float) → output'' ≡ take (length output) work' → work'' ≡ replicate (length work') float0 → rows ≤ d → left_with (Ok tt) output'' work'' ≡ answered
         slow_answer output'' work'' x y h =
             let i = first_inside rows (not_finite products) in
             let f = first_is in
@@ -139,20 +139,20 @@ module _ (offsets columns : List ℕ) (values input : List Float) (overwrite : B
 -- ---- 8 and 9, then the rest
 module _ (rows : ℕ) (offsets columns : List ℕ) (values input : List Float) (overwrite : Bool) (output work : List Float) where
   abbrev lengths : Answer
-  lengths = length_tests rows offsets columns values input output work Accepted
+  lengths = length_tests rows offsets columns values input output work (Ok tt)
 
   abbrev whole : Multiplying
   whole = multiply rows offsets columns values input overwrite output work
 
-  pub lengths_refused : (a : Answer) (r : Refusal) → a ≡ lengths → a ≡ Refused r → ◌≡◌ {A = Multiplying} (record { answer = a; output = output; work = work }) whole
+  pub lengths_refused : (r : Refusal) → lengths ≡ Err r → ◌≡◌ {A = Multiplying} (record { answer = Err r; output = output; work = work }) whole
   unfolding multiply
-  lengths_refused a r e f =
-      rw (lengths_then rows offsets columns values input output work (table_tests rows offsets columns values input overwrite output Accepted), sym e, f)
+  lengths_refused r e =
+      rw (lengths_then rows offsets columns values input output work (table_tests rows offsets columns values input overwrite output (Ok tt)), e)
 
-  pub lengths_passed : (m : Multiplying) → lengths ≡ Accepted
-      → m ≡ tested (length input) offsets columns values input overwrite output work (table_tests (length input) offsets columns values input overwrite output Accepted) (finished (length input) offsets columns values input overwrite output work)
+  pub lengths_passed : (m : Multiplying) → lengths ≡ Ok tt
+      → m ≡ tested (length input) offsets columns values input overwrite output work (table_tests (length input) offsets columns values input overwrite output (Ok tt)) (finished (length input) offsets columns values input overwrite output work)
       → m ≡ whole
   unfolding multiply
   lengths_passed m e f =
       let h = lengths_agree rows offsets columns values input output work e in
-      rw (lengths_then rows offsets columns values input output work (table_tests rows offsets columns values input overwrite output Accepted), e) (rw h.input_agrees at f)
+      rw (lengths_then rows offsets columns values input output work (table_tests rows offsets columns values input overwrite output (Ok tt)), e) (rw h.input_agrees at f)

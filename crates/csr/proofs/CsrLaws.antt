@@ -13,8 +13,8 @@ use native.Mathlib.Decide.{dec_lt}
 use borrow.Author.Tests.{le-ltb, lt-ltb}
 use lib.Ieee.{Float, nan, binary64, add}
 use lib.ListN.{get_or, length, replicate}
-use Rattle.refusal.specs.declared.Answer.{Answer}
-use Rattle.refusal.specs.declared.Answer.TheVariants.{Accepted, Refused}
+use Rattle.std.specs.Prelude.{Ok, Err}
+use Rattle.refusal.specs.Cause.{Answer}
 use Rattle.number.specs.Floats.{float0}
 use Rattle.lent.specs.Tests.{first_to, and_then}
 use Rattle.lent.proofs.Firsts.{NoneBefore, first_before}
@@ -129,21 +129,21 @@ module _ (rows : ℕ) (offsets columns : List ℕ) (values input : List Float) (
   abbrev after : Answer → Multiplying
   after a = tested rows offsets columns values input overwrite output work a (finished rows offsets columns values input overwrite output work)
 
-  both_accepted : (a b : Answer) → and_then a b ≡ Accepted → (a ≡ Accepted) × (b ≡ Accepted)
-  both_accepted Accepted b e = (refl, e)
-  both_accepted (Refused r) b e = absurd (false≢true (ap accepts e))
+  both_accepted : (a b : Answer) → and_then a b ≡ Ok tt → (a ≡ Ok tt) × (b ≡ Ok tt)
+  both_accepted (Ok _) b e = (refl, e)
+  both_accepted (Err r) b e = absurd (false≢true (ap accepts e))
 
-  passed : (a : Answer) → (after a).answer ≡ Accepted → (a ≡ Accepted) × (first_to rows (not_finite products) < rows → ⊥)
+  passed : (a : Answer) → (after a).answer ≡ Ok tt → (a ≡ Ok tt) × (first_to rows (not_finite products) < rows → ⊥)
   unfolding finished
-  passed Accepted e = (refl, λ l. false≢true (ap accepts (rw (lt-ltb (first_to rows (not_finite products)) rows l) at e)))
-  passed (Refused r) e = absurd (false≢true (ap accepts e))
+  passed (Ok _) e = (refl, λ l. false≢true (ap accepts (rw (lt-ltb (first_to rows (not_finite products)) rows l) at e)))
+  passed (Err r) e = absurd (false≢true (ap accepts e))
 
-  pub accepted : whole.answer ≡ Accepted → Stored
+  pub accepted : whole.answer ≡ Ok tt → Stored
   unfolding multiply finished
   accepted e =
-      let t = table_tests rows offsets columns values input overwrite output Accepted in
+      let t = table_tests rows offsets columns values input overwrite output (Ok tt) in
       let p = passed (length_tests rows offsets columns values input output work t) e in
-      let b = both_accepted (length_tests rows offsets columns values input output work Accepted) t (sym (lengths_then rows offsets columns values input output work t) ∙ p.0) in
+      let b = both_accepted (length_tests rows offsets columns values input output work (Ok tt)) t (sym (lengths_then rows offsets columns values input output work t) ∙ p.0) in
       let f : rows ≤ first_to rows (not_finite products) = no_less (first_to rows (not_finite products)) rows p.1 in
       record {
         agree = lengths_agree rows offsets columns values input output work b.0;

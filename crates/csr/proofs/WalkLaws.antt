@@ -10,11 +10,10 @@ use native.Mathlib.Omega.{arith}
 use borrow.Author.Tests.{le-leb, lt-leb}
 use lib.Dec.{leb}
 use lib.Ieee.{Float, nan, binary64, add}
-use lib.ListN.{get_or, length, take, drop, set, length-append, length-drop}
-use lib.Seq.{length-take-le}
+use lib.ListN.{get_or, length, take, drop, set}
 use Rattle.number.specs.Floats.{is_finite}
 use Rattle.lent.specs.Tests.{first_to}
-use Rattle.lent.proofs.Firsts.{NoneBefore, none_start, none_more, first_here, first_none, first_inside}
+use Rattle.lent.proofs.Firsts.{NoneBefore, none_more, first_here, first_none, first_inside}
 use Rattle.lent.proofs.WriteLaws.{written_more}
 use Rattle.word.proofs.CountLaws.{items_length, items_at}
 use Rattle.matrix_row.specs.Rows.{row_at, part_of, row_of, row_entries}
@@ -136,33 +135,23 @@ module _ (offsets columns : List ℕ) (values input : List Float) where
     -- ---- a walk that has passed the first r rows
     module _ (work₀ : List Float) where
       pub record Walking (r : ℕ) (work : List Float) : Type 0 where
-        pub room : r ≤ rows
         pub none : NoneBefore stops r
         pub laid : work ≡ take r products ++ drop r work₀
-
-      pub walking_start : Walking 0 work₀
-      walking_start = record { room = omega arith; none = none_start stops; laid = refl }
 
       module _ (r : ℕ) (work : List Float) (w : Walking r work) where
         pub stopped_here : r < rows → stops r ≡ true → Walked offsets columns values input overwrite output work₀ r work
         stopped_here h e = record { stopped = sym (first_here rows stops r h w.none e); laid = w.laid }
 
-        pub stopped_never : rows ≤ r → Walked offsets columns values input overwrite output work₀ rows work
-        stopped_never h =
-            let e : r ≡ rows = omega (arith, w.room) in
+        pub stopped_never : r ≤ rows → rows ≤ r → Walked offsets columns values input overwrite output work₀ rows work
+        stopped_never room h =
+            let e : r ≡ rows = omega arith in
             record { stopped = sym (first_none rows stops (λ i m. w.none i (omega arith))); laid = w.laid ∙ ap (λ (n : ℕ). take n products ++ drop n work₀) e }
 
         module _ (enough : rows ≤ length work₀) where
-          pub work_long : length work ≡ length work₀
-          work_long =
-              let l = full_length in
-              ap length w.laid ∙ rw (length-append, length-take-le r products (omega (arith, w.room)), length-drop) (omega (arith, w.room))
-
           pub walking_next : r < rows → (v : Float) → v ≡ stored_here r → stops r ≡ false → Walking (r + 1) (set work r v)
           walking_next h v e f =
               let l = full_length in
               record {
-                room = omega arith;
                 none = none_more stops r w.none f;
                 laid = written_more nan products work₀ work (set work r v) r v (omega arith) (omega arith) w.laid (e ∙ sym (product_at r nan h)) refl;
               }

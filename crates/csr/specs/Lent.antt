@@ -3,7 +3,7 @@
 
 -- What every call asks of the offsets and columns of a lent matrix by rows: 8, 9, then 7 with the place in its own table.
 use Rattle.std.specs.Prelude.{ℕ, ◌+◌, ◌-◌, Bool, not, ◌&&◌, ◌||◌, List, eqb, ltb, leb, get_or, length}
-use Rattle.refusal.specs.declared.Answer.{Answer}
+use Rattle.refusal.specs.Cause.{Answer}
 use Rattle.word.specs.Count.{any_to}
 use Rattle.lent.specs.Tests.{counted, entries, equal}
 use Rattle.lent.specs.Words.{max_words}

@@ -2,13 +2,12 @@
 -- SPDX-License-Identifier: Apache-2.0
 
 -- The product of a lent matrix by rows with a vector: refusals in their order, the answer, and every lent table afterwards.
-use Rattle.std.specs.Prelude.{ℕ, Bool, cond, List, [], ◌∷◌, map, ltb, Float, get_or, length, replicate}
+use Rattle.std.specs.Prelude.{ℕ, Bool, cond, List, [], ◌∷◌, map, ltb, Float, get_or, length, replicate, Ok, Err}
 use Rattle.std.specs.Float.{nan, binary64}
 use Rattle.std.specs.Float.Ieee.{add}
 use Rattle.refusal.specs.declared.Refusal.{Refusal}
 use Rattle.refusal.specs.declared.Refusal.TheVariants.{SumNotFinite}
-use Rattle.refusal.specs.declared.Answer.{Answer}
-use Rattle.refusal.specs.declared.Answer.TheVariants.{Accepted, Refused}
+use Rattle.refusal.specs.Cause.{Answer}
 use Rattle.number.specs.Floats.{float0}
 use Rattle.lent.specs.Tests.{in_turn, lent, first_to, entries, equal}
 use Rattle.lent.specs.Numbers.{not_finite}
@@ -55,11 +54,11 @@ module _ (rows : ℕ) (offsets columns : List ℕ) (values input : List Float) (
   module _ (work : List Float) where
     -- a refusal changes nothing
     abbrev pub unchanged : Refusal → Multiplying
-    unchanged r = record { answer = Refused r; output = output; work = work }
+    unchanged r = record { answer = Err r; output = output; work = work }
 
     abbrev pub tested : Answer → Multiplying → Multiplying
-    tested Accepted after = after
-    tested (Refused r) after = unchanged r
+    tested (Ok _) after = after
+    tested (Err r) after = unchanged r
 
     -- work is zero after acceptance and 14
     abbrev pub left : Answer → List Float → Multiplying
@@ -68,8 +67,8 @@ module _ (rows : ℕ) (offsets columns : List ℕ) (values input : List Float) (
     -- 14 at the first row whose value to be stored is not finite
     unfoldable pub finished : Multiplying
     finished =
-        cond (ltb (first_to rows (not_finite product)) rows) (left (Refused (SumNotFinite (first_to rows (not_finite product)))) output)
-        (left Accepted product)
+        cond (ltb (first_to rows (not_finite product)) rows) (left (Err (SumNotFinite (first_to rows (not_finite product)))) output)
+        (left (Ok tt) product)
 
     unfoldable pub multiply : Multiplying
-    multiply = tested (length_tests rows offsets columns values input output work (table_tests Accepted)) finished
+    multiply = tested (length_tests rows offsets columns values input output work (table_tests (Ok tt))) finished

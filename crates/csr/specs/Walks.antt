@@ -2,7 +2,7 @@
 -- SPDX-License-Identifier: Apache-2.0
 
 -- Contracts between functions: the one walk of the product. It passes a row where all is well, and stops at the first where anything is amiss. It skips no zero.
-use Rattle.std.specs.Prelude.{ℕ, zero, suc, ◌+◌, ◌≡◌, Bool, true, false, not, ◌&&◌, ◌||◌, cond, List, ◌++◌, map, eqb, leb, Float, pos, negsuc, get_or, length, take, drop}
+use Rattle.std.specs.Prelude.{ℕ, zero, suc, ◌+◌, ◌≡◌, Bool, true, false, not, ◌&&◌, ◌||◌, cond, List, ◌++◌, map, eqb, leb, Float, pos, negsuc, get_or, length, take, drop, Ok}
 use Rattle.std.specs.Float.{nan, inf, fin, binary64}
 use Rattle.std.specs.Float.Ieee.{add}
 use Rattle.number.specs.Floats.{is_finite}
@@ -11,7 +11,6 @@ use Rattle.lent.specs.Numbers.{not_finite}
 use Rattle.word.specs.Count.{up_to}
 use Rattle.matrix_row.specs.Rows.{row_of, row_entries}
 use Rattle.matrix_row.specs.Walks.{bad_place, full_sum}
-use Rattle.refusal.specs.declared.Answer.TheVariants.{Accepted}
 use Rattle.csr.specs.Products.{table_tests, product}
 
 -- +0.0, which −0.0 is not
@@ -59,5 +58,5 @@ module _ (offsets columns : List ℕ) (values input : List Float) where
 
     -- all tests pass, all that is to be stored is finite, and it stands in work; or nothing is changed
     pub record Quick (work : List Float) (summed : Bool) (work' : List Float) : Type 0 where
-      pub passed : summed ≡ true → (table_tests (length input) offsets columns values input overwrite output Accepted ≡ Accepted) × (first_to (length input) (not_finite (product (length input) offsets columns values input overwrite output)) ≡ length input) × (work' ≡ product (length input) offsets columns values input overwrite output ++ drop (length input) work)
+      pub passed : summed ≡ true → (table_tests (length input) offsets columns values input overwrite output (Ok tt) ≡ Ok tt) × (first_to (length input) (not_finite (product (length input) offsets columns values input overwrite output)) ≡ length input) × (work' ≡ product (length input) offsets columns values input overwrite output ++ drop (length input) work)
       pub kept : summed ≡ false → work' ≡ work

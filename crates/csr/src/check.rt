@@ -4,7 +4,6 @@
 // What a lent matrix by rows is asked, and what a product asks of all that it is lent: 8 and 9, and 7 with the
 // place in its own table.
 ghost use Rattle.std.specs.Prelude.{◌≡◌, ◌+◌, length};
-ghost use Rattle.refusal.specs.declared.Answer.TheVariants.{Accepted};
 ghost use Rattle.lent.specs.Tests.{first_to};
 ghost use Rattle.csr.specs.Lent.{offset_fails, bad_offset, bad_column, rows_tests, places_tests};
 ghost use Rattle.csr.specs.Products.{length_tests, table_tests};
@@ -15,19 +14,19 @@ use lent::tests::mismatch;
 use lent::words::MAX_WORDS;
 use matrix_row::rows::wide;
 use matrix_row::sums::is_misplaced;
-use refusal::{Answer, Refusal};
+use refusal::Refusal;
 
 // 8 and 9 of a lent matrix.
-pub fn check_rows(rows: usize, offsets: &[u64]) -> Answer
-    ensures { result ≡ rows_tests rows offsets.now Accepted }
+pub fn check_rows(rows: usize, offsets: &[u64]) -> Result<(), Refusal>
+    ensures { result ≡ rows_tests rows offsets.now (Ok tt) }
 {
     if MAX_WORDS < rows {
-        return Answer::Refused(Refusal::CountAboveLimit { count: rows });
+        return Err(Refusal::CountAboveLimit { count: rows });
     }
     if offsets.len() != rows + 1 {
         return mismatch(rows + 1, offsets.len());
     }
-    Answer::Accepted
+    Ok(())
 }
 
 pub fn check_lengths(
@@ -38,13 +37,10 @@ pub fn check_lengths(
     input: &[f64],
     output: &[f64],
     work: &[f64],
-) -> Answer
-    ensures { result ≡ length_tests rows offsets.now columns.now values.now input.now output.now work.now Accepted }
+) -> Result<(), Refusal>
+    ensures { result ≡ length_tests rows offsets.now columns.now values.now input.now output.now work.now (Ok tt) }
 {
-    let answer = check_rows(rows, offsets);
-    let Answer::Accepted = answer else {
-        return answer;
-    };
+    check_rows(rows, offsets)?;
     if values.len() != columns.len() {
         return mismatch(columns.len(), values.len());
     }
@@ -57,7 +53,7 @@ pub fn check_lengths(
     if work.len() < rows {
         return mismatch(rows, work.len());
     }
-    Answer::Accepted
+    Ok(())
 }
 
 // Whether an offset fails beside the one before it.
@@ -79,17 +75,14 @@ fn first_bad_offset(offsets: &[u64], rows: usize, count: usize) -> usize
     ensures { result ≡ first_to (rows + 1) (bad_offset rows count offsets.now) }
 {
     let mut before = offsets[0] as usize;
-    let mut k = 0;
-    while k < offsets.len() {
-        let here = offsets[k] as usize;
-        let bad = offset_fails(rows, count, k, before, here);
-        if bad {
+    for (k, offset) in offsets.iter().enumerate() {
+        let here = *offset as usize;
+        if offset_fails(rows, count, k, before, here) {
             return k;
         }
         before = here;
-        k += 1;
     }
-    k
+    offsets.len()
 }
 
 // The first column of a row that is out of place; their number where none is.
@@ -97,17 +90,14 @@ fn first_misplaced(columns: &[u32], rows: usize) -> usize
     ensures { result ≡ first_to (length columns.now) (bad_place rows columns.now) }
 {
     let mut least = 0;
-    let mut k = 0;
-    while k < columns.len() {
-        let column = wide(columns[k]);
-        let bad = is_misplaced(column, least, rows);
-        if bad {
+    for (k, narrow) in columns.iter().enumerate() {
+        let column = wide(*narrow);
+        if is_misplaced(column, least, rows) {
             return k;
         }
         least = column + 1;
-        k += 1;
     }
-    k
+    columns.len()
 }
 
 // The first column that fails, row by row; their number where none does.
@@ -115,33 +105,31 @@ fn first_bad_column(offsets: &[u64], columns: &[u32], rows: usize) -> usize
     requires { (length offsets.now ≡ rows + 1) × (first_to (rows + 1) (bad_offset rows (length columns.now) offsets.now) ≡ rows + 1) }
     ensures { result ≡ first_to (length columns.now) (bad_column rows offsets.now columns.now) }
 {
-    let mut r = 0;
-    while r < rows {
+    for r in 0..rows {
         let start = offsets[r] as usize;
         let end = offsets[r + 1] as usize;
         let k = first_misplaced(&columns[start..end], rows);
         if k < end - start {
             return start + k;
         }
-        r += 1;
     }
     columns.len()
 }
 
 // 7 of a lent matrix.
-pub fn check_places(rows: usize, offsets: &[u64], columns: &[u32]) -> Answer
+pub fn check_places(rows: usize, offsets: &[u64], columns: &[u32]) -> Result<(), Refusal>
     requires { length offsets.now ≡ rows + 1 }
-    ensures { result ≡ places_tests rows offsets.now columns.now Accepted }
+    ensures { result ≡ places_tests rows offsets.now columns.now (Ok tt) }
 {
     let offset = first_bad_offset(offsets, rows, columns.len());
     if offset < rows + 1 {
-        return Answer::Refused(Refusal::NumberOutOfRange { index: offset });
+        return Err(Refusal::NumberOutOfRange { index: offset });
     }
     let column = first_bad_column(offsets, columns, rows);
     if column < columns.len() {
-        return Answer::Refused(Refusal::NumberOutOfRange { index: column });
+        return Err(Refusal::NumberOutOfRange { index: column });
     }
-    Answer::Accepted
+    Ok(())
 }
 
 pub fn check_tables(
@@ -152,28 +140,25 @@ pub fn check_tables(
     input: &[f64],
     overwrite: bool,
     output: &[f64],
-) -> Answer
+) -> Result<(), Refusal>
     requires { (length offsets.now ≡ rows + 1) × (length input.now ≡ rows) × (length output.now ≡ rows) }
-    ensures { result ≡ table_tests rows offsets.now columns.now values.now input.now overwrite output.now Accepted }
+    ensures { result ≡ table_tests rows offsets.now columns.now values.now input.now overwrite output.now (Ok tt) }
 {
-    let answer = check_places(rows, offsets, columns);
-    let Answer::Accepted = answer else {
-        return answer;
-    };
+    check_places(rows, offsets, columns)?;
     let value = first_not_finite(values, values.len());
     if value < values.len() {
-        return Answer::Refused(Refusal::NumberOutOfRange { index: value });
+        return Err(Refusal::NumberOutOfRange { index: value });
     }
     let x = first_not_finite(input, rows);
     if x < rows {
-        return Answer::Refused(Refusal::NumberOutOfRange { index: x });
+        return Err(Refusal::NumberOutOfRange { index: x });
     }
     if overwrite {
-        return Answer::Accepted;
+        return Ok(());
     }
     let y = first_not_finite(output, rows);
     if y < rows {
-        return Answer::Refused(Refusal::NumberOutOfRange { index: y });
+        return Err(Refusal::NumberOutOfRange { index: y });
     }
-    Answer::Accepted
+    Ok(())
 }

@@ -3,7 +3,6 @@
 
 // The product of a lent matrix by rows with a vector.
 ghost use Rattle.std.specs.Prelude.{◌≡◌, true, ◌+◌, ◌≤◌, length};
-ghost use Rattle.refusal.specs.declared.Answer.TheVariants.{Accepted};
 ghost use Rattle.csr.specs.Products.{table_tests, tested, finished, multiply};
 ghost use Rattle.csr.specs.Walks.{Ready, Quick};
 
@@ -12,7 +11,7 @@ use crate::sums::sum_rows;
 use crate::work::{first_not_clear, store};
 use lent::clear::clear_numbers;
 use lent::numbers::first_not_finite;
-use refusal::{Answer, Refusal};
+use refusal::Refusal;
 
 // Whether the numbers of the short tables are as the one walk asks.
 fn are_ready(input: &[f64], overwrite: bool, output: &[f64], work: &[f64]) -> bool
@@ -58,8 +57,7 @@ fn try_rows(
     if last != columns.len() {
         return false;
     }
-    let ready = are_ready(input, overwrite, output, work);
-    if !ready {
+    if !are_ready(input, overwrite, output, work) {
         return false;
     }
     let done = sum_rows(offsets, columns, values, input, overwrite, output, work);
@@ -80,27 +78,23 @@ fn multiply_rows(
     overwrite: bool,
     output: &mut [f64],
     work: &mut [f64],
-) -> Answer
+) -> Result<(), Refusal>
     requires { (length offsets.now ≡ length input.now + 1) × (length values.now ≡ length columns.now) × (length output.old ≡ length input.now) × (length input.now ≤ length work.old) }
-    ensures { record { answer = result; output = output.new; work = work.new } ≡ tested (length input.now) offsets.now columns.now values.now input.now overwrite output.old work.old (table_tests (length input.now) offsets.now columns.now values.now input.now overwrite output.old Accepted) (finished (length input.now) offsets.now columns.now values.now input.now overwrite output.old work.old) }
+    ensures { record { answer = result; output = output.new; work = work.new } ≡ tested (length input.now) offsets.now columns.now values.now input.now overwrite output.old work.old (table_tests (length input.now) offsets.now columns.now values.now input.now overwrite output.old (Ok tt)) (finished (length input.now) offsets.now columns.now values.now input.now overwrite output.old work.old) }
 {
     let rows = input.len();
-    let summed = try_rows(offsets, columns, values, input, overwrite, output, work);
-    if summed {
+    if try_rows(offsets, columns, values, input, overwrite, output, work) {
         store(output, work);
-        return Answer::Accepted;
+        return Ok(());
     }
-    let answer = check_tables(rows, offsets, columns, values, input, overwrite, output);
-    let Answer::Accepted = answer else {
-        return answer;
-    };
+    check_tables(rows, offsets, columns, values, input, overwrite, output)?;
     let done = sum_rows(offsets, columns, values, input, overwrite, output, work);
     if done < rows {
         clear_numbers(work);
-        return Answer::Refused(Refusal::SumNotFinite { position: done });
+        return Err(Refusal::SumNotFinite { position: done });
     }
     store(output, work);
-    Answer::Accepted
+    Ok(())
 }
 
 pub fn dot(
@@ -112,12 +106,9 @@ pub fn dot(
     overwrite: bool,
     output: &mut [f64],
     work: &mut [f64],
-) -> Answer
+) -> Result<(), Refusal>
     ensures { record { answer = result; output = output.new; work = work.new } ≡ multiply rows offsets.now columns.now values.now input.now overwrite output.old work.old }
 {
-    let lengths = check_lengths(rows, offsets, columns, values, input, output, work);
-    let Answer::Accepted = lengths else {
-        return lengths;
-    };
+    check_lengths(rows, offsets, columns, values, input, output, work)?;
     multiply_rows(offsets, columns, values, input, overwrite, output, work)
 }

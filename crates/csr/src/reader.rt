@@ -10,7 +10,7 @@ ghost use Rattle.csr.specs.Rows.{row_tests, read_row};
 use crate::check::{check_places, check_rows};
 use crate::rows::row_columns;
 use matrix_row::rows::Row;
-use refusal::{Answer, Refusal};
+use refusal::Refusal;
 
 #[derive(Drop)]
 pub struct RowReader<'a, 'b> {
@@ -33,41 +33,25 @@ fn read_columns<'a, 'b>(offsets: &'a [u64], columns: &'b [u32], row: usize) -> &
     RowReader { offsets, columns }.columns_of(row)
 }
 
-// Where a row stands, or why none is handed out.
-#[derive(Drop)]
-pub enum RowRead {
-    At(Row),
-    Refused(Refusal),
-}
-
 // The matrix is tested whole, then whether it has the row.
-fn check_row(rows: usize, offsets: &[u64], columns: &[u32], row: usize) -> Answer
+fn check_row(rows: usize, offsets: &[u64], columns: &[u32], row: usize) -> Result<(), Refusal>
     ensures { result ≡ row_tests rows offsets.now columns.now row }
 {
-    let lengths = check_rows(rows, offsets);
-    let Answer::Accepted = lengths else {
-        return lengths;
-    };
-    let places = check_places(rows, offsets, columns);
-    let Answer::Accepted = places else {
-        return places;
-    };
+    check_rows(rows, offsets)?;
+    check_places(rows, offsets, columns)?;
     if rows <= row {
-        return Answer::Refused(Refusal::NumberOutOfRange { index: row });
+        return Err(Refusal::NumberOutOfRange { index: row });
     }
-    Answer::Accepted
+    Ok(())
 }
 
 // The row ends where the columns that are handed out end.
-pub fn read_row(rows: usize, offsets: &[u64], columns: &[u32], row: usize) -> RowRead
+pub fn read_row(rows: usize, offsets: &[u64], columns: &[u32], row: usize) -> Result<Row, Refusal>
     ensures { result ≡ read_row rows offsets.now columns.now row }
 {
-    let answer = check_row(rows, offsets, columns, row);
-    let Answer::Refused(refusal) = answer else {
-        let start = offsets[row] as usize;
-        let handed = read_columns(offsets, columns, row);
-        let end = start + handed.len();
-        return RowRead::At(Row { start, end });
-    };
-    RowRead::Refused(refusal)
+    check_row(rows, offsets, columns, row)?;
+    let start = offsets[row] as usize;
+    let handed = read_columns(offsets, columns, row);
+    let end = start + handed.len();
+    Ok(Row { start, end })
 }

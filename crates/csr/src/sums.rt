@@ -23,8 +23,7 @@ pub fn sum_rows(
     ensures { Walked offsets.now columns.now values.now input.now overwrite output.now work.old result work.new }
 {
     let rows = input.len();
-    let mut r = 0;
-    while r < rows {
+    for r in 0..rows {
         let start = offsets[r] as usize;
         let end = offsets[r + 1] as usize;
         if end < start {
@@ -38,12 +37,10 @@ pub fn sum_rows(
             return r;
         }
         let value = stored(overwrite, output[r], found.sum);
-        let finite = is_finite(value);
-        if !finite {
+        if !is_finite(value) {
             return r;
         }
         work[r] = value;
-        r += 1;
     }
     rows
 }

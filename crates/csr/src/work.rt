@@ -24,13 +24,10 @@ pub fn first_not_clear(work: &[f64], count: usize) -> usize
     requires { count ≤ length work.now }
     ensures { result ≡ first_to count (not_clear work.now) }
 {
-    let mut k = 0;
-    while k < count {
-        let clear = is_clear(work[k]);
-        if !clear {
+    for k in 0..count {
+        if !is_clear(work[k]) {
             return k;
         }
-        k += 1;
     }
     count
 }
@@ -40,11 +37,7 @@ pub fn copy_numbers(from: &[f64], to: &mut [f64])
     requires { length to.old ≤ length from.now }
     ensures { to.new ≡ take (length to.old) from.now }
 {
-    let mut k = 0;
-    while k < to.len() {
-        to[k] = from[k];
-        k += 1;
-    }
+    to.copy_from_slice(&from[..to.len()]);
 }
 
 // What stands in work is stored, and work is zero again.

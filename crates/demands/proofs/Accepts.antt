@@ -7,11 +7,8 @@ use native.Mathlib.Omega.{arith}
 use Rattle.refusal.specs.Cause.{cause_of}
 use Rattle.refusal.specs.declared.Refusal.{Refusal}
 use Rattle.refusal.specs.declared.Refusal.TheVariants.{TooManyQubits, WrongLength, InvalidPauliByte, InvalidPauliCode, NegativeRate, EmptyLincomb, NumberOutOfRange, CountAboveLimit, LengthMismatch, KMatrixNotHermitian, WordOutsideRegister, RepeatedBasisWord, TableFull, SumNotFinite, WrittenCountTooLarge, TooManyProducts}
-use Rattle.action.specs.declared.act.Acted.{Acted}
-use Rattle.truncate.specs.declared.kept.Kept.{Kept}
+use Rattle.std.specs.Prelude.{Result, Ok, Err, ℕ}
 use Rattle.pebblelinen.specs.Actions.{listed_of}
-use Rattle.matrix_market.specs.declared.write.Written.{Written}
-use Rattle.matrix_market.specs.declared.write.Written.TheVariants as Texts
 use Rattle.pebblelinen.specs.Bases.{kept_of}
 use Rattle.pebblelinen.specs.Markets.{written_of}
 use Rattle.pebblelinen.specs.declared.markets.WrittenText.{WrittenText}
@@ -38,14 +35,14 @@ numbered (SumNotFinite position) e = omega (arith, e)
 numbered (WrittenCountTooLarge entry) e = omega (arith, e)
 numbered (TooManyProducts m s) e = omega (arith, e)
 
-pub kept_accepts : (a : Kept) (r : KeptEntries) → r ≡ kept_of a → Accepted r.status → a ≡ Kept.Entries r.entries
-kept_accepts (Kept.Entries n) r e h = ap Kept.Entries (sym (ap (λ (x : KeptEntries). x.entries) e))
-kept_accepts (Kept.Refused q) r e h = absurd (numbered q (sym (ap (λ (x : KeptEntries). x.status.refusal) e) ∙ h))
+pub kept_accepts : (a : Result ℕ Refusal) (r : KeptEntries) → r ≡ kept_of a → Accepted r.status → a ≡ Ok r.entries
+kept_accepts (Ok n) r e h = ap Ok (sym (ap (λ (x : KeptEntries). x.entries) e))
+kept_accepts (Err q) r e h = absurd (numbered q (sym (ap (λ (x : KeptEntries). x.status.refusal) e) ∙ h))
 
-pub acted_accepts : (a : Acted) (r : ListedWords) → r ≡ listed_of a → Accepted r.status → a ≡ Acted.Listed r.count
-acted_accepts (Acted.Listed n) r e h = ap Acted.Listed (sym (ap (λ (x : ListedWords). x.count) e))
-acted_accepts (Acted.Refused q) r e h = absurd (numbered q (sym (ap (λ (x : ListedWords). x.status.refusal) e) ∙ h))
+pub acted_accepts : (a : Result ℕ Refusal) (r : ListedWords) → r ≡ listed_of a → Accepted r.status → a ≡ Ok r.count
+acted_accepts (Ok n) r e h = ap Ok (sym (ap (λ (x : ListedWords). x.count) e))
+acted_accepts (Err q) r e h = absurd (numbered q (sym (ap (λ (x : ListedWords). x.status.refusal) e) ∙ h))
 
-pub written_accepts : (a : Written) (r : WrittenText) → r ≡ written_of a → Accepted r.status → a ≡ Texts.Text r.bytes
-written_accepts (Texts.Text n) r e h = ap Texts.Text (sym (ap (λ (x : WrittenText). x.bytes) e))
-written_accepts (Texts.Refused q) r e h = absurd (numbered q (sym (ap (λ (x : WrittenText). x.status.refusal) e) ∙ h))
+pub written_accepts : (a : Result ℕ Refusal) (r : WrittenText) → r ≡ written_of a → Accepted r.status → a ≡ Ok r.bytes
+written_accepts (Ok n) r e h = ap Ok (sym (ap (λ (x : WrittenText). x.bytes) e))
+written_accepts (Err q) r e h = absurd (numbered q (sym (ap (λ (x : WrittenText). x.status.refusal) e) ∙ h))

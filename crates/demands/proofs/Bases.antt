@@ -24,7 +24,7 @@ use Rattle.keep.specs.Admitted.{picked}
 use Rattle.keep.proofs.PruneLaws.{Number}
 use Rattle.truncate.specs.Prunes.{protected_flags, prune, cap}
 use Rattle.truncate.specs.Admissions.{admit_flags, Admitting, admit}
-use Rattle.truncate.specs.declared.kept.Kept.TheVariants.{Entries}
+use Rattle.std.specs.Prelude.{Ok}
 use Rattle.truncate.proofs.PruneLaws.{prune_room}
 use Rattle.truncate.proofs.CapLaws.{cap_room, cap_finite}
 use Rattle.truncate.proofs.AdmitLaws.{admit_count}
@@ -50,7 +50,7 @@ module _ (c : PruneCall) (ok : Accepted c.answer.status) where
   abbrev pruned : Basis
   pruned = c.basis
 
-  prune_answer : (prune pruned.len pruned.lanes pruned.coeffs c.order c.work c.fixed c.kept c.qubits pruned.protected c.drop_tol).answer ≡ Entries c.answer.entries
+  prune_answer : (prune pruned.len pruned.lanes pruned.coeffs c.order c.work c.fixed c.kept c.qubits pruned.protected c.drop_tol).answer ≡ Ok c.answer.entries
   prune_answer = kept_accepts (prune pruned.len pruned.lanes pruned.coeffs c.order c.work c.fixed c.kept c.qubits pruned.protected c.drop_tol).answer c.answer c.leaves.answers ok
 
   pub prune_keeps : Keeps pruned (pruned_by c) c.answer c.lanes' c.coeffs'
@@ -84,7 +84,7 @@ module _ (c : CapCall) (ok : Accepted c.answer.status) where
   abbrev capped : Basis
   capped = c.basis
 
-  cap_answer : (cap capped.len capped.lanes capped.coeffs c.order c.work c.fixed c.kept c.qubits capped.protected c.limit).answer ≡ Entries c.answer.entries
+  cap_answer : (cap capped.len capped.lanes capped.coeffs c.order c.work c.fixed c.kept c.qubits capped.protected c.limit).answer ≡ Ok c.answer.entries
   cap_answer = kept_accepts (cap capped.len capped.lanes capped.coeffs c.order c.work c.fixed c.kept c.qubits capped.protected c.limit).answer c.answer c.leaves.answers ok
 
   pub cap_keeps : Keeps capped (capped_by c) c.answer c.lanes' c.coeffs'
@@ -124,7 +124,7 @@ module _ (c : AdmitCall) (ok : Accepted c.answer.status) where
   abbrev admitted : Admitting
   admitted = admit c.len c.lanes c.coeffs c.list c.values c.order c.work c.kept c.qubits c.limit
 
-  admit_answer : admitted.answer ≡ Entries c.answer.entries
+  admit_answer : admitted.answer ≡ Ok c.answer.entries
   admit_answer = kept_accepts admitted.answer c.answer c.leaves.answers ok
 
   abbrev new : List Word

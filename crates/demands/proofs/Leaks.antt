@@ -22,7 +22,7 @@ use Rattle.keep.proofs.PruneLaws.{Number}
 use Rattle.candidates.specs.Sums.{Row, row}
 use Rattle.candidates.specs.Tables.{Rows, candidate_rows}
 use Rattle.model.specs.declared.stored.Model.{Model}
-use Rattle.action.specs.declared.act.Acted.TheVariants.{Listed}
+use Rattle.std.specs.Prelude.{Ok}
 use Rattle.passes.specs.Leaks.{sums_of, pass_size, pass_count}
 use Rattle.leakage.specs.Leakages.{Leaking, leak}
 use Rattle.limits.specs.Defaults.{tau_of}
@@ -86,7 +86,7 @@ module _ (c : LeakCall) (ok : Accepted c.answer.status) where
   abbrev done : Leaking
   done = leak c.out_words c.out_values c.work c.model c.tables c.basis c.limits
 
-  pub leak_answer : done.out.answer ≡ Listed c.answer.count
+  pub leak_answer : done.out.answer ≡ Ok c.answer.count
   leak_answer = acted_accepts done.out.answer c.answer c.leaves.answers ok
 
   -- the list in the tables that were lent
@@ -136,10 +136,10 @@ leak_nobody c c' ok ok' model basis few looser r x =
     subst⁻¹ (Member r) (leaked_is c' ok')
     (over c'.model model.same_model (leak_answer c' ok') r (subst (Member r) (leaked_is c ok) x))
   where
-    over : (m' : Model) → c.model ≡ m' → (leak c'.out_words c'.out_values c'.work m' c'.tables c'.basis c'.limits).out.answer ≡ Listed c'.answer.count
+    over : (m' : Model) → c.model ≡ m' → (leak c'.out_words c'.out_values c'.work m' c'.tables c'.basis c'.limits).out.answer ≡ Ok c'.answer.count
         → Leak.LosesNobody (listed_by (done c ok) c.answer.count) (listed_by (leak c'.out_words c'.out_values c'.work m' c'.tables c'.basis c'.limits) c'.answer.count)
     over m' e =
-        subst (λ (m : Model). (leak c'.out_words c'.out_values c'.work m c'.tables c'.basis c'.limits).out.answer ≡ Listed c'.answer.count
+        subst (λ (m : Model). (leak c'.out_words c'.out_values c'.work m c'.tables c'.basis c'.limits).out.answer ≡ Ok c'.answer.count
         → Leak.LosesNobody (listed_by (done c ok) c.answer.count) (listed_by (leak c'.out_words c'.out_values c'.work m c'.tables c'.basis c'.limits) c'.answer.count)) e
         (leakage_loses_nobody c.model c.tables c'.tables model.same_places c.basis c'.basis basis few c.limits c'.limits looser c.tau_fits c'.tau_fits
         c.out_words c.out_values c.work c.answer.count (leak_answer c ok) c'.out_words c'.out_values c'.work c'.answer.count)

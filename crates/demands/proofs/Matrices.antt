@@ -6,14 +6,13 @@
 use mathlib.Core.Path.{◌≡◌, sym, subst, subst⁻¹, ◌∙◌}
 use Prim.Native.Nat.{ℕ}
 use lib.Ieee.{Float}
-use Rattle.refusal.specs.declared.Answer.TheVariants as Tests
+use Rattle.std.specs.Prelude.{Ok}
 use Rattle.word.specs.Flat.{words}
 use Rattle.word.specs.declared.word.Word.{Word}
 use Rattle.model.specs.Stored.{ModelTables}
 use Rattle.model.specs.Tested.{test_model}
 use Rattle.model.specs.declared.stored.Model.{Model}
 use Rattle.action.specs.Acts.{action_of}
-use Rattle.action.specs.declared.act.Acted.TheVariants.{Listed}
 use Rattle.candidates.specs.Tables.{Rows}
 use Rattle.in_use.specs.InUse.{SameModel}
 use Rattle.in_use.proofs.SameModels.{same_action}
@@ -37,13 +36,13 @@ module _ (c : GeneratorCall) (ok : Accepted c.answer.status) where
   abbrev made : Generating
   made = generate c.rows c.columns c.values c.work c.model c.tables c.lanes c.len
 
-  generator_answer : made.out.answer ≡ Listed c.answer.count
+  generator_answer : made.out.answer ≡ Ok c.answer.count
   generator_answer = acted_accepts made.out.answer c.answer c.leaves.answers ok
 
-  out_is : ◌≡◌ {A = Out} (record { answer = Listed c.answer.count; rows = c.rows'; columns = c.columns'; values = c.values' }) made.out
+  out_is : ◌≡◌ {A = Out} (record { answer = Ok c.answer.count; rows = c.rows'; columns = c.columns'; values = c.values' }) made.out
   out_is = λ i. record { answer = sym generator_answer i; rows = c.leaves.rows_are i; columns = c.leaves.columns_are i; values = c.leaves.values_are i }
 
-  tested_generator : test_model c.model c.tables ≡ Tests.Accepted
+  tested_generator : test_model c.model c.tables ≡ Ok tt
   tested_generator = generator_model c.rows c.columns c.values c.work c.model c.tables c.lanes c.len c.answer.count generator_answer
 
   holds_generator : Exact c.model c.tables (basis_of c.lanes c.len) (Generated c)
@@ -55,13 +54,13 @@ module _ (c : CsrCall) (ok : Accepted c.answer.status) where
   abbrev made_rows : CsrBuilding
   made_rows = build_csr c.offsets c.columns c.values c.work c.model c.tables c.lanes c.len
 
-  pub csr_answer : made_rows.out.answer ≡ Listed c.answer.count
+  pub csr_answer : made_rows.out.answer ≡ Ok c.answer.count
   csr_answer = acted_accepts made_rows.out.answer c.answer c.leaves.answers ok
 
-  rows_is : ◌≡◌ {A = CsrOut} (record { answer = Listed c.answer.count; offsets = c.offsets'; columns = c.columns'; values = c.values' }) made_rows.out
+  rows_is : ◌≡◌ {A = CsrOut} (record { answer = Ok c.answer.count; offsets = c.offsets'; columns = c.columns'; values = c.values' }) made_rows.out
   rows_is = λ i. record { answer = sym csr_answer i; offsets = c.leaves.offsets_are i; columns = c.leaves.columns_are i; values = c.leaves.values_are i }
 
-  tested_csr : test_model c.model c.tables ≡ Tests.Accepted
+  tested_csr : test_model c.model c.tables ≡ Ok tt
   tested_csr = csr_model c.offsets c.columns c.values c.work c.model c.tables c.lanes c.len c.answer.count csr_answer
 
   holds_csr : Exact c.model c.tables (basis_of c.lanes c.len) (ByRows c)
@@ -70,7 +69,7 @@ module _ (c : CsrCall) (ok : Accepted c.answer.status) where
       (csr_exact c.offsets c.columns c.values c.work c.model c.tables c.lanes c.len c.answer.count csr_answer)
 
 -- ---- one model in two lendings acts alike
-acts_alike : (m m' : Model) (t t' : ModelTables) → SameModelLent m t m' t' → test_model m t ≡ Tests.Accepted → (q : Word) → action_of m t q ≡ action_of m' t' q
+acts_alike : (m m' : Model) (t t' : ModelTables) → SameModelLent m t m' t' → test_model m t ≡ Ok tt → (q : Word) → action_of m t q ≡ action_of m' t' q
 acts_alike m m' t t' same passes q = same_action m t t' same.same_places passes q ∙ (λ i. action_of (same.same_model i) t' q)
 
 pub keeps_entries : KeepsEntries
@@ -99,7 +98,7 @@ module _ (g : GeneratorCall) (c : LeakCall) (ok : Accepted g.answer.status) (ok'
   Entries = Lists (made g ok).out
 
   Answers : Model → Type 0
-  Answers m = (leaks m).out.answer ≡ Listed c.answer.count
+  Answers m = (leaks m).out.answer ≡ Ok c.answer.count
 
   module _ (same-places : SameModel g.model g.tables c.tables) where
     without_room : (m : Model) → g.model ≡ m → Answers m

@@ -10,8 +10,8 @@ use native.Mathlib.Omega.{arith}
 use borrow.Author.Tests.{eq-eqb}
 use lib.Ieee.{Float}
 use lib.ListN.{length, take}
-use Rattle.refusal.specs.declared.Answer.{Answer}
-use Rattle.refusal.specs.declared.Answer.TheVariants as Tests
+use Rattle.std.specs.Prelude.{Ok}
+use Rattle.refusal.specs.Cause.{Answer}
 use Rattle.word.specs.declared.word.Word.{Word}
 use Rattle.model.specs.Stored.{ModelTables}
 use Rattle.model.specs.Tested.{test_model}
@@ -42,19 +42,19 @@ finite_sound l n h f k low = ap not (f k (omega arith))
 -- ---- all tests
 module _ (rows : ℕ) (few : rows ≤ max_words) (input : List Float) (overwrite : Bool) (output work : List Float) (input-agrees : length input ≡ rows) (output-agrees : length output ≡ rows) (room : rows ≤ length work) where
   abbrev answer : List ℕ → List ℕ → List Float → Answer
-  answer offsets columns values = length_tests rows offsets columns values input output work (table_tests rows offsets columns values input overwrite output Tests.Accepted)
+  answer offsets columns values = length_tests rows offsets columns values input output work (table_tests rows offsets columns values input overwrite output (Ok tt))
 
   all_passed : (offsets columns : List ℕ) (values : List Float) → length offsets ≡ rows + 1 → length values ≡ length columns
-      → Sound rows offsets columns values input overwrite output → answer offsets columns values ≡ Tests.Accepted
+      → Sound rows offsets columns values input overwrite output → answer offsets columns values ≡ Ok tt
   all_passed offsets columns values o v s =
-      lengths_then rows offsets columns values input output work (table_tests rows offsets columns values input overwrite output Tests.Accepted)
-      ∙ ap (λ (a : Answer). and_then a (table_tests rows offsets columns values input overwrite output Tests.Accepted))
+      lengths_then rows offsets columns values input output work (table_tests rows offsets columns values input overwrite output (Ok tt))
+      ∙ ap (λ (a : Answer). and_then a (table_tests rows offsets columns values input overwrite output (Ok tt)))
       (sym (lengths_accepted rows offsets columns values input output work (sym (rows_accepted rows offsets few (eq-eqb (length offsets) (rows + 1) o))) (eq-eqb (length values) (length columns) v) (eq-eqb (length input) rows input-agrees) (eq-eqb (length output) rows output-agrees) room))
       ∙ sound_accepted rows offsets columns values input overwrite output s
 
   module _ (input-finite : AllFinite input) (output-finite : overwrite ≡ false → AllFinite output) where
-    generator_passed : (m : Model) (t : ModelTables) (bs : List Word) → length bs ≡ rows → test_model m t ≡ Tests.Accepted
-        → answer (offsets_of rows (generator_of m t bs)) (columns_by rows (generator_of m t bs)) (values_by rows (generator_of m t bs)) ≡ Tests.Accepted
+    generator_passed : (m : Model) (t : ModelTables) (bs : List Word) → length bs ≡ rows → test_model m t ≡ Ok tt
+        → answer (offsets_of rows (generator_of m t bs)) (columns_by rows (generator_of m t bs)) (values_by rows (generator_of m t bs)) ≡ Ok tt
     generator_passed m t bs e passes =
         let G : List Entry = generator_of m t bs in
         let z = offsets_many rows G in
@@ -63,7 +63,7 @@ module _ (rows : ℕ) (few : rows ≤ max_words) (input : List Float) (overwrite
 
     -- what a call leaves
     left_passed : (m : Model) (t : ModelTables) (bs : List Word) (out : CsrOut) (count : ℕ) → RowListing m t bs rows out count
-        → answer (take (rows + 1) out.offsets) (take count out.columns) (take count out.values) ≡ Tests.Accepted
+        → answer (take (rows + 1) out.offsets) (take count out.columns) (take count out.values) ≡ Ok tt
     left_passed m t bs out count l =
         let G : List Entry = generator_of m t bs in
         let b = below m t bs rows l.rows_all in

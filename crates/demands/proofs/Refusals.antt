@@ -3,28 +3,32 @@
 
 -- Demand 1, second sentence: a call that is not accepted answers with the refusal that its definition names, by number and values, and
 -- leaves models, bases and outputs as they were. Assumes nothing.
-use mathlib.Core.Path.{◌≡◌, refl, ap, ◌∙◌}
+use mathlib.Core.Path.{◌≡◌, refl, sym, ap, ◌∙◌}
 use mathlib.Core.Bool.{Bool, true, false, not, cond}
 use mathlib.Core.List.{List, ◌++◌, map}
 use Prim.Native.Nat.{ℕ, ◌+◌, ◌<◌}
-use native.Mathlib.Omega.{arith}
 use borrow.Author.Tests.{ltb-true}
 use lib.Dec.{ltb, leb}
 use lib.Ieee.{Float, le}
 use lib.ListN.{length, set}
 use Rattle.refusal.specs.Cause.{status_of, answer_status}
 use Rattle.refusal.specs.declared.Refusal.{Refusal}
+use Rattle.refusal.proofs.Told.{refused_not}
 use Rattle.refusal.specs.declared.Refusal.TheVariants.{TooManyQubits, TableFull, SumNotFinite}
-use Rattle.refusal.specs.declared.Answer.{Answer}
-use Rattle.refusal.specs.declared.Answer.TheVariants as Tests
+use Rattle.std.specs.Prelude.{Result, Ok, Err}
+use Rattle.matrix_row.specs.declared.rows.Row.{Row}
+use Rattle.expm.specs.declared.Degree.{Degree}
+use Rattle.action.specs.declared.count.Counted.{Counted}
+use Rattle.norm.specs.declared.norm.Normed.{Normed}
+use Rattle.norm.specs.declared.degree.Selected.{Selected}
+use Rattle.step_parts.specs.declared.taken.Step.{Step}
+use Rattle.refusal.specs.Cause.{Answer}
 use Rattle.refusal.specs.declared.Status.{Status}
 use Rattle.notation.specs.Codes.{write_answer, write_for, written}
 use Rattle.word.specs.Register.{reaches}
 use Rattle.word.specs.Word.{max_qubits, identity}
 use Rattle.word.specs.Flat.{lay_word}
 use Rattle.word.specs.declared.word.Word.{Word}
-use Rattle.notation.specs.declared.texts.ParsedWord.{ParsedWord}
-use Rattle.notation.specs.declared.texts.ParsedWord.TheVariants as Read
 use Rattle.number.specs.Floats.{floats, float0}
 use Rattle.gksl.specs.Model.{RealTerm, JumpOver}
 use Rattle.gksl.specs.Words.{pauli}
@@ -36,19 +40,15 @@ use Rattle.model.specs.Tested.{max_hamiltonian, max_jumps, test_model}
 use Rattle.model_build.specs.Compiled.{Compiled, compile_jump}
 use Rattle.model_build.specs.Built as Building
 use Rattle.model.specs.declared.stored.Model.{Model}
-use Rattle.model_build.specs.declared.spec.Built.{Built}
 use Rattle.k_matrix.specs.Pairs.{pairs_of}
 use Rattle.k_matrix.specs.Added as Adding
 use Rattle.keep.specs.Retained.{flagged, retained_lanes, retained_numbers}
 use Rattle.keep.specs.Admitted.{appended_lanes, appended_zeros, picked}
 use Rattle.action.specs.Acts as Acts
-use Rattle.action.specs.declared.act.Acted.{Acted}
-use Rattle.action.specs.declared.count.Counted.{Counted}
 use Rattle.lent.specs.Tests.{counted, first_to}
 use Rattle.lent.specs.Numbers.{not_finite}
 use Rattle.truncate.specs.Prunes as Prunes
 use Rattle.truncate.specs.Admissions as Admissions
-use Rattle.truncate.specs.declared.kept.Kept.{Kept}
 use Rattle.candidates.specs.Tables.{Rows}
 use Rattle.passes.specs.Leaks.{words_of, sums_of, above}
 use Rattle.leakage.specs.Leakages as Leakage
@@ -62,22 +62,13 @@ use Rattle.generator.specs.Generators as Generators
 use Rattle.generator_export.specs.Exports as Exports
 use Rattle.matrix_market.specs.Text.{text_of}
 use Rattle.matrix_market.specs.Writes as Markets
-use Rattle.matrix_market.specs.declared.write.Written.{Written}
-use Rattle.matrix_market.specs.declared.write.Written.TheVariants as Texts
 use Rattle.csr.specs.Products as Products
-use Rattle.taylor.specs.declared.evolve.Evolved.{Evolved}
 use Rattle.evolution_laws.proofs.SameMatrix.{evolve_kept}
-use Rattle.step_parts.specs.declared.taken.Step.{Step}
-use Rattle.step_parts.specs.declared.taken.Step.TheVariants as Steps
 use Rattle.step.specs.Calls.{Stepping}
 use Rattle.step.specs.Exports.{stepped_of}
 use Rattle.step.specs.declared.steps.SteppedBasis.{SteppedBasis}
 use Rattle.step.proofs.PlainLaws.{Turned, by_test, by_part, step_turned}
-use Rattle.csr.specs.declared.reader.RowRead.{RowRead}
-use Rattle.expm.specs.declared.Chosen.{Chosen}
 use Rattle.expm.specs.Selects.{chosen}
-use Rattle.norm.specs.declared.norm.Normed.{Normed}
-use Rattle.norm.specs.declared.degree.Selected.{Selected}
 use Rattle.pebblelinen.specs.Words.{parsed_of, fitting_of}
 use Rattle.pebblelinen.specs.Models.{built_of}
 use Rattle.pebblelinen.specs.Actions.{listed_of, counted_of}
@@ -111,33 +102,33 @@ pub record Cause (A : Type 0) (refuse : Refusal → A) (a : A) (s : Status) : Ty
   pub named : a ≡ refuse cause
   pub numbered : s ≡ status_of cause
 
-tests_cause : (a : Answer) (s : Status) → s ≡ answer_status a → Refused s → Cause Answer Tests.Refused a s
-tests_cause Tests.Accepted s e h = absurd (h (ap (λ (x : Status). x.refusal) e))
-tests_cause (Tests.Refused q) s e h = record { cause = q; named = refl; numbered = e }
+tests_cause : (a : Answer) (s : Status) → s ≡ answer_status a → Refused s → Cause Answer Err a s
+tests_cause (Ok _) s e h = absurd (h (ap (λ (x : Status). x.refusal) e))
+tests_cause (Err q) s e h = record { cause = q; named = refl; numbered = e }
 
-built_cause : (a : Built) (r : BuiltModel) → r ≡ built_of a → Refused r.status → Cause Built Built.Refused a r.status
-built_cause (Built.Model m) r e h = absurd (h (ap (λ (x : BuiltModel). x.status.refusal) e))
-built_cause (Built.Refused q) r e h = record { cause = q; named = refl; numbered = ap (λ (x : BuiltModel). x.status) e }
+built_cause : (a : Result Model Refusal) (r : BuiltModel) → r ≡ built_of a → Refused r.status → Cause (Result Model Refusal) Err a r.status
+built_cause (Ok m) r e h = absurd (h (ap (λ (x : BuiltModel). x.status.refusal) e))
+built_cause (Err q) r e h = record { cause = q; named = refl; numbered = ap (λ (x : BuiltModel). x.status) e }
 
-acted_cause : (a : Acted) (r : ListedWords) → r ≡ listed_of a → Refused r.status → Cause Acted Acted.Refused a r.status
-acted_cause (Acted.Listed n) r e h = absurd (h (ap (λ (x : ListedWords). x.status.refusal) e))
-acted_cause (Acted.Refused q) r e h = record { cause = q; named = refl; numbered = ap (λ (x : ListedWords). x.status) e }
+acted_cause : (a : Result ℕ Refusal) (r : ListedWords) → r ≡ listed_of a → Refused r.status → Cause (Result ℕ Refusal) Err a r.status
+acted_cause (Ok n) r e h = absurd (h (ap (λ (x : ListedWords). x.status.refusal) e))
+acted_cause (Err q) r e h = record { cause = q; named = refl; numbered = ap (λ (x : ListedWords). x.status) e }
 
-written_cause : (a : Written) (r : WrittenText) → r ≡ written_of a → Refused r.status → Cause Written Texts.Refused a r.status
-written_cause (Texts.Text n) r e h = absurd (h (ap (λ (x : WrittenText). x.status.refusal) e))
-written_cause (Texts.Refused q) r e h = record { cause = q; named = refl; numbered = ap (λ (x : WrittenText). x.status) e }
+written_cause : (a : Result ℕ Refusal) (r : WrittenText) → r ≡ written_of a → Refused r.status → Cause (Result ℕ Refusal) Err a r.status
+written_cause (Ok n) r e h = absurd (h (ap (λ (x : WrittenText). x.status.refusal) e))
+written_cause (Err q) r e h = record { cause = q; named = refl; numbered = ap (λ (x : WrittenText). x.status) e }
 
-kept_cause : (a : Kept) (r : KeptEntries) → r ≡ kept_of a → Refused r.status → Cause Kept Kept.Refused a r.status
-kept_cause (Kept.Entries n) r e h = absurd (h (ap (λ (x : KeptEntries). x.status.refusal) e))
-kept_cause (Kept.Refused q) r e h = record { cause = q; named = refl; numbered = ap (λ (x : KeptEntries). x.status) e }
+kept_cause : (a : Result ℕ Refusal) (r : KeptEntries) → r ≡ kept_of a → Refused r.status → Cause (Result ℕ Refusal) Err a r.status
+kept_cause (Ok n) r e h = absurd (h (ap (λ (x : KeptEntries). x.status.refusal) e))
+kept_cause (Err q) r e h = record { cause = q; named = refl; numbered = ap (λ (x : KeptEntries). x.status) e }
 
-evolved_cause : (a : Evolved) (r : EvolvedBasis) → r ≡ evolved_of a → Refused r.status → Cause Evolved Evolved.Refused a r.status
-evolved_cause (Evolved.Products n) r e h = absurd (h (ap (λ (x : EvolvedBasis). x.status.refusal) e))
-evolved_cause (Evolved.Refused q) r e h = record { cause = q; named = refl; numbered = ap (λ (x : EvolvedBasis). x.status) e }
+evolved_cause : (a : Result ℕ Refusal) (r : EvolvedBasis) → r ≡ evolved_of a → Refused r.status → Cause (Result ℕ Refusal) Err a r.status
+evolved_cause (Ok n) r e h = absurd (h (ap (λ (x : EvolvedBasis). x.status.refusal) e))
+evolved_cause (Err q) r e h = record { cause = q; named = refl; numbered = ap (λ (x : EvolvedBasis). x.status) e }
 
-stepped_cause : (a : Step) (r : SteppedBasis) → r ≡ stepped_of a → Refused r.status → Cause Step Steps.Refused a r.status
-stepped_cause (Steps.Taken n k) r e h = absurd (h (ap (λ (x : SteppedBasis). x.status.refusal) e))
-stepped_cause (Steps.Refused q) r e h = record { cause = q; named = refl; numbered = ap (λ (x : SteppedBasis). x.status) e }
+stepped_cause : (a : Result Step Refusal) (r : SteppedBasis) → r ≡ stepped_of a → Refused r.status → Cause (Result Step Refusal) Err a r.status
+stepped_cause (Ok step) r e h = absurd (h (ap (λ (x : SteppedBasis). x.status.refusal) e))
+stepped_cause (Err q) r e h = record { cause = q; named = refl; numbered = ap (λ (x : SteppedBasis). x.status) e }
 
 -- a step that is refused, by a test or by a part, leaves the basis
 step_kept : (c : StepCall) (q : Refusal) → Turned c.model c.tables c.lanes c.coeffs c.len c.protected c.limits c.dt c.drop_tol c.work q → (c.lanes' ≡ c.lanes) × (c.coeffs' ≡ c.coeffs)
@@ -145,87 +136,78 @@ step_kept c q (by_test e f) = (c.leaves.words_are ∙ ap (λ (x : Stepping). x.l
 step_kept c q (by_part e f) = (c.leaves.words_are ∙ ap (λ (x : Stepping). x.lanes) f, c.leaves.coeffs_are ∙ ap (λ (x : Stepping). x.coeffs) f)
 
 -- ---- calls that return numbers or a word: those beside a refusal
-read_refused : (d : ParsedWord) (r : Parsed) → r ≡ parsed_of d → Refused r.status → Refuses r.status (λ q. d ≡ Read.Refused q) (r.word ≡ identity)
-read_refused (Read.Parsed lanes) r e h = absurd (h (ap (λ (x : Parsed). x.status.refusal) e))
-read_refused (Read.Refused q) r e h = record { cause = q; named = refl; numbered = ap (λ (x : Parsed). x.status) e; unchanged = ap (λ (x : Parsed). x.word) e }
+read_refused : (d : Result Word Refusal) (r : Parsed) → r ≡ parsed_of d → Refused r.status → Refuses r.status (λ q. d ≡ Err q) (r.word ≡ identity)
+read_refused (Ok lanes) r e h = absurd (h (ap (λ (x : Parsed). x.status.refusal) e))
+read_refused (Err q) r e h = record { cause = q; named = refl; numbered = ap (λ (x : Parsed). x.status) e; unchanged = ap (λ (x : Parsed). x.word) e }
 
 fit_refused : (w : Word) (n : ℕ) (r : Fitting) → r ≡ fitting_of w n → Refused r.status → Refuses r.status (λ q. (max_qubits < n) × (q ≡ TooManyQubits n max_qubits)) (r.fits ≡ false)
 unfolding fitting_of
 fit_refused w n r e h = go (ltb max_qubits n) refl e
   where
-    go : (b : Bool) → ltb max_qubits n ≡ b → r ≡ cond b (record { status = status_of (TooManyQubits n max_qubits); fits = false }) (record { status = answer_status Tests.Accepted; fits = not (reaches w n) })
+    go : (b : Bool) → ltb max_qubits n ≡ b → r ≡ cond b (record { status = status_of (TooManyQubits n max_qubits); fits = false }) (record { status = answer_status (Ok tt); fits = not (reaches w n) })
         → Refuses r.status (λ q. (max_qubits < n) × (q ≡ TooManyQubits n max_qubits)) (r.fits ≡ false)
     go true f e = record { cause = TooManyQubits n max_qubits; named = (ltb-true max_qubits n f, refl); numbered = ap (λ (x : Fitting). x.status) e; unchanged = ap (λ (x : Fitting). x.fits) e }
     go false f e = absurd (h (ap (λ (x : Fitting). x.status.refusal) e))
 
-count_refused : (d : Counted) (r : CountedPlaces) → r ≡ counted_of d → Refused r.status → Refuses r.status (λ q. d ≡ Counted.Refused q) ((r.touched ≡ 0) × (r.listed ≡ 0))
-count_refused (Counted.Places touched listed) r e h = absurd (h (ap (λ (x : CountedPlaces). x.status.refusal) e))
-count_refused (Counted.Refused q) r e h =
+count_refused : (d : Result Counted Refusal) (r : CountedPlaces) → r ≡ counted_of d → Refused r.status → Refuses r.status (λ q. d ≡ Err q) ((r.touched ≡ 0) × (r.listed ≡ 0))
+count_refused (Ok counted) r e h = absurd (h (ap (λ (x : CountedPlaces). x.status.refusal) e))
+count_refused (Err q) r e h =
     record { cause = q; named = refl; numbered = ap (λ (x : CountedPlaces). x.status) e; unchanged = (ap (λ (x : CountedPlaces). x.touched) e, ap (λ (x : CountedPlaces). x.listed) e) }
 
-norm_refused : (d : Normed) (r : NormOfBasis) → r ≡ normed_of d → Refused r.status → Refuses r.status (λ q. d ≡ Normed.Refused q) ((r.mu ≡ float0) × (r.norm ≡ float0))
-norm_refused (Normed.Norm mu norm) r e h = absurd (h (ap (λ (x : NormOfBasis). x.status.refusal) e))
-norm_refused (Normed.Refused q) r e h = record { cause = q; named = refl; numbered = ap (λ (x : NormOfBasis). x.status) e; unchanged = (ap (λ (x : NormOfBasis). x.mu) e, ap (λ (x : NormOfBasis). x.norm) e) }
+norm_refused : (d : Result Normed Refusal) (r : NormOfBasis) → r ≡ normed_of d → Refused r.status → Refuses r.status (λ q. d ≡ Err q) ((r.mu ≡ float0) × (r.norm ≡ float0))
+norm_refused (Ok normed) r e h = absurd (h (ap (λ (x : NormOfBasis). x.status.refusal) e))
+norm_refused (Err q) r e h = record { cause = q; named = refl; numbered = ap (λ (x : NormOfBasis). x.status) e; unchanged = (ap (λ (x : NormOfBasis). x.mu) e, ap (λ (x : NormOfBasis). x.norm) e) }
 
-degree_refused : (d : Selected) (r : Partition) → r ≡ partition_of d → Refused r.status → Refuses r.status (λ q. d ≡ Selected.Refused q) ((r.mu ≡ float0) × (r.norm ≡ float0) × (r.m ≡ 0) × (r.s ≡ 0))
-degree_refused (Selected.Partition mu norm m s) r e h = absurd (h (ap (λ (x : Partition). x.status.refusal) e))
-degree_refused (Selected.Refused q) r e h = record {
+degree_refused : (d : Result Selected Refusal) (r : Partition) → r ≡ partition_of d → Refused r.status → Refuses r.status (λ q. d ≡ Err q) ((r.mu ≡ float0) × (r.norm ≡ float0) × (r.m ≡ 0) × (r.s ≡ 0))
+degree_refused (Ok selected) r e h = absurd (h (ap (λ (x : Partition). x.status.refusal) e))
+degree_refused (Err q) r e h = record {
   cause = q;
   named = refl;
   numbered = ap (λ (x : Partition). x.status) e;
   unchanged = (ap (λ (x : Partition). x.mu) e, ap (λ (x : Partition). x.norm) e, ap (λ (x : Partition). x.m) e, ap (λ (x : Partition). x.s) e);
 }
 
-choice_refused : (d : Chosen) (r : DegreeChoice) → r ≡ choice_of d → Refused r.status → Refuses r.status (λ q. d ≡ Chosen.Refused q) ((r.m ≡ 0) × (r.s ≡ 0))
-choice_refused (Chosen.Pair d) r e h = absurd (h (ap (λ (x : DegreeChoice). x.status.refusal) e))
-choice_refused (Chosen.Refused q) r e h = record { cause = q; named = refl; numbered = ap (λ (x : DegreeChoice). x.status) e; unchanged = (ap (λ (x : DegreeChoice). x.m) e, ap (λ (x : DegreeChoice). x.s) e) }
+choice_refused : (d : Result Degree Refusal) (r : DegreeChoice) → r ≡ choice_of d → Refused r.status → Refuses r.status (λ q. d ≡ Err q) ((r.m ≡ 0) × (r.s ≡ 0))
+choice_refused (Ok d) r e h = absurd (h (ap (λ (x : DegreeChoice). x.status.refusal) e))
+choice_refused (Err q) r e h = record { cause = q; named = refl; numbered = ap (λ (x : DegreeChoice). x.status) e; unchanged = (ap (λ (x : DegreeChoice). x.m) e, ap (λ (x : DegreeChoice). x.s) e) }
 
-row_refused : (d : RowRead) (r : FoundRow) → r ≡ found_of d → Refused r.status → Refuses r.status (λ q. d ≡ RowRead.Refused q) ((r.start ≡ 0) × (r.end ≡ 0))
-row_refused (RowRead.At row) r e h = absurd (h (ap (λ (x : FoundRow). x.status.refusal) e))
-row_refused (RowRead.Refused q) r e h = record { cause = q; named = refl; numbered = ap (λ (x : FoundRow). x.status) e; unchanged = (ap (λ (x : FoundRow). x.start) e, ap (λ (x : FoundRow). x.end) e) }
+row_refused : (d : Result Row Refusal) (r : FoundRow) → r ≡ found_of d → Refused r.status → Refuses r.status (λ q. d ≡ Err q) ((r.start ≡ 0) × (r.end ≡ 0))
+row_refused (Ok row) r e h = absurd (h (ap (λ (x : FoundRow). x.status.refusal) e))
+row_refused (Err q) r e h = record { cause = q; named = refl; numbered = ap (λ (x : FoundRow). x.status) e; unchanged = (ap (λ (x : FoundRow). x.start) e, ap (λ (x : FoundRow). x.end) e) }
 
 -- ---- an accepted answer is no refusal
-model_not : (m : Model) (q : Refusal) → Built.Model m ≡ Built.Refused q → ⊥
-model_not m q e = let z : ◌≡◌ {A = ℕ} 0 1 = cc in omega arith
-
-listed_not : (n : ℕ) (q : Refusal) → Acted.Listed n ≡ Acted.Refused q → ⊥
-listed_not n q e = let z : ◌≡◌ {A = ℕ} 0 1 = cc in omega arith
-
-entries_not : (n : ℕ) (q : Refusal) → Kept.Entries n ≡ Kept.Refused q → ⊥
-entries_not n q e = let z : ◌≡◌ {A = ℕ} 0 1 = cc in omega arith
-
-accepted_not : (q : Refusal) → Tests.Accepted ≡ Tests.Refused q → ⊥
-accepted_not q e = let z : ◌≡◌ {A = ℕ} 0 1 = cc in omega arith
+accepted_not : {A : Type 0} (x : A) (q : Refusal) → ◌≡◌ {A = Result A Refusal} (Ok x) (Err q) → ⊥
+accepted_not x q e = refused_not q x (sym e)
 
 -- ---- writing codes
-write_kept : (a : Answer) (w : Word) (n : ℕ) (out : List ℕ) (q : Refusal) → a ≡ Tests.Refused q → write_for a w n out ≡ out
-write_kept Tests.Accepted w n out q e = absurd (accepted_not q e)
-write_kept (Tests.Refused r) w n out q e = refl
+write_kept : (a : Answer) (w : Word) (n : ℕ) (out : List ℕ) (q : Refusal) → a ≡ Err q → write_for a w n out ≡ out
+write_kept (Ok _) w n out q e = absurd (accepted_not tt q e)
+write_kept (Err r) w n out q e = refl
 
-written_kept : (w : Word) (n : ℕ) (out : List ℕ) (q : Refusal) → write_answer w n out ≡ Tests.Refused q → written w n out ≡ out
+written_kept : (w : Word) (n : ℕ) (out : List ℕ) (q : Refusal) → write_answer w n out ≡ Err q → written w n out ≡ out
 unfolding written
 written_kept w n out q e = write_kept (write_answer w n out) w n out q e
 
 -- ---- building and adding
 module _ (t : ModelTables) (ww : List ℕ) (wn : List Float) where
   abbrev SafeModel : Building.Building → Type 0
-  SafeModel b = (q : Refusal) → b.answer ≡ Built.Refused q → b.tables ≡ t
+  SafeModel b = (q : Refusal) → b.answer ≡ Err q → b.tables ≡ t
 
   tested_model : (a : Answer) (after : Building.Building) → SafeModel after → SafeModel (Building.tested t ww wn a after)
-  tested_model Tests.Accepted after s = s
-  tested_model (Tests.Refused r) after s = λ q e. refl
+  tested_model (Ok _) after s = s
+  tested_model (Err r) after s = λ q e. refl
 
   read_model : {A : Type 0} (r : Read A) (f : A → Building.Building) → ((a : A) → SafeModel (f a)) → SafeModel (Building.when_read t ww wn r f)
   read_model (got a) f s = s a
   read_model (refused r) f s = λ q e. refl
 
   finished_model : (b : Bool) (q : Refusal) (m : Model) (after : ModelTables)
-      → SafeModel (cond b (Building.finished t ww wn (Built.Refused q) t) (Building.finished t ww wn (Built.Model m) after))
-  finished_model b q m after = either SafeModel b (Building.finished t ww wn (Built.Refused q) t) (Building.finished t ww wn (Built.Model m) after) (λ r e. refl) (λ r e. absurd (model_not m r e))
+      → SafeModel (cond b (Building.finished t ww wn (Err q) t) (Building.finished t ww wn (Ok m) after))
+  finished_model b q m after = either SafeModel b (Building.finished t ww wn (Err q) t) (Building.finished t ww wn (Ok m) after) (λ r e. refl) (λ r e. absurd (accepted_not m r e))
 
   abbrev limits : ℕ → Building.Input → Answer
   limits n i =
-      cond (ltb max_qubits n) (Tests.Refused (TooManyQubits n max_qubits)) (counted max_hamiltonian (length i.h_numbers) (counted max_jumps (length i.rates) (Building.lengths_answer i t ww wn)))
+      cond (ltb max_qubits n) (Err (TooManyQubits n max_qubits)) (counted max_hamiltonian (length i.h_numbers) (counted max_jumps (length i.rates) (Building.lengths_answer i t ww wn)))
 
   abbrev after_jumps : ℕ → Building.Input → List (RealTerm floats pauli) → List (JumpOver floats pauli) → Building.Building
   after_jumps n i hs js = Building.compiled_model n i t ww wn hs (map compile_jump js)
@@ -255,11 +237,11 @@ module _ (t : ModelTables) (ww : List ℕ) (wn : List Float) where
 -- ---- the action
 module _ (outWords : List ℕ) (outValues : List Float) (ww : List ℕ) (ws : List Float) where
   abbrev SafeList : Acts.Acting → Type 0
-  SafeList a = (q : Refusal) → a.answer ≡ Acted.Refused q → (a.out_words ≡ outWords) × (a.out_values ≡ outValues)
+  SafeList a = (q : Refusal) → a.answer ≡ Err q → (a.out_words ≡ outWords) × (a.out_values ≡ outValues)
 
   tested_list : (a : Answer) (after : Acts.Acting) → SafeList after → SafeList (Acts.tested outWords outValues ww ws a after)
-  tested_list Tests.Accepted after s = s
-  tested_list (Tests.Refused r) after s = λ q e. (refl, refl)
+  tested_list (Ok _) after s = s
+  tested_list (Err r) after s = λ q e. (refl, refl)
 
   act_kept : (m : Model) (t : ModelTables) (p : Word) → SafeList (Acts.act outWords outValues ww ws m t p)
   unfolding Acts.act
@@ -267,21 +249,21 @@ module _ (outWords : List ℕ) (outValues : List Float) (ww : List ℕ) (ws : Li
       tested_list (test_model m t) _
       (either SafeList (reaches p m.qubits) _ _ (λ q e. (refl, refl))
       (either SafeList (ltb (Acts.sum_places ww ws) (length (Acts.sums_of m t p))) _ _ (λ q e. (refl, refl))
-      (either SafeList (ltb (Acts.list_places outWords outValues) (length (Acts.action_of m t p))) _ _ (λ q e. (refl, refl)) (λ q e. absurd (listed_not _ q e)))))
+      (either SafeList (ltb (Acts.list_places outWords outValues) (length (Acts.action_of m t p))) _ _ (λ q e. (refl, refl)) (λ q e. absurd (accepted_not _ q e)))))
 
 -- ---- prune and cap
 module _ (len : ℕ) (lanes : List ℕ) (coeffs : List Float) (order work fixed kept : List ℕ) where
   abbrev SafeBasis : Prunes.Keeping → Type 0
-  SafeBasis k = (q : Refusal) → k.answer ≡ Kept.Refused q → (k.lanes ≡ lanes) × (k.coeffs ≡ coeffs)
+  SafeBasis k = (q : Refusal) → k.answer ≡ Err q → (k.lanes ≡ lanes) × (k.coeffs ≡ coeffs)
 
   tested_basis : (a : Answer) (after : Prunes.Keeping) → SafeBasis after → SafeBasis (Prunes.tested len lanes coeffs order work fixed kept a after)
-  tested_basis Tests.Accepted after s = s
-  tested_basis (Tests.Refused r) after s = λ q e. (refl, refl)
+  tested_basis (Ok _) after s = s
+  tested_basis (Err r) after s = λ q e. (refl, refl)
 
   either_basis : (b : Bool) (n n' : ℕ) (l l' : List ℕ) (c c' : List Float)
       → SafeBasis (cond b (Prunes.left len lanes coeffs order work fixed kept n l c) (Prunes.left len lanes coeffs order work fixed kept n' l' c'))
   either_basis b n n' l l' c c' =
-      either SafeBasis b (Prunes.left len lanes coeffs order work fixed kept n l c) (Prunes.left len lanes coeffs order work fixed kept n' l' c') (λ q e. absurd (entries_not n q e)) (λ q e. absurd (entries_not n' q e))
+      either SafeBasis b (Prunes.left len lanes coeffs order work fixed kept n l c) (Prunes.left len lanes coeffs order work fixed kept n' l' c') (λ q e. absurd (accepted_not n q e)) (λ q e. absurd (accepted_not n' q e))
 
   -- where nothing is done, or entries are retained by flags
   by_flags : (a : Answer) (b : Bool) (flags : List ℕ)
@@ -301,39 +283,39 @@ module _ (len : ℕ) (lanes : List ℕ) (coeffs : List Float) (order work fixed 
 -- ---- admission
 module _ (len : ℕ) (lanes : List ℕ) (coeffs : List Float) (list : List ℕ) (values : List Float) (order work kept : List ℕ) where
   abbrev SafeAdmitted : Admissions.Admitting → Type 0
-  SafeAdmitted k = (q : Refusal) → k.answer ≡ Kept.Refused q → (k.lanes ≡ lanes) × (k.coeffs ≡ coeffs)
+  SafeAdmitted k = (q : Refusal) → k.answer ≡ Err q → (k.lanes ≡ lanes) × (k.coeffs ≡ coeffs)
 
   tested_admitted : (a : Answer) (after : Admissions.Admitting) → SafeAdmitted after → SafeAdmitted (Admissions.tested len lanes coeffs list values order work kept a after)
-  tested_admitted Tests.Accepted after s = s
-  tested_admitted (Tests.Refused r) after s = λ q e. (refl, refl)
+  tested_admitted (Ok _) after s = s
+  tested_admitted (Err r) after s = λ q e. (refl, refl)
 
   admit_kept : (n limit : ℕ) → SafeAdmitted (Admissions.admit len lanes coeffs list values order work kept n limit)
   unfolding Admissions.admit
   admit_kept n limit =
       let flags : List ℕ = Admissions.admit_flags len values limit in
       let places : ℕ = Admissions.basis_places len lanes coeffs list values order work kept in
-      let full : Admissions.Admitting = Admissions.left len lanes coeffs list values order work kept (Kept.Refused (TableFull 3 places)) lanes coeffs in
-      let done : Admissions.Admitting = Admissions.left len lanes coeffs list values order work kept (Kept.Entries (len + flagged flags)) (appended_lanes len (picked (length values) flags list) lanes) (appended_zeros len (flagged flags) coeffs) in
+      let full : Admissions.Admitting = Admissions.left len lanes coeffs list values order work kept (Err (TableFull 3 places)) lanes coeffs in
+      let done : Admissions.Admitting = Admissions.left len lanes coeffs list values order work kept (Ok (len + flagged flags)) (appended_lanes len (picked (length values) flags list) lanes) (appended_zeros len (flagged flags) coeffs) in
       tested_admitted (Admissions.admit_tests len lanes coeffs list values order work kept n limit) (cond (ltb places (len + flagged flags)) full done)
-      (either SafeAdmitted (ltb places (len + flagged flags)) full done (λ q e. (refl, refl)) (λ q e. absurd (entries_not (len + flagged flags) q e)))
+      (either SafeAdmitted (ltb places (len + flagged flags)) full done (λ q e. (refl, refl)) (λ q e. absurd (accepted_not (len + flagged flags) q e)))
 
 -- ---- leakage
 module _ (outWords : List ℕ) (outValues : List Float) (w : Leakage.Work) where
   abbrev SafeOut : Leakage.Out → Type 0
-  SafeOut o = (q : Refusal) → o.answer ≡ Acted.Refused q → (o.out_words ≡ outWords) × (o.out_values ≡ outValues)
+  SafeOut o = (q : Refusal) → o.answer ≡ Err q → (o.out_words ≡ outWords) × (o.out_values ≡ outValues)
 
   tested_out : (a : Answer) (o : Leakage.Out) → SafeOut o → SafeOut (Leakage.tested outWords outValues w a o).out
-  tested_out Tests.Accepted o s = s
-  tested_out (Tests.Refused r) o s = λ q e. (refl, refl)
+  tested_out (Ok _) o s = s
+  tested_out (Err r) o s = λ q e. (refl, refl)
 
   listing_kept : (tau : Float) (R : Read Rows) → SafeOut (Leakage.listing tau outWords outValues R)
   unfolding Leakage.listing
   listing_kept tau (refused r) = λ q e. (refl, refl)
   listing_kept tau (got T) =
       let places : ℕ = Acts.list_places outWords outValues in
-      either SafeOut (ltb places (length (above tau T))) (record { answer = Acted.Refused (TableFull 3 places); out_words = outWords; out_values = outValues })
-      (record { answer = Acted.Listed (length (above tau T)); out_words = laid lay_word 0 (words_of (above tau T)) outWords; out_values = laid set 0 (sums_of (above tau T)) outValues })
-      (λ q e. (refl, refl)) (λ q e. absurd (listed_not (length (above tau T)) q e))
+      either SafeOut (ltb places (length (above tau T))) (record { answer = Err (TableFull 3 places); out_words = outWords; out_values = outValues })
+      (record { answer = Ok (length (above tau T)); out_words = laid lay_word 0 (words_of (above tau T)) outWords; out_values = laid set 0 (sums_of (above tau T)) outValues })
+      (λ q e. (refl, refl)) (λ q e. absurd (accepted_not (length (above tau T)) q e))
 
   leak_kept : (m : Model) (t : ModelTables) (b : Leakage.Basis) (l : Limits) → SafeOut (Leakage.leak outWords outValues w m t b l).out
   unfolding Leakage.leak
@@ -342,93 +324,90 @@ module _ (outWords : List ℕ) (outValues : List Float) (w : Leakage.Work) where
 -- ---- the generator and the matrix by rows
 module _ (rows columns : List ℕ) (values : List Float) (w : Work) where
   abbrev SafeEntries : Generators.Out → Type 0
-  SafeEntries o = (q : Refusal) → o.answer ≡ Acted.Refused q → (o.rows ≡ rows) × (o.columns ≡ columns) × (o.values ≡ values)
+  SafeEntries o = (q : Refusal) → o.answer ≡ Err q → (o.rows ≡ rows) × (o.columns ≡ columns) × (o.values ≡ values)
 
-  entries_kept : (a : Acted) (E : List Entry) → SafeEntries (Generators.listing rows columns values a E)
-  entries_kept (Acted.Listed n) E = λ q e. absurd (listed_not n q e)
-  entries_kept (Acted.Refused r) E = λ q e. (refl, refl, refl)
+  entries_kept : (a : Result ℕ Refusal) (E : List Entry) → SafeEntries (Generators.listing rows columns values a E)
+  entries_kept (Ok n) E = λ q e. absurd (accepted_not n q e)
+  entries_kept (Err r) E = λ q e. (refl, refl, refl)
 
   tested_entries : (a : Answer) (o : Generators.Out) → SafeEntries o → SafeEntries (Generators.tested rows columns values w a o).out
-  tested_entries Tests.Accepted o s = s
-  tested_entries (Tests.Refused r) o s = λ q e. (refl, refl, refl)
+  tested_entries (Ok _) o s = s
+  tested_entries (Err r) o s = λ q e. (refl, refl, refl)
 
   generate_kept : (m : Model) (t : ModelTables) (lanes : List ℕ) (len : ℕ) → SafeEntries (Generators.generate rows columns values w m t lanes len).out
   unfolding Generators.generate Generators.listed_over
   generate_kept m t lanes len =
       let bs : List Word = basis_of lanes len in
-      let a : Acted = answered (generator_room m t bs (Acts.sum_places w.work_words w.work_sums) (Generators.entry_places w rows columns values)) (length (generator_of m t bs)) in
+      let a : Result ℕ Refusal = answered (generator_room m t bs (Acts.sum_places w.work_words w.work_sums) (Generators.entry_places w rows columns values)) (length (generator_of m t bs)) in
       tested_entries (generator_tests m t lanes len w) (Generators.listing rows columns values a (generator_of m t bs)) (entries_kept a (generator_of m t bs))
 
 module _ (offsets columns : List ℕ) (values : List Float) (w : Work) where
   abbrev SafeRows : Generators.CsrOut → Type 0
-  SafeRows o = (q : Refusal) → o.answer ≡ Acted.Refused q → (o.offsets ≡ offsets) × (o.columns ≡ columns) × (o.values ≡ values)
+  SafeRows o = (q : Refusal) → o.answer ≡ Err q → (o.offsets ≡ offsets) × (o.columns ≡ columns) × (o.values ≡ values)
 
-  rows_kept : (n : ℕ) (a : Acted) (E : List Entry) → SafeRows (Generators.by_rows n offsets columns values a E)
-  rows_kept n (Acted.Listed k) E = λ q e. absurd (listed_not k q e)
-  rows_kept n (Acted.Refused r) E = λ q e. (refl, refl, refl)
+  rows_kept : (n : ℕ) (a : Result ℕ Refusal) (E : List Entry) → SafeRows (Generators.by_rows n offsets columns values a E)
+  rows_kept n (Ok k) E = λ q e. absurd (accepted_not k q e)
+  rows_kept n (Err r) E = λ q e. (refl, refl, refl)
 
   tested_rows : (a : Answer) (o : Generators.CsrOut) → SafeRows o → SafeRows (Generators.csr_tested offsets columns values w a o).out
-  tested_rows Tests.Accepted o s = s
-  tested_rows (Tests.Refused r) o s = λ q e. (refl, refl, refl)
+  tested_rows (Ok _) o s = s
+  tested_rows (Err r) o s = λ q e. (refl, refl, refl)
 
   csr_kept : (m : Model) (t : ModelTables) (lanes : List ℕ) (len : ℕ) → SafeRows (Generators.build_csr offsets columns values w m t lanes len).out
   unfolding Generators.build_csr Generators.csr_over
   csr_kept m t lanes len =
       let bs : List Word = basis_of lanes len in
-      let a : Acted = answered (generator_room m t bs (Acts.sum_places w.work_words w.work_sums) (Generators.csr_places w columns values)) (length (generator_of m t bs)) in
+      let a : Result ℕ Refusal = answered (generator_room m t bs (Acts.sum_places w.work_words w.work_sums) (Generators.csr_places w columns values)) (length (generator_of m t bs)) in
       tested_rows (csr_tests m t lanes len w offsets) (Generators.by_rows len offsets columns values a (generator_of m t bs)) (rows_kept len a (generator_of m t bs))
 
 -- ---- the generator as a text
-text_not : (n : ℕ) (q : Refusal) → Texts.Text n ≡ Texts.Refused q → ⊥
-text_not n q e = let z : ◌≡◌ {A = ℕ} 0 1 = cc in omega arith
-
 module _ (text : List ℕ) (w : Work) where
   abbrev SafeText : Markets.Writing → Type 0
-  SafeText o = (q : Refusal) → o.answer ≡ Texts.Refused q → o.text ≡ text
+  SafeText o = (q : Refusal) → o.answer ≡ Err q → o.text ≡ text
 
   after_kept : (a : Answer) (bytes : List ℕ) → SafeText (Markets.text_after a bytes text)
-  after_kept Tests.Accepted bytes = λ q e. absurd (text_not (length bytes) q e)
-  after_kept (Tests.Refused r) bytes = λ q e. refl
+  after_kept (Ok _) bytes = λ q e. absurd (accepted_not (length bytes) q e)
+  after_kept (Err r) bytes = λ q e. refl
 
   writes_kept : (n : ℕ) (rows columns : List ℕ) (values : List Float) → SafeText (Markets.writes n rows columns values text)
   unfolding Markets.writes
   writes_kept n rows columns values =
       let bytes : List ℕ = text_of n (Markets.lines_of rows columns values) in
-      after_kept (Markets.counts_written values (Markets.text_room (length text) (length bytes) Tests.Accepted)) bytes
+      after_kept (Markets.counts_written values (Markets.text_room (length text) (length bytes) (Ok tt))) bytes
 
-  entries_text_kept : (n : ℕ) (a : Acted) (E : List Entry) → SafeText (Exports.entries_text n text a E)
-  entries_text_kept n (Acted.Listed k) E = writes_kept n (map (λ e. e.row) E) (map (λ e. e.column) E) (map (λ e. e.value) E)
-  entries_text_kept n (Acted.Refused r) E = λ q e. refl
+  entries_text_kept : (n : ℕ) (a : Result ℕ Refusal) (E : List Entry) → SafeText (Exports.entries_text n text a E)
+  entries_text_kept n (Ok k) E = writes_kept n (map (λ e. e.row) E) (map (λ e. e.column) E) (map (λ e. e.value) E)
+  entries_text_kept n (Err r) E = λ q e. refl
 
   tested_text : (a : Answer) (o : Markets.Writing) → SafeText o → SafeText (Exports.tested text w a o).out
-  tested_text Tests.Accepted o s = s
-  tested_text (Tests.Refused r) o s = λ q e. refl
+  tested_text (Ok _) o s = s
+  tested_text (Err r) o s = λ q e. refl
 
   export_kept : (m : Model) (t : ModelTables) (lanes : List ℕ) (len : ℕ) → SafeText (Exports.export_generator text w m t lanes len).out
   unfolding Exports.export_generator Exports.text_over
   export_kept m t lanes len =
       let bs : List Word = basis_of lanes len in
-      let a : Acted = answered (generator_room m t bs (Acts.sum_places w.work_words w.work_sums) (stage_places w)) (length (generator_of m t bs)) in
+      let a : Result ℕ Refusal = answered (generator_room m t bs (Acts.sum_places w.work_words w.work_sums) (stage_places w)) (length (generator_of m t bs)) in
       tested_text (generator_tests m t lanes len w) (Exports.entries_text len text a (generator_of m t bs)) (entries_text_kept len a (generator_of m t bs))
 
 -- ---- the product
 module _ (rows : ℕ) (offsets columns : List ℕ) (values input : List Float) (overwrite : Bool) (output work : List Float) where
   abbrev SafeProduct : Products.Multiplying → Type 0
-  SafeProduct p = (q : Refusal) → p.answer ≡ Tests.Refused q → p.output ≡ output
+  SafeProduct p = (q : Refusal) → p.answer ≡ Err q → p.output ≡ output
 
   tested_product : (a : Answer) (after : Products.Multiplying) → SafeProduct after → SafeProduct (Products.tested rows offsets columns values input overwrite output work a after)
-  tested_product Tests.Accepted after s = s
-  tested_product (Tests.Refused r) after s = λ q e. refl
+  tested_product (Ok _) after s = s
+  tested_product (Err r) after s = λ q e. refl
 
   multiply_kept : SafeProduct (Products.multiply rows offsets columns values input overwrite output work)
   unfolding Products.multiply Products.finished
   multiply_kept =
       let sums : List Float = Products.product rows offsets columns values input overwrite output in
       let bad : ℕ = first_to rows (not_finite sums) in
-      let full : Products.Multiplying = Products.left rows offsets columns values input overwrite output work (Tests.Refused (SumNotFinite bad)) output in
-      let done : Products.Multiplying = Products.left rows offsets columns values input overwrite output work Tests.Accepted sums in
-      tested_product (Products.length_tests rows offsets columns values input output work (Products.table_tests rows offsets columns values input overwrite output Tests.Accepted)) (cond (ltb bad rows) full done)
-      (either SafeProduct (ltb bad rows) full done (λ q e. refl) (λ q e. absurd (accepted_not q e)))
+      let full : Products.Multiplying = Products.left rows offsets columns values input overwrite output work (Err (SumNotFinite bad)) output in
+      let done : Products.Multiplying = Products.left rows offsets columns values input overwrite output work (Ok tt) sums in
+      tested_product (Products.length_tests rows offsets columns values input output work (Products.table_tests rows offsets columns values input overwrite output (Ok tt))) (cond (ltb bad rows) full done)
+      (either SafeProduct (ltb bad rows) full done (λ q e. refl) (λ q e. absurd (accepted_not tt q e)))
 
 -- ---- all of them
 pub refused_changes_nothing : ChangesNothing

@@ -7,8 +7,9 @@ use lib.ListN.{take}
 use Rattle.word.specs.Flat.{words}
 use Rattle.step_laws.proofs.StepLaws.{few, protected_stay}
 use Rattle.step_parts.specs.Lent.{places_of}
+use Rattle.std.specs.Prelude.{ℕ, Result, Err, Ok}
+use Rattle.refusal.specs.declared.Refusal.{Refusal}
 use Rattle.step_parts.specs.declared.taken.Step.{Step}
-use Rattle.step_parts.specs.declared.taken.Step.TheVariants as Steps
 use Rattle.step.specs.Exports.{stepped_of}
 use Rattle.step.specs.declared.steps.SteppedBasis.{SteppedBasis}
 use Rattle.step.proofs.PlainLaws.{step_takes}
@@ -16,9 +17,9 @@ use Rattle.demands.specs.Calls.{Accepted}
 use Rattle.demands.specs.Requests.{given_to, StepsKeep}
 use Rattle.demands.proofs.Accepts.{numbered}
 
-stepped_accepts : (a : Step) (r : SteppedBasis) → r ≡ stepped_of a → Accepted r.status → a ≡ Steps.Taken r.entries r.products
-stepped_accepts (Steps.Taken n k) r e h = ap₂ Steps.Taken (sym (ap (λ (x : SteppedBasis). x.entries) e)) (sym (ap (λ (x : SteppedBasis). x.products) e))
-stepped_accepts (Steps.Refused q) r e h = absurd (numbered q (sym (ap (λ (x : SteppedBasis). x.status.refusal) e) ∙ h))
+stepped_accepts : (a : Result Step Refusal) (r : SteppedBasis) → r ≡ stepped_of a → Accepted r.status → a ≡ Ok (record { entries = r.entries; products = r.products })
+stepped_accepts (Ok step) r e h = ap₂ (λ (k products : ℕ). Ok (record { entries = k; products = products })) (sym (ap (λ (x : SteppedBasis). x.entries) e)) (sym (ap (λ (x : SteppedBasis). x.products) e))
+stepped_accepts (Err q) r e h = absurd (numbered q (sym (ap (λ (x : SteppedBasis). x.status.refusal) e) ∙ h))
 
 pub step_keeps : StepsKeep
 step_keeps c h =

@@ -3,14 +3,13 @@
 
 -- The three demands, sentence by sentence and in their order; a sentence in quotes is the demand's own. Behind it stands the theorem
 -- in proofs/ that proves what is stated. What "shown by runs of both" asks for is no theorem: docs/DIFFERENCES.md.
-use Rattle.std.specs.Prelude.{ℕ, suc, ◌+◌, ◌-◌, ◌%◌, ◌≤◌, ◌<◌, min, max, ◌≡◌, Bool, true, false, List, ◌++◌, Float, length, get_or, take, replicate}
+use Rattle.std.specs.Prelude.{ℕ, suc, ◌+◌, ◌-◌, ◌%◌, ◌≤◌, ◌<◌, min, max, ◌≡◌, Bool, true, false, List, ◌++◌, Float, length, get_or, take, replicate, Result, Ok, Err}
 use Rattle.std.specs.Float.{nan}
 use Rattle.std.specs.Float.Ieee.{le}
 use Rattle.refusal.specs.Cause.{status_of, answer_status}
 use Rattle.refusal.specs.declared.Refusal.{Refusal}
 use Rattle.refusal.specs.declared.Refusal.TheVariants.{TooManyQubits}
-use Rattle.refusal.specs.declared.Answer.{Answer}
-use Rattle.refusal.specs.declared.Answer.TheVariants as Tests
+use Rattle.refusal.specs.Cause.{Answer}
 use Rattle.refusal.specs.declared.Status.{Status}
 use Rattle.word.specs.Count.{sum_to}
 use Rattle.word.specs.Letter.{mul_letter, mul_phase}
@@ -19,8 +18,6 @@ use Rattle.word.specs.Product.{product}
 use Rattle.notation.specs.Codes.{write_answer}
 use Rattle.word.specs.Flat.{words}
 use Rattle.word.specs.declared.word.Word.{Word}
-use Rattle.notation.specs.declared.texts.ParsedWord.{ParsedWord}
-use Rattle.notation.specs.declared.texts.ParsedWord.TheVariants as Read
 use Rattle.word.specs.declared.algebra.Phased.{Phased}
 use Rattle.number.specs.Whole.{whole}
 use Rattle.number.specs.Floats.{floats, float0, magnitude}
@@ -29,40 +26,31 @@ use Rattle.gksl.specs.Words.{pauli}
 use Rattle.model.specs.Stored.{ModelTables}
 use Rattle.model_build.specs.Built as Building
 use Rattle.model.specs.declared.stored.Model.{Model}
-use Rattle.model_build.specs.declared.spec.Built.TheVariants as Built
 use Rattle.k_matrix.specs.Added as Adding
 use Rattle.keep.specs.Retained.{pick, flagged}
 use Rattle.action.specs.Acts.{action_of, Acting, act}
 use Rattle.action.specs.Counts.{Counting}
-use Rattle.action.specs.declared.act.Acted.TheVariants as Acted
-use Rattle.action.specs.declared.count.Counted.TheVariants as Counted
 use Rattle.truncate.specs.Prunes.{Keeping, protected_flags, prune, cap}
 use Rattle.truncate.specs.Admissions.{Admitting, admit_flags, admit}
-use Rattle.truncate.specs.declared.kept.Kept.TheVariants as Kept
 use Rattle.leakage.specs.Leakages as Leakage
 use Rattle.passes.specs.Leaks.{words_of, pass_size, pass_count}
 use Rattle.candidates.specs.Sums.{Row}
+use Rattle.matrix_row.specs.declared.rows.Row.{Row as RowBounds}
 use Rattle.candidates.specs.Tables.{Rows, candidate_rows}
 use Rattle.generator.specs.Lent as Generator
 use Rattle.generator.specs.Lent.{basis_of}
 use Rattle.generator.specs.Generators.{Generating, CsrBuilding, generate, build_csr}
 use Rattle.generator_export.specs.Exports.{Exporting, export_generator}
 use Rattle.csr.specs.Products.{Multiplying, length_tests, table_tests, multiply}
-use Rattle.taylor.specs.declared.evolve.Evolved.TheVariants as Evolved
 use Rattle.evolution.specs.Lent as Evolution
 use Rattle.evolution.specs.Evolutions.{Evolving, evolve}
 use Rattle.step_parts.specs.Lent as Step
-use Rattle.step_parts.specs.declared.taken.Step.TheVariants as Steps
 use Rattle.step.specs.Calls.{Stepping, step}
 use Rattle.step.specs.Exports.{LeavesStep}
 use Rattle.step.specs.declared.steps.SteppedBasis.{SteppedBasis}
-use Rattle.csr.specs.declared.reader.RowRead.{RowRead}
 use Rattle.expm.specs.Selects.{chosen}
-use Rattle.expm.specs.declared.Chosen.TheVariants as Chosen
 use Rattle.norm.specs.Norms as Norm
 use Rattle.norm.specs.Norms.{Norming, Selecting}
-use Rattle.norm.specs.declared.norm.Normed.TheVariants as Normed
-use Rattle.norm.specs.declared.degree.Selected.TheVariants as Selected
 use Rattle.pebblelinen.specs.Words.{parsed_of, Writes, fitting_of}
 use Rattle.pebblelinen.specs.Models.{Leaves}
 use Rattle.pebblelinen.specs.Actions.{LeavesList, LeavesCount}
@@ -84,7 +72,6 @@ use Rattle.pebblelinen.specs.declared.norms.DegreeChoice.{DegreeChoice}
 use Rattle.pebblelinen.specs.declared.actions.ListedWords.{ListedWords}
 use Rattle.pebblelinen.specs.declared.bases.KeptEntries.{KeptEntries}
 use Rattle.pebblelinen.specs.declared.markets.WrittenText.{WrittenText}
-use Rattle.matrix_market.specs.declared.write.Written.TheVariants as Texts
 use Rattle.pebblelinen.specs.declared.models.BuiltModel.{BuiltModel}
 use Rattle.in_use.specs.InUse.{SameModel}
 use Rattle.action_laws.specs.Made.{Made}
@@ -141,58 +128,58 @@ pub record Refuses (status : Status) (Named : Refusal → Type 0) (Unchanged : T
   pub unchanged : Unchanged
 
 pub record ChangesNothing : Type 0 where
-  pub writing : (c : WriteCall) → Refused c.status → Refuses c.status (λ q. write_answer c.word c.qubits c.out ≡ Tests.Refused q) (c.out' ≡ c.out)
+  pub writing : (c : WriteCall) → Refused c.status → Refuses c.status (λ q. write_answer c.word c.qubits c.out ≡ Err q) (c.out' ≡ c.out)
   pub building : (c : BuildCall) → Refused c.answer.status
-      → Refuses c.answer.status (λ q. (Building.build c.qubits c.given c.tables c.work_words c.work_numbers).answer ≡ Built.Refused q) (c.tables' ≡ c.tables)
+      → Refuses c.answer.status (λ q. (Building.build c.qubits c.given c.tables c.work_words c.work_numbers).answer ≡ Err q) (c.tables' ≡ c.tables)
   pub adding : (c : AddCall) → Refused c.answer.status
-      → Refuses c.answer.status (λ q. (Adding.add c.model c.given c.tables c.work_words c.work_numbers).answer ≡ Built.Refused q) (c.tables' ≡ c.tables)
+      → Refuses c.answer.status (λ q. (Adding.add c.model c.given c.tables c.work_words c.work_numbers).answer ≡ Err q) (c.tables' ≡ c.tables)
   pub acting : (c : ActionCall) → Refused c.answer.status
-      → Refuses c.answer.status (λ q. (act c.out_words c.out_values c.work_words c.work_sums c.model c.tables c.word).answer ≡ Acted.Refused q)
+      → Refuses c.answer.status (λ q. (act c.out_words c.out_values c.work_words c.work_sums c.model c.tables c.word).answer ≡ Err q)
       ((c.out_words' ≡ c.out_words) × (c.out_values' ≡ c.out_values))
   pub pruning : (c : PruneCall) → Refused c.answer.status
-      → Refuses c.answer.status (λ q. (prune c.basis.len c.basis.lanes c.basis.coeffs c.order c.work c.fixed c.kept c.qubits c.basis.protected c.drop_tol).answer ≡ Kept.Refused q)
+      → Refuses c.answer.status (λ q. (prune c.basis.len c.basis.lanes c.basis.coeffs c.order c.work c.fixed c.kept c.qubits c.basis.protected c.drop_tol).answer ≡ Err q)
       ((c.lanes' ≡ c.basis.lanes) × (c.coeffs' ≡ c.basis.coeffs))
   pub capping : (c : CapCall) → Refused c.answer.status
-      → Refuses c.answer.status (λ q. (cap c.basis.len c.basis.lanes c.basis.coeffs c.order c.work c.fixed c.kept c.qubits c.basis.protected c.limit).answer ≡ Kept.Refused q)
+      → Refuses c.answer.status (λ q. (cap c.basis.len c.basis.lanes c.basis.coeffs c.order c.work c.fixed c.kept c.qubits c.basis.protected c.limit).answer ≡ Err q)
       ((c.lanes' ≡ c.basis.lanes) × (c.coeffs' ≡ c.basis.coeffs))
   pub admitting : (c : AdmitCall) → Refused c.answer.status
-      → Refuses c.answer.status (λ q. (admit c.len c.lanes c.coeffs c.list c.values c.order c.work c.kept c.qubits c.limit).answer ≡ Kept.Refused q)
+      → Refuses c.answer.status (λ q. (admit c.len c.lanes c.coeffs c.list c.values c.order c.work c.kept c.qubits c.limit).answer ≡ Err q)
       ((c.lanes' ≡ c.lanes) × (c.coeffs' ≡ c.coeffs))
   pub leaking : (c : LeakCall) → Refused c.answer.status
-      → Refuses c.answer.status (λ q. (Leakage.leak c.out_words c.out_values c.work c.model c.tables c.basis c.limits).out.answer ≡ Acted.Refused q)
+      → Refuses c.answer.status (λ q. (Leakage.leak c.out_words c.out_values c.work c.model c.tables c.basis c.limits).out.answer ≡ Err q)
       ((c.out_words' ≡ c.out_words) × (c.out_values' ≡ c.out_values))
   pub generating : (c : GeneratorCall) → Refused c.answer.status
-      → Refuses c.answer.status (λ q. (generate c.rows c.columns c.values c.work c.model c.tables c.lanes c.len).out.answer ≡ Acted.Refused q)
+      → Refuses c.answer.status (λ q. (generate c.rows c.columns c.values c.work c.model c.tables c.lanes c.len).out.answer ≡ Err q)
       ((c.rows' ≡ c.rows) × (c.columns' ≡ c.columns) × (c.values' ≡ c.values))
   pub by_rows : (c : CsrCall) → Refused c.answer.status
-      → Refuses c.answer.status (λ q. (build_csr c.offsets c.columns c.values c.work c.model c.tables c.lanes c.len).out.answer ≡ Acted.Refused q)
+      → Refuses c.answer.status (λ q. (build_csr c.offsets c.columns c.values c.work c.model c.tables c.lanes c.len).out.answer ≡ Err q)
       ((c.offsets' ≡ c.offsets) × (c.columns' ≡ c.columns) × (c.values' ≡ c.values))
   pub exporting : (c : MarketCall) → Refused c.answer.status
-      → Refuses c.answer.status (λ q. (export_generator c.text c.work c.model c.tables c.lanes c.len).out.answer ≡ Texts.Refused q) (c.text' ≡ c.text)
+      → Refuses c.answer.status (λ q. (export_generator c.text c.work c.model c.tables c.lanes c.len).out.answer ≡ Err q) (c.text' ≡ c.text)
   pub multiplying : (c : ProductCall) → Refused c.status
-      → Refuses c.status (λ q. (multiply c.rows c.offsets c.columns c.values c.input c.overwrite c.output c.work).answer ≡ Tests.Refused q) (c.output' ≡ c.output)
+      → Refuses c.status (λ q. (multiply c.rows c.offsets c.columns c.values c.input c.overwrite c.output c.work).answer ≡ Err q) (c.output' ≡ c.output)
   pub evolving : (c : EvolveCall) → Refused c.answer.status
-      → Refuses c.answer.status (λ q. (evolve c.work c.out c.model c.tables c.lanes c.coeffs c.len c.dt c.drop_tol).answer ≡ Evolved.Refused q) (c.out' ≡ c.out)
+      → Refuses c.answer.status (λ q. (evolve c.work c.out c.model c.tables c.lanes c.coeffs c.len c.dt c.drop_tol).answer ≡ Err q) (c.out' ≡ c.out)
   pub stepping : (c : StepCall) → Refused c.answer.status
-      → Refuses c.answer.status (λ q. (step c.model c.tables c.lanes c.coeffs c.len c.protected c.limits c.dt c.drop_tol c.work).answer ≡ Steps.Refused q)
+      → Refuses c.answer.status (λ q. (step c.model c.tables c.lanes c.coeffs c.len c.protected c.limits c.dt c.drop_tol c.work).answer ≡ Err q)
       ((c.lanes' ≡ c.lanes) × (c.coeffs' ≡ c.coeffs))
   -- a lent model tested, of which nothing is written
-  pub testing : (d : Answer) (r : Status) → r ≡ answer_status d → Refused r → Refuses r (λ q. d ≡ Tests.Refused q) (Unit {0})
+  pub testing : (d : Answer) (r : Status) → r ≡ answer_status d → Refused r → Refuses r (λ q. d ≡ Err q) (Unit {0})
   -- texts and codes read
-  pub reading : (d : ParsedWord) (r : Parsed) → r ≡ parsed_of d → Refused r.status → Refuses r.status (λ q. d ≡ Read.Refused q) (r.word ≡ identity)
+  pub reading : (d : Result Word Refusal) (r : Parsed) → r ≡ parsed_of d → Refused r.status → Refuses r.status (λ q. d ≡ Err q) (r.word ≡ identity)
   -- whether a word fits a register
   pub fitting : (w : Word) (n : ℕ) (r : Fitting) → r ≡ fitting_of w n → Refused r.status → Refuses r.status (λ q. (max_qubits < n) × (q ≡ TooManyQubits n max_qubits)) (r.fits ≡ false)
   pub counting : (d : Counting) (r : CountedPlaces) (h j m w : List ℕ) (x : List Float) → LeavesCount d r h j m w x → Refused r.status
-      → Refuses r.status (λ q. d.answer ≡ Counted.Refused q) ((r.touched ≡ 0) × (r.listed ≡ 0))
+      → Refuses r.status (λ q. d.answer ≡ Err q) ((r.touched ≡ 0) × (r.listed ≡ 0))
   pub norming : (d : Norming) (r : NormOfBasis) (w : Norm.Work) → LeavesNorm d r w → Refused r.status
-      → Refuses r.status (λ q. d.answer ≡ Normed.Refused q) ((r.mu ≡ float0) × (r.norm ≡ float0))
+      → Refuses r.status (λ q. d.answer ≡ Err q) ((r.mu ≡ float0) × (r.norm ≡ float0))
   pub selecting : (d : Selecting) (r : Partition) (w : Norm.Work) → LeavesPartition d r w → Refused r.status
-      → Refuses r.status (λ q. d.answer ≡ Selected.Refused q) ((r.mu ≡ float0) × (r.norm ≡ float0) × (r.m ≡ 0) × (r.s ≡ 0))
+      → Refuses r.status (λ q. d.answer ≡ Err q) ((r.mu ≡ float0) × (r.norm ≡ float0) × (r.m ≡ 0) × (r.s ≡ 0))
   -- the degree for a norm
   pub choosing : (dropTol t : Float) (r : DegreeChoice) → r ≡ choice_of (chosen dropTol t) → Refused r.status
-      → Refuses r.status (λ q. chosen dropTol t ≡ Chosen.Refused q) ((r.m ≡ 0) × (r.s ≡ 0))
+      → Refuses r.status (λ q. chosen dropTol t ≡ Err q) ((r.m ≡ 0) × (r.s ≡ 0))
   -- a row of a lent matrix
-  pub row_read : (d : RowRead) (r : FoundRow) → r ≡ found_of d → Refused r.status → Refuses r.status (λ q. d ≡ RowRead.Refused q) ((r.start ≡ 0) × (r.end ≡ 0))
+  pub row_read : (d : Result RowBounds Refusal) (r : FoundRow) → r ≡ found_of d → Refused r.status → Refuses r.status (λ q. d ≡ Err q) ((r.start ≡ 0) × (r.end ≡ 0))
 
 -- ==== 2
 -- "Where port and Rust may differ, docs/DIFFERENCES.md lists it and document 01 decides; on all other accepted inputs they are equal,
@@ -273,10 +260,10 @@ pub record LosesNobody : Type 0 where
 
 -- ---- the entries that a call of the generator, or of the matrix by rows, left in its tables
 abbrev pub Generated : GeneratorCall → ℕ → ℕ → Float → Type 0
-Generated c = Lists (record { answer = Acted.Listed c.answer.count; rows = c.rows'; columns = c.columns'; values = c.values' })
+Generated c = Lists (record { answer = Ok c.answer.count; rows = c.rows'; columns = c.columns'; values = c.values' })
 
 abbrev pub ByRows : CsrCall → ℕ → ℕ → Float → Type 0
-ByRows c = InRow (record { answer = Acted.Listed c.answer.count; offsets = c.offsets'; columns = c.columns'; values = c.values' })
+ByRows c = InRow (record { answer = Ok c.answer.count; offsets = c.offsets'; columns = c.columns'; values = c.values' })
 
 -- "Whatever words a basis gains, wherever they stand, an accepted generator or CSR has, for every row and column whose words are old,
 -- the same entry as before, and none where there was none." (Matrices: keeps_entries)
@@ -302,7 +289,7 @@ pub record MakesProducts : Type 0 where
       → let offsets : List ℕ = take (c.len + 1) c.offsets' in
       let columns : List ℕ = take c.answer.count c.columns' in
       let values : List Float = take c.answer.count c.values' in
-      length_tests c.len offsets columns values input output work (table_tests c.len offsets columns values input overwrite output Tests.Accepted) ≡ Tests.Accepted
+      length_tests c.len offsets columns values input output work (table_tests c.len offsets columns values input overwrite output (Ok tt)) ≡ Ok tt
 
 -- "Each limit keeps exactly the number 01 states" (Limits: keeps_exactly)
 pub record KeepsExactly : Type 0 where

@@ -12,8 +12,8 @@ use lib.ListN.{length, take, drop, replicate, take-append-drop}
 use lib.Seq.{take_at}
 use Rattle.refusal.specs.declared.Refusal.{Refusal}
 use Rattle.refusal.specs.declared.Refusal.TheVariants.{RepeatedBasisWord}
-use Rattle.refusal.specs.declared.Answer.{Answer}
-use Rattle.refusal.specs.declared.Answer.TheVariants.{Accepted, Refused}
+use Rattle.std.specs.Prelude.{Ok, Err}
+use Rattle.refusal.specs.Cause.{Answer}
 use Rattle.word.specs.Flat.{words, word_lanes}
 use Rattle.word.specs.declared.word.Word.{Word}
 use Rattle.word.proofs.FlatLaws.{words_low, words_high}
@@ -29,7 +29,6 @@ use Rattle.generator.specs.Between.{BasisLent}
 use Rattle.generator.proofs.CheckLaws.{Passed}
 use Rattle.generator.proofs.LentLaws.{basis_lent}
 use Rattle.taylor.specs.Evolves.{Evolves}
-use Rattle.taylor.specs.declared.evolve.Evolved.TheVariants as Evolved
 use Rattle.number.specs.Floats.{float0}
 use Rattle.evolution.specs.Lent.{Work, work_of, zeroed, basis_tests, work_tests, number_tests, evolve_tests}
 use Rattle.evolution.specs.Evolutions.{evolve_over, evolve}
@@ -37,7 +36,7 @@ use Rattle.evolution.specs.Between.{SlotsLeft, Checks, SlotsReady, NumbersLent, 
 use Rattle.evolution.proofs.CheckLaws.{basis_passed, tables_passed, numbers_passed, first_finite}
 
 -- ---- one part of the tests after another
-slots_kept : (ws : List Word) (len : ℕ) (heads nexts : List ℕ) (r : Answer) (q : Refusal) → r ≡ Refused q → SlotsLeft ws len heads nexts r heads nexts
+slots_kept : (ws : List Word) (len : ℕ) (heads nexts : List ℕ) (r : Answer) (q : Refusal) → r ≡ Err q → SlotsLeft ws len heads nexts r heads nexts
 slots_kept ws len heads nexts r q e = record { kept = λ _ _. (refl, refl); laid = λ f. absurd (refused_not q (sym e ∙ f)) }
 
 module _ (m : Model) (t : ModelTables) (lanes : List ℕ) (coeffs : List Float) (len : ℕ) (dt dropTol : Float) (hIndex jIndex mask : ℕ) (heads nexts : List ℕ) (offsets v b product out : ℕ) where
@@ -53,18 +52,18 @@ module _ (m : Model) (t : ModelTables) (lanes : List ℕ) (coeffs : List Float) 
   abbrev Checked : Answer → List ℕ → List ℕ → Type 0
   Checked = Checks m t lanes coeffs len dt dropTol hIndex jIndex mask heads nexts offsets v b product out
 
-  pub basis_refused : (r : Answer) (q : Refusal) → r ≡ basis_answer → r ≡ Refused q → Checked r heads nexts
-  basis_refused r q e f = record { answers = f ∙ rw (sym e ∙ f); slots = slots_kept (basis_of lanes len) len heads nexts r q f }
+  pub basis_refused : (r : Answer) (q : Refusal) → r ≡ basis_answer → r ≡ Err q → Checked (Err q) heads nexts
+  basis_refused r q e f = record { answers = rw (sym e ∙ f); slots = slots_kept (basis_of lanes len) len heads nexts (Err q) q refl }
 
-  module _ (ok : basis_answer ≡ Accepted) where
-    pub work_refused : (r : Answer) (q : Refusal) → r ≡ work_answer → r ≡ Refused q → Checked r heads nexts
-    work_refused r q e f = record { answers = f ∙ rw (ok, sym e ∙ f); slots = slots_kept (basis_of lanes len) len heads nexts r q f }
+  module _ (ok : basis_answer ≡ Ok tt) where
+    pub work_refused : (r : Answer) (q : Refusal) → r ≡ work_answer → r ≡ Err q → Checked (Err q) heads nexts
+    work_refused r q e f = record { answers = rw (ok, sym e ∙ f); slots = slots_kept (basis_of lanes len) len heads nexts (Err q) q refl }
 
-    module _ (ok2 : work_answer ≡ Accepted) where
-      pub numbers_refused : (r : Answer) (q : Refusal) → r ≡ number_answer → r ≡ Refused q → Checked r heads nexts
-      numbers_refused r q e f = record { answers = f ∙ rw (ok, ok2, sym e ∙ f); slots = slots_kept (basis_of lanes len) len heads nexts r q f }
+    module _ (ok2 : work_answer ≡ Ok tt) where
+      pub numbers_refused : (r : Answer) (q : Refusal) → r ≡ number_answer → r ≡ Err q → Checked (Err q) heads nexts
+      numbers_refused r q e f = record { answers = rw (ok, ok2, sym e ∙ f); slots = slots_kept (basis_of lanes len) len heads nexts (Err q) q refl }
 
-      pub all_tested : number_answer ≡ Accepted → (ws : List Word) → ws ≡ basis_of lanes len → (r : Answer) (heads' nexts' : List ℕ) → (r ≡ distinct ws) × SlotsLeft ws len heads nexts r heads' nexts' → Checked r heads' nexts'
+      pub all_tested : number_answer ≡ Ok tt → (ws : List Word) → ws ≡ basis_of lanes len → (r : Answer) (heads' nexts' : List ℕ) → (r ≡ distinct ws) × SlotsLeft ws len heads nexts r heads' nexts' → Checked r heads' nexts'
       all_tested ok3 ws e r heads' nexts' d = record { answers = d.0 ∙ rw (ok, ok2, ok3, e); slots = rw e at d.1 }
 
 -- ---- 12, and the slots
@@ -72,7 +71,7 @@ module _ (len : ℕ) (basis heads nexts : List ℕ) (each : length basis ≡ len
   size : length (words basis) ≡ len
   size = omega (arith, each, words_low basis, words_high basis)
 
-  pub distinct_repeated : r < len → (Refused (RepeatedBasisWord r) ≡ distinct (words basis)) × SlotsLeft (words basis) len heads nexts (Refused (RepeatedBasisWord r)) heads' (part ++ drop len nexts)
+  pub distinct_repeated : r < len → (Err (RepeatedBasisWord r) ≡ distinct (words basis)) × SlotsLeft (words basis) len heads nexts (Err (RepeatedBasisWord r)) heads' (part ++ drop len nexts)
   unfolding distinct
   distinct_repeated h =
       let u = d.unchanged (omega (arith, size)) in (
@@ -80,7 +79,7 @@ module _ (len : ℕ) (basis heads nexts : List ℕ) (each : length basis ≡ len
         record { kept = λ _ _. (u.0, ap (λ (k : List ℕ). k ++ drop len nexts) u.1 ∙ take-append-drop len nexts); laid = λ e. absurd (refused_not (RepeatedBasisWord r) e) },
       )
 
-  pub distinct_laid : len ≤ r → (Accepted ≡ distinct (words basis)) × SlotsLeft (words basis) len heads nexts Accepted heads' (part ++ drop len nexts)
+  pub distinct_laid : len ≤ r → ((Ok tt) ≡ distinct (words basis)) × SlotsLeft (words basis) len heads nexts (Ok tt) heads' (part ++ drop len nexts)
   unfolding distinct
   distinct_laid h =
       let s = d.slots (omega (arith, size)) in (
@@ -108,7 +107,7 @@ module _ (m : Model) (t : ModelTables) (lanes : List ℕ) (coeffs : List Float) 
     pub lent : NumbersLent m t len coeffs w.offsets w.v w.b w.product out
     pub basis : BasisLent m.qubits len (take (len * word_lanes) lanes) w.generator.heads w.generator.nexts
 
-  pub all_passed : all_tests ≡ Accepted → Tested
+  pub all_passed : all_tests ≡ Ok tt → Tested
   all_passed e =
       let a = both first_tests (and_then table_tests (and_then last_tests (distinct (basis_of lanes len)))) e in
       let b = both table_tests (and_then last_tests (distinct (basis_of lanes len))) a.1 in
@@ -142,11 +141,11 @@ module _ (m : Model) (t : ModelTables) (lanes : List ℕ) (coeffs : List Float) 
       }
 
   -- ---- the answers
-  pub evolve_refused : (q : Refusal) → all_tests ≡ Refused q → (out' : List Float) (w' : Work) → out' ≡ out → w' ≡ w → record { answer = Evolved.Refused q; out = out'; work = w' } ≡ evolve w out m t lanes coeffs len dt dropTol
+  pub evolve_refused : (q : Refusal) → all_tests ≡ Err q → (out' : List Float) (w' : Work) → out' ≡ out → w' ≡ w → record { answer = Err q; out = out'; work = w' } ≡ evolve w out m t lanes coeffs len dt dropTol
   unfolding evolve evolve_tests
   evolve_refused q e out' w' f g = rw (e, f, g)
 
-  pub evolve_tested : all_tests ≡ Accepted → (bs : List Word) → bs ≡ basis_of lanes len → evolved_then w out m t bs coeffs len dt dropTol ≡ evolve w out m t lanes coeffs len dt dropTol
+  pub evolve_tested : all_tests ≡ Ok tt → (bs : List Word) → bs ≡ basis_of lanes len → evolved_then w out m t bs coeffs len dt dropTol ≡ evolve w out m t lanes coeffs len dt dropTol
   unfolding evolve evolve_tests
   evolve_tested e bs b = rw (e, b)
 

@@ -14,8 +14,8 @@ use lib.ListN.{length, take}
 use lib.Seq.{get_or-take, length-take-le}
 use Rattle.refusal.specs.declared.Refusal.{Refusal}
 use Rattle.refusal.specs.declared.Refusal.TheVariants.{CountAboveLimit, LengthMismatch, NumberOutOfRange}
-use Rattle.refusal.specs.declared.Answer.{Answer}
-use Rattle.refusal.specs.declared.Answer.TheVariants.{Accepted, Refused}
+use Rattle.std.specs.Prelude.{Ok, Err}
+use Rattle.refusal.specs.Cause.{Answer}
 use Rattle.number.specs.Floats.{is_finite}
 use Rattle.word.specs.Flat.{word_lanes}
 use Rattle.model.specs.Stored.{ModelTables}
@@ -37,36 +37,36 @@ module _ (m : Model) (t : ModelTables) (lanes : List ℕ) (coeffs : List Float) 
   abbrev places : ℕ
   places = length lanes / word_lanes
 
-  pub model_refused : (r : Refusal) → test_model m t ≡ Refused r → Refused r ≡ basis_tests m t lanes coeffs len
+  pub model_refused : (r : Refusal) → test_model m t ≡ Err r → Err r ≡ basis_tests m t lanes coeffs len
   unfolding basis_tests
   model_refused r e = rw e
 
-  module _ (ok : test_model m t ≡ Accepted) where
-    pub words_many : max_words < len → Refused (CountAboveLimit len) ≡ basis_tests m t lanes coeffs len
+  module _ (ok : test_model m t ≡ Ok tt) where
+    pub words_many : max_words < len → Err (CountAboveLimit len) ≡ basis_tests m t lanes coeffs len
     unfolding basis_tests
     words_many l = rw (ok, lt-ltb max_words len l)
 
     module _ (h1 : len ≤ max_words) where
-      pub words_short : places < len → Refused (LengthMismatch len places) ≡ basis_tests m t lanes coeffs len
+      pub words_short : places < len → Err (LengthMismatch len places) ≡ basis_tests m t lanes coeffs len
       unfolding basis_tests
       words_short l = rw (ok, le-ltb max_words len h1, lt-ltb places len l)
 
       module _ (h2 : len ≤ places) where
-        pub coeffs_short : length coeffs < len → Refused (LengthMismatch len (length coeffs)) ≡ basis_tests m t lanes coeffs len
+        pub coeffs_short : length coeffs < len → Err (LengthMismatch len (length coeffs)) ≡ basis_tests m t lanes coeffs len
         unfolding basis_tests
         coeffs_short l = rw (ok, le-ltb max_words len h1, le-ltb places len h2, lt-ltb (length coeffs) len l)
 
-        pub basis_accepted : len ≤ length coeffs → Accepted ≡ basis_tests m t lanes coeffs len
+        pub basis_accepted : len ≤ length coeffs → (Ok tt) ≡ basis_tests m t lanes coeffs len
         unfolding basis_tests
         basis_accepted l = rw (ok, le-ltb max_words len h1, le-ltb places len h2, le-ltb (length coeffs) len l)
 
   pub record BasisPassed : Type 0 where
-    pub model : test_model m t ≡ Accepted
+    pub model : test_model m t ≡ Ok tt
     pub few : len ≤ max_words
     pub words_long : len ≤ places
     pub coeffs_long : len ≤ length coeffs
 
-  pub basis_passed : basis_tests m t lanes coeffs len ≡ Accepted → BasisPassed
+  pub basis_passed : basis_tests m t lanes coeffs len ≡ Ok tt → BasisPassed
   unfolding basis_tests
   basis_passed e =
       let e0 = both (test_model m t) _ e in
@@ -81,57 +81,57 @@ module _ (n len hIndex jIndex mask heads nexts offsets v b product out : ℕ) wh
   tables = work_tests n len hIndex jIndex mask heads nexts offsets v b product out
 
   module _ {rows row starts : ℕ} (rows_are : rows ≡ where_any len (row_lanes * n)) (row_is : row ≡ where_any len row_lanes) (starts-are : starts ≡ where_any len (suc len)) where
-    pub h_short : hIndex < rows → Refused (LengthMismatch rows hIndex) ≡ tables
+    pub h_short : hIndex < rows → Err (LengthMismatch rows hIndex) ≡ tables
     unfolding work_tests
     h_short l = rw (← rows_are, lt-ltb hIndex rows l)
 
     module _ (h0 : rows ≤ hIndex) where
-      pub j_short : jIndex < rows → Refused (LengthMismatch rows jIndex) ≡ tables
+      pub j_short : jIndex < rows → Err (LengthMismatch rows jIndex) ≡ tables
       unfolding work_tests
       j_short l = rw (← rows_are, le-ltb hIndex rows h0, lt-ltb jIndex rows l)
 
       module _ (h1 : rows ≤ jIndex) where
-        pub mask_short : mask < row → Refused (LengthMismatch row mask) ≡ tables
+        pub mask_short : mask < row → Err (LengthMismatch row mask) ≡ tables
         unfolding work_tests
         mask_short l = rw (← rows_are, le-ltb hIndex rows h0, le-ltb jIndex rows h1, ← row_is, lt-ltb mask row l)
 
         module _ (h2 : row ≤ mask) where
-          pub heads_short : heads < len → Refused (LengthMismatch len heads) ≡ tables
+          pub heads_short : heads < len → Err (LengthMismatch len heads) ≡ tables
           unfolding work_tests
           heads_short l = rw (← rows_are, le-ltb hIndex rows h0, le-ltb jIndex rows h1, ← row_is, le-ltb mask row h2, lt-ltb heads len l)
 
           module _ (h3 : len ≤ heads) where
-            pub nexts_short : nexts < len → Refused (LengthMismatch len nexts) ≡ tables
+            pub nexts_short : nexts < len → Err (LengthMismatch len nexts) ≡ tables
             unfolding work_tests
             nexts_short l = rw (← rows_are, le-ltb hIndex rows h0, le-ltb jIndex rows h1, ← row_is, le-ltb mask row h2, le-ltb heads len h3, lt-ltb nexts len l)
 
             module _ (h4 : len ≤ nexts) where
-              pub offsets_short : offsets < starts → Refused (LengthMismatch starts offsets) ≡ tables
+              pub offsets_short : offsets < starts → Err (LengthMismatch starts offsets) ≡ tables
               unfolding work_tests
               offsets_short l = rw (← rows_are, le-ltb hIndex rows h0, le-ltb jIndex rows h1, ← row_is, le-ltb mask row h2, le-ltb heads len h3, le-ltb nexts len h4, ← starts-are, lt-ltb offsets starts l)
 
               module _ (h5 : starts ≤ offsets) where
-                pub v_short : v < len → Refused (LengthMismatch len v) ≡ tables
+                pub v_short : v < len → Err (LengthMismatch len v) ≡ tables
                 unfolding work_tests
                 v_short l = rw (← rows_are, le-ltb hIndex rows h0, le-ltb jIndex rows h1, ← row_is, le-ltb mask row h2, le-ltb heads len h3, le-ltb nexts len h4, ← starts-are, le-ltb offsets starts h5, lt-ltb v len l)
 
                 module _ (h6 : len ≤ v) where
-                  pub b_short : b < len → Refused (LengthMismatch len b) ≡ tables
+                  pub b_short : b < len → Err (LengthMismatch len b) ≡ tables
                   unfolding work_tests
                   b_short l = rw (← rows_are, le-ltb hIndex rows h0, le-ltb jIndex rows h1, ← row_is, le-ltb mask row h2, le-ltb heads len h3, le-ltb nexts len h4, ← starts-are, le-ltb offsets starts h5, le-ltb v len h6, lt-ltb b len l)
 
                   module _ (h7 : len ≤ b) where
-                    pub product_short : product < len → Refused (LengthMismatch len product) ≡ tables
+                    pub product_short : product < len → Err (LengthMismatch len product) ≡ tables
                     unfolding work_tests
                     product_short l = rw (← rows_are, le-ltb hIndex rows h0, le-ltb jIndex rows h1, ← row_is, le-ltb mask row h2, le-ltb heads len h3, le-ltb nexts len h4, ← starts-are, le-ltb offsets starts h5, le-ltb v len h6, le-ltb b len h7, lt-ltb product len l)
 
                     module _ (h8 : len ≤ product) where
-                      pub out_short : out < len → Refused (LengthMismatch len out) ≡ tables
+                      pub out_short : out < len → Err (LengthMismatch len out) ≡ tables
                       unfolding work_tests
                       out_short l = rw (← rows_are, le-ltb hIndex rows h0, le-ltb jIndex rows h1, ← row_is, le-ltb mask row h2, le-ltb heads len h3, le-ltb nexts len h4, ← starts-are, le-ltb offsets starts h5, le-ltb v len h6, le-ltb b len h7, le-ltb product len h8, lt-ltb out len l)
 
                       module _ (h9 : len ≤ out) where
-                        pub tables_accepted : Accepted ≡ tables
+                        pub tables_accepted : (Ok tt) ≡ tables
                         unfolding work_tests
                         tables_accepted = rw (← rows_are, le-ltb hIndex rows h0, le-ltb jIndex rows h1, ← row_is, le-ltb mask row h2, le-ltb heads len h3, le-ltb nexts len h4, ← starts-are, le-ltb offsets starts h5, le-ltb v len h6, le-ltb b len h7, le-ltb product len h8, le-ltb out len h9)
 
@@ -147,7 +147,7 @@ module _ (n len hIndex jIndex mask heads nexts offsets v b product out : ℕ) wh
     pub product_long : len ≤ product
     pub out_long : len ≤ out
 
-  pub tables_passed : tables ≡ Accepted → TablesPassed
+  pub tables_passed : tables ≡ Ok tt → TablesPassed
   unfolding work_tests
   tables_passed e =
       let rows : ℕ = row_lanes * n in
@@ -178,49 +178,49 @@ module _ (n len hIndex jIndex mask heads nexts offsets v b product out : ℕ) wh
 finite_then : (count : ℕ) (x : Float) (b : Bool) (after : Answer) → b ≡ is_finite x → not b ≡ false → finite_threshold count x after ≡ after
 finite_then count x b after e n = rw (sym e, not-false b n)
 
-finite_bad : (count : ℕ) (x : Float) (b : Bool) (after : Answer) → b ≡ is_finite x → not b ≡ true → finite_threshold count x after ≡ Refused (NumberOutOfRange count)
+finite_bad : (count : ℕ) (x : Float) (b : Bool) (after : Answer) → b ≡ is_finite x → not b ≡ true → finite_threshold count x after ≡ Err (NumberOutOfRange count)
 finite_bad count x b after e n = rw (sym e, not-true b n)
 
-inside_on : (len : ℕ) (lanes : List ℕ) (n : ℕ) (after : Answer) → inside_to len lanes n Accepted ≡ Accepted → inside_to len lanes n after ≡ after
+inside_on : (len : ℕ) (lanes : List ℕ) (n : ℕ) (after : Answer) → inside_to len lanes n (Ok tt) ≡ Ok tt → inside_to len lanes n after ≡ after
 inside_on = inside_then
 
 module _ (len : ℕ) (lanes : List ℕ) (n : ℕ) (coeffs : List Float) (dt dropTol : Float) where
   abbrev numbers : Answer
   numbers = number_tests len lanes n coeffs dt dropTol
 
-  pub inside_refuses : (a : Answer) (r : Refusal) → a ≡ inside_to len lanes n Accepted → a ≡ Refused r → a ≡ numbers
+  pub inside_refuses : (a : Answer) (r : Refusal) → a ≡ inside_to len lanes n (Ok tt) → a ≡ Err r → Err r ≡ numbers
   unfolding number_tests
-  inside_refuses a r e f = f ∙ sym (inside_refused len lanes n _ r (sym e ∙ f))
+  inside_refuses a r e f = sym (inside_refused len lanes n _ r (sym e ∙ f))
 
-  module _ (ok : inside_to len lanes n Accepted ≡ Accepted) (first : ℕ) (is : first ≡ first_to len (not_finite coeffs)) where
-    pub coeff_bad : first < len → Refused (NumberOutOfRange first) ≡ numbers
+  module _ (ok : inside_to len lanes n (Ok tt) ≡ Ok tt) (first : ℕ) (is : first ≡ first_to len (not_finite coeffs)) where
+    pub coeff_bad : first < len → Err (NumberOutOfRange first) ≡ numbers
     unfolding number_tests finite_to
-    coeff_bad l = let z : first ≡ 0 + first = omega arith in rw (inside_on len lanes n _ ok, ← is, lt-ltb first len l) (ap (λ (i : ℕ). Refused (NumberOutOfRange i)) z)
+    coeff_bad l = let z : first ≡ 0 + first = omega arith in rw (inside_on len lanes n _ ok, ← is, lt-ltb first len l) (ap (λ (i : ℕ). Err (NumberOutOfRange i)) z)
 
     module _ (all : len ≤ first) where
-      from_step : finite_threshold len dt (finite_threshold len dropTol Accepted) ≡ numbers
+      from_step : finite_threshold len dt (finite_threshold len dropTol (Ok tt)) ≡ numbers
       unfolding number_tests finite_to
       from_step = rw (inside_on len lanes n _ ok, ← is, le-ltb first len all)
 
       module _ (b : Bool) (told : b ≡ is_finite dt) where
-        pub step_bad : not b ≡ true → Refused (NumberOutOfRange len) ≡ numbers
-        step_bad h = sym (finite_bad len dt b (finite_threshold len dropTol Accepted) told h) ∙ from_step
+        pub step_bad : not b ≡ true → Err (NumberOutOfRange len) ≡ numbers
+        step_bad h = sym (finite_bad len dt b (finite_threshold len dropTol (Ok tt)) told h) ∙ from_step
 
         module _ (good : not b ≡ false) (d : Bool) (told2 : d ≡ is_finite dropTol) where
-          from_threshold : finite_threshold len dropTol Accepted ≡ numbers
-          from_threshold = sym (finite_then len dt b (finite_threshold len dropTol Accepted) told good) ∙ from_step
+          from_threshold : finite_threshold len dropTol (Ok tt) ≡ numbers
+          from_threshold = sym (finite_then len dt b (finite_threshold len dropTol (Ok tt)) told good) ∙ from_step
 
-          pub threshold_bad : not d ≡ true → Refused (NumberOutOfRange len) ≡ numbers
-          threshold_bad h = sym (finite_bad len dropTol d Accepted told2 h) ∙ from_threshold
+          pub threshold_bad : not d ≡ true → Err (NumberOutOfRange len) ≡ numbers
+          threshold_bad h = sym (finite_bad len dropTol d (Ok tt) told2 h) ∙ from_threshold
 
-          pub numbers_accepted : not d ≡ false → Accepted ≡ numbers
-          numbers_accepted h = sym (finite_then len dropTol d Accepted told2 h) ∙ from_threshold
+          pub numbers_accepted : not d ≡ false → (Ok tt) ≡ numbers
+          numbers_accepted h = sym (finite_then len dropTol d (Ok tt) told2 h) ∙ from_threshold
 
   pub record NumbersPassed : Type 0 where
     pub inside : (i : ℕ) → i < len → outside_at lanes n i ≡ false
     pub finite : (i : ℕ) → i < len → not_finite coeffs i ≡ false
 
-  pub numbers_passed : numbers ≡ Accepted → NumbersPassed
+  pub numbers_passed : numbers ≡ Ok tt → NumbersPassed
   unfolding number_tests inside_to finite_to
   numbers_passed e =
       let p = passed (ltb (first_to len (outside_at lanes n)) len) _ _ e in

@@ -2,10 +2,9 @@
 -- SPDX-License-Identifier: Apache-2.0
 
 -- Contracts between functions: what the functions of an evolution ask for and leave.
-use Rattle.std.specs.Prelude.{ℕ, ◌+◌, ◌*◌, ◌≤◌, ◌<◌, ◌≡◌, List, Float, length, take}
+use Rattle.std.specs.Prelude.{ℕ, ◌+◌, ◌*◌, ◌≤◌, ◌<◌, ◌≡◌, List, Float, length, take, Result, Ok, Err}
 use Rattle.refusal.specs.declared.Refusal.{Refusal}
-use Rattle.refusal.specs.declared.Answer.{Answer}
-use Rattle.refusal.specs.declared.Answer.TheVariants as Tests
+use Rattle.refusal.specs.Cause.{Answer}
 use Rattle.word.specs.Flat.{word_lanes}
 use Rattle.word.specs.declared.word.Word.{Word}
 use Rattle.model.specs.Stored.{ModelTables}
@@ -14,8 +13,6 @@ use Rattle.model.specs.declared.stored.Model.{Model}
 use Rattle.lent.specs.Tests.{and_then}
 use Rattle.lent.specs.Words.{max_words}
 use Rattle.slots.specs.Between.{Slotted}
-use Rattle.action.specs.declared.act.Acted.{Acted}
-use Rattle.action.specs.declared.act.Acted.TheVariants as Acts
 use Rattle.columns.specs.Between.{BasisReady}
 use Rattle.column_norm.specs.Columns.{largest}
 use Rattle.raw_norm.specs.Unshifted.{unshifted_norm}
@@ -24,7 +21,6 @@ use Rattle.generator.specs.Lent as Generator
 use Rattle.generator.specs.Generators.{CsrOut, csr_over}
 use Rattle.taylor.specs.Between.{AllFinite, EvolveReady}
 use Rattle.taylor.specs.Evolves.{Evolves, evolve_by}
-use Rattle.taylor.specs.declared.evolve.Evolved.TheVariants.{Refused}
 use Rattle.evolution.specs.Lent.{Work, zeroed, basis_tests, work_tests, number_tests}
 use Rattle.evolution.specs.Evolutions.{Evolving, evolve_over}
 use Rattle.evolution.specs.declared.matrix.Built.{Built}
@@ -32,8 +28,8 @@ use Rattle.evolution.specs.declared.matrix.Built.{Built}
 -- ---- the tests
 -- heads and nexts as they were after a refusal, else with the slots of the words
 pub record SlotsLeft (ws : List Word) (len : ℕ) (heads nexts : List ℕ) (r : Answer) (heads' nexts' : List ℕ) : Type 0 where
-  pub kept : (q : Refusal) → r ≡ Tests.Refused q → (heads' ≡ heads) × (nexts' ≡ nexts)
-  pub laid : r ≡ Tests.Accepted → Slotted ws heads' (take len nexts')
+  pub kept : (q : Refusal) → r ≡ Err q → (heads' ≡ heads) × (nexts' ≡ nexts)
+  pub laid : r ≡ Ok tt → Slotted ws heads' (take len nexts')
 
 pub record Checks (m : Model) (t : ModelTables) (lanes : List ℕ) (coeffs : List Float) (len : ℕ) (dt dropTol : Float) (hIndex jIndex mask : ℕ) (heads nexts : List ℕ) (offsets v b product out : ℕ) (r : Answer) (heads' nexts' : List ℕ) : Type 0 where
   pub answers :
@@ -52,21 +48,26 @@ pub record SlotsReady (n len : ℕ) (lanes heads nexts : List ℕ) : Type 0 wher
   pub nexts_long : len ≤ length nexts
   pub ready : BasisReady n lanes heads (take len nexts)
 
-abbrev pub StageHeld : Acted → List ℕ → List Float → Type 0
-StageHeld staged columns values = (k : ℕ) → staged ≡ Acts.Listed k → (k ≤ length columns) × (k ≤ length values)
+-- how many entries it has, or why it was not built
+abbrev pub count_of : Result Built Refusal → Result ℕ Refusal
+count_of (Ok x) = Ok x.count
+count_of (Err q) = Err q
 
--- the largest raw of what is staged for n columns
-abbrev pub NormRead : Acted → List ℕ → List Float → ℕ → Float → Type 0
-NormRead staged columns values n x = (k : ℕ) → staged ≡ Acts.Listed k → x ≡ largest (raws_from n 0 (take k columns) (take k values))
+abbrev pub StageHeld : Result ℕ Refusal → List ℕ → List Float → Type 0
+StageHeld staged columns values = (k : ℕ) → staged ≡ Ok k → (k ≤ length columns) × (k ≤ length values)
 
-pub record Builds (m : Model) (t : ModelTables) (bs : List Word) (len : ℕ) (w : Generator.Work) (offsets columns : List ℕ) (values : List Float) (r : Built) (w' : Generator.Work) (offsets' columns' : List ℕ) (values' : List Float) : Type 0 where
-  pub rows : ◌≡◌ {A = CsrOut} (record { answer = r.acted; offsets = offsets'; columns = columns'; values = values' }) (csr_over offsets columns values w len m t bs)
-  pub norm : (k : ℕ) → r.acted ≡ Acts.Listed k → r.norm ≡ unshifted_norm m t bs
+-- its norm is the largest raw of what is staged for n columns
+abbrev pub NormRead : Result Built Refusal → List ℕ → List Float → ℕ → Type 0
+NormRead built columns values n = (x : Built) → built ≡ Ok x → x.norm ≡ largest (raws_from n 0 (take x.count columns) (take x.count values))
+
+pub record Builds (m : Model) (t : ModelTables) (bs : List Word) (len : ℕ) (w : Generator.Work) (offsets columns : List ℕ) (values : List Float) (r : Result Built Refusal) (w' : Generator.Work) (offsets' columns' : List ℕ) (values' : List Float) : Type 0 where
+  pub rows : ◌≡◌ {A = CsrOut} (record { answer = count_of r; offsets = offsets'; columns = columns'; values = values' }) (csr_over offsets columns values w len m t bs)
+  pub norm : (x : Built) → r ≡ Ok x → x.norm ≡ unshifted_norm m t bs
   pub work : w' ≡ Generator.zeroed w
 
 -- ---- the numbers
 pub record NumbersLent (m : Model) (t : ModelTables) (len : ℕ) (coeffs : List Float) (offsets : List ℕ) (v b product out : List Float) : Type 0 where
-  pub passes : test_model m t ≡ Tests.Accepted
+  pub passes : test_model m t ≡ Ok tt
   pub coeffs_long : len ≤ length coeffs
   pub finite : AllFinite (take len coeffs)
   pub offsets_long : 0 < len → len < length offsets
@@ -76,19 +77,16 @@ pub record NumbersLent (m : Model) (t : ModelTables) (len : ℕ) (coeffs : List 
   pub out_long : len ≤ length out
 
 module _ (len : ℕ) (offsets columns : List ℕ) (values coeffs : List Float) where
-  pub record RowsReady (built : Built) (v b product out : List Float) : Type 0 where
+  pub record RowsReady (built : Result Built Refusal) (v b product out : List Float) : Type 0 where
     pub each : length coeffs ≡ len
     pub offsets_long : 0 < len → len < length offsets
-    pub held : StageHeld built.acted columns values
-    pub ready : 0 < len → (k : ℕ) → built.acted ≡ Acts.Listed k → EvolveReady (take (len + 1) offsets) (take k columns) (take k values) coeffs v b product out
+    pub held : StageHeld (count_of built) columns values
+    pub ready : 0 < len → (k : ℕ) → count_of built ≡ Ok k → EvolveReady (take (len + 1) offsets) (take k columns) (take k values) coeffs v b product out
 
-  -- over so many entries of a matrix that was built
-  abbrev pub acted_then : Acted → Float → Float → Float → List Float → Evolves
-  acted_then (Acts.Listed k) norm dt dropTol out = evolve_by (take (len + 1) offsets) (take k columns) (take k values) dt coeffs out norm dropTol
-  acted_then (Acts.Refused q) norm dt dropTol out = record { answer = Refused q; out = out }
-
-  abbrev pub built_then : Built → Float → Float → List Float → Evolves
-  built_then built dt dropTol out = acted_then built.acted built.norm dt dropTol out
+  -- over a matrix that was built
+  abbrev pub built_then : Result Built Refusal → Float → Float → List Float → Evolves
+  built_then (Ok x) dt dropTol out = evolve_by (take (len + 1) offsets) (take x.count columns) (take x.count values) dt coeffs out x.norm dropTol
+  built_then (Err q) dt dropTol out = record { answer = Err q; out = out }
 
 -- all tests passed
 abbrev pub evolved_then : Work → List Float → Model → ModelTables → List Word → List Float → ℕ → Float → Float → Evolving

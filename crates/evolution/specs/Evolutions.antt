@@ -2,9 +2,9 @@
 -- SPDX-License-Identifier: Apache-2.0
 
 -- The coefficients of a lent basis evolved by one time step: the answer, and every lent table afterwards.
-use Rattle.std.specs.Prelude.{ℕ, List, map, Float, take}
-use Rattle.refusal.specs.declared.Answer.{Answer}
-use Rattle.refusal.specs.declared.Answer.TheVariants as Tests
+use Rattle.std.specs.Prelude.{ℕ, List, map, Float, take, Result, Ok, Err}
+use Rattle.refusal.specs.declared.Refusal.{Refusal}
+use Rattle.refusal.specs.Cause.{Answer}
 use Rattle.word.specs.declared.word.Word.{Word}
 use Rattle.model.specs.Stored.{ModelTables}
 use Rattle.model.specs.declared.stored.Model.{Model}
@@ -16,12 +16,10 @@ use Rattle.generator.specs.Lent.{basis_of}
 use Rattle.generator.specs.Generators.{csr_places}
 use Rattle.raw_norm.specs.Unshifted.{unshifted_norm}
 use Rattle.taylor.specs.Evolves.{Evolves, evolve_by}
-use Rattle.taylor.specs.declared.evolve.Evolved.{Evolved}
-use Rattle.taylor.specs.declared.evolve.Evolved.TheVariants.{Refused}
 use Rattle.evolution.specs.Lent.{Work, zeroed, evolve_tests}
 
 pub record Evolving : Type 0 where
-  pub answer : Evolved
+  pub answer : Result ℕ Refusal
   pub out : List Float
   pub work : Work
 
@@ -34,14 +32,14 @@ module _ (m : Model) (t : ModelTables) (bs : List Word) (len : ℕ) (coeffs : Li
 
   -- where its columns found room (13)
   abbrev pub room_then : Answer → List Float → Evolves
-  room_then Tests.Accepted out = by_generator out
-  room_then (Tests.Refused q) out = record { answer = Refused q; out = out }
+  room_then (Ok _) out = by_generator out
+  room_then (Err q) out = record { answer = Err q; out = out }
 
 module _ (w : Work) (out : List Float) where
   -- a refusal by a test changes nothing; work tables are zero after acceptance, 13, 14 and 16
   abbrev pub tested : Answer → Evolves → Evolving
-  tested Tests.Accepted e = record { answer = e.answer; out = e.out; work = zeroed w }
-  tested (Tests.Refused q) e = record { answer = Refused q; out = out; work = w }
+  tested (Ok _) e = record { answer = e.answer; out = e.out; work = zeroed w }
+  tested (Err q) e = record { answer = Err q; out = out; work = w }
 
   -- over the first len words and coefficients
   unfoldable pub evolve_over : Model → ModelTables → List Word → List Float → ℕ → Float → Float → Evolves

@@ -2,9 +2,8 @@
 -- SPDX-License-Identifier: Apache-2.0
 
 -- What an evolution is lent to work with, and what it asks for: the model, 8, 9, 11, 7, 12.
-use Rattle.std.specs.Prelude.{ℕ, suc, ◌*◌, ◌/◌, List, [], ◌∷◌, Float, length, replicate}
-use Rattle.refusal.specs.declared.Answer.{Answer}
-use Rattle.refusal.specs.declared.Answer.TheVariants.{Accepted}
+use Rattle.std.specs.Prelude.{ℕ, suc, ◌*◌, ◌/◌, List, [], ◌∷◌, Float, length, replicate, Ok}
+use Rattle.refusal.specs.Cause.{Answer}
 use Rattle.word.specs.Flat.{word_lanes}
 use Rattle.number.specs.Floats.{float0}
 use Rattle.model.specs.Stored.{ModelTables}
@@ -49,7 +48,7 @@ basis_tests m t lanes coeffs len =
     ∷ counted max_words len
     ∷ lent len (length lanes / word_lanes)
     ∷ lent len (length coeffs)
-    ∷ []) Accepted
+    ∷ []) (Ok tt)
 
 -- 9 for tables of so many places, over a register of n qubits; no words ask for no place
 unfoldable pub work_tests : ℕ → ℕ → ℕ → ℕ → ℕ → ℕ → ℕ → ℕ → ℕ → ℕ → ℕ → ℕ → Answer
@@ -65,7 +64,7 @@ work_tests n len hIndex jIndex mask heads nexts offsets v b product out =
     ∷ lent len b
     ∷ lent len product
     ∷ lent len out
-    ∷ []) Accepted
+    ∷ []) (Ok tt)
 
 -- 11, then 7 for coefficients, dt and drop_tol
 unfoldable pub number_tests : ℕ → List ℕ → ℕ → List Float → Float → Float → Answer
@@ -75,7 +74,7 @@ number_tests len lanes n coeffs dt dropTol =
     ∷ finite_to 0 len coeffs
     ∷ finite_threshold len dt
     ∷ finite_threshold len dropTol
-    ∷ []) Accepted
+    ∷ []) (Ok tt)
 
 -- and 12
 unfoldable pub evolve_tests : Model → ModelTables → List ℕ → List Float → ℕ → Float → Float → Work → List Float → Answer

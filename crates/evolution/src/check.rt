@@ -4,7 +4,6 @@
 // What an evolution asks of what it is lent: the model, 8, 9, 11, 7, then 12, which is found as the slots of
 // the basis are laid.
 ghost use Rattle.std.specs.Prelude.{◌≡◌, ◌*◌, ◌≤◌, length, take};
-ghost use Rattle.refusal.specs.declared.Answer.TheVariants.{Accepted};
 ghost use Rattle.word.specs.Flat.{words as words_in, word_lanes};
 ghost use Rattle.word.specs.Word.{max_qubits};
 ghost use Rattle.model.specs.Between.{model_tables};
@@ -23,7 +22,7 @@ use lent::words::MAX_WORDS;
 use model::stored::Model;
 use model::test::test_model;
 use number::scalar::is_finite;
-use refusal::{Answer, Refusal};
+use refusal::Refusal;
 use word::flat::WORD_LANES;
 
 // What is given: the model, 8, 9.
@@ -38,15 +37,12 @@ fn check_basis(
     words: &[u64],
     coeffs: &[f64],
     len: usize,
-) -> Answer
+) -> Result<(), Refusal>
     ensures { result ≡ basis_tests m (model_tables h_words.now h_coeffs.now jumps.now rates.now t_words.now t_numbers.now) words.now coeffs.now len }
 {
-    let model = test_model(m, h_words, h_coeffs, jumps, rates, t_words, t_numbers);
-    let Answer::Accepted = model else {
-        return model;
-    };
+    test_model(m, h_words, h_coeffs, jumps, rates, t_words, t_numbers)?;
     if MAX_WORDS < len {
-        return Answer::Refused(Refusal::CountAboveLimit { count: len });
+        return Err(Refusal::CountAboveLimit { count: len });
     }
     let places = words.len() / WORD_LANES;
     if places < len {
@@ -55,7 +51,7 @@ fn check_basis(
     if coeffs.len() < len {
         return mismatch(len, coeffs.len());
     }
-    Answer::Accepted
+    Ok(())
 }
 
 // The tables whose lengths the input fixes: 9.
@@ -72,7 +68,7 @@ fn check_work(
     b: usize,
     product: usize,
     out: usize,
-) -> Answer
+) -> Result<(), Refusal>
     requires { (n ≤ max_qubits) × (len ≤ max_words) }
     ensures { result ≡ work_tests n len h_index j_index mask heads nexts offsets v b product out }
 {
@@ -109,7 +105,7 @@ fn check_work(
     if out < len {
         return mismatch(len, out);
     }
-    Answer::Accepted
+    Ok(())
 }
 
 // Words and numbers: 11, 7.
@@ -120,39 +116,39 @@ fn check_numbers(
     n: usize,
     dt: f64,
     drop_tol: f64,
-) -> Answer
+) -> Result<(), Refusal>
     requires { (word_lanes * len ≤ length words.now) × (len ≤ length coeffs.now) }
     ensures { result ≡ number_tests len words.now n coeffs.now dt drop_tol }
 {
-    let inside = check_inside(words, len, n);
-    let Answer::Accepted = inside else {
-        return inside;
-    };
+    check_inside(words, len, n)?;
     let first = first_not_finite(coeffs, len);
     if first < len {
-        return Answer::Refused(Refusal::NumberOutOfRange { index: first });
+        return Err(Refusal::NumberOutOfRange { index: first });
     }
-    let step = is_finite(dt);
-    if !step {
-        return Answer::Refused(Refusal::NumberOutOfRange { index: len });
+    if !is_finite(dt) {
+        return Err(Refusal::NumberOutOfRange { index: len });
     }
-    let threshold = is_finite(drop_tol);
-    if !threshold {
-        return Answer::Refused(Refusal::NumberOutOfRange { index: len });
+    if !is_finite(drop_tol) {
+        return Err(Refusal::NumberOutOfRange { index: len });
     }
-    Answer::Accepted
+    Ok(())
 }
 
 // A basis word that comes again: 12; else the slots are laid.
-fn check_distinct(basis: &[u64], len: usize, heads: &mut [u64], nexts: &mut [u64]) -> Answer
+fn check_distinct(
+    basis: &[u64],
+    len: usize,
+    heads: &mut [u64],
+    nexts: &mut [u64],
+) -> Result<(), Refusal>
     requires { (length basis.now ≡ len * word_lanes) × (len ≤ length heads.old) × (len ≤ length nexts.old) }
     ensures { (result ≡ distinct (words_in basis.now)) × SlotsLeft (words_in basis.now) len heads.old nexts.old result heads.new nexts.new }
 {
     let first = lay_distinct(basis, heads, &mut nexts[..len]);
     if first < len {
-        return Answer::Refused(Refusal::RepeatedBasisWord { position: first });
+        return Err(Refusal::RepeatedBasisWord { position: first });
     }
-    Answer::Accepted
+    Ok(())
 }
 
 // All tests, in their order.
@@ -179,17 +175,14 @@ pub fn check_evolution(
     b: usize,
     product: usize,
     out: usize,
-) -> Answer
+) -> Result<(), Refusal>
     ensures { Checks m (model_tables h_words.now h_coeffs.now jumps.now rates.now t_words.now t_numbers.now) words.now coeffs.now len dt drop_tol h_index j_index mask heads.old nexts.old offsets v b product out result heads.new nexts.new }
 {
-    let basis = check_basis(
+    check_basis(
         m, h_words, h_coeffs, jumps, rates, t_words, t_numbers, words, coeffs, len,
-    );
-    let Answer::Accepted = basis else {
-        return basis;
-    };
+    )?;
     let n = m.qubits;
-    let work = check_work(
+    check_work(
         n,
         len,
         h_index,
@@ -202,13 +195,7 @@ pub fn check_evolution(
         b,
         product,
         out,
-    );
-    let Answer::Accepted = work else {
-        return work;
-    };
-    let numbers = check_numbers(words, coeffs, len, n, dt, drop_tol);
-    let Answer::Accepted = numbers else {
-        return numbers;
-    };
+    )?;
+    check_numbers(words, coeffs, len, n, dt, drop_tol)?;
     check_distinct(&words[..len * WORD_LANES], len, heads, nexts)
 }

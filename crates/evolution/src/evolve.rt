@@ -14,18 +14,17 @@ ghost use Rattle.evolution.specs.Between.{SlotsReady, NumbersLent, RowsReady, bu
 
 use crate::check::check_evolution;
 use crate::matrix::{Built, build_matrix};
-use action::act::Acted;
 use generator::tables::clear_places;
 use lent::clear::{clear_lanes, clear_numbers};
 use model::stored::Model;
-use refusal::Answer;
-use taylor::evolve::{Evolved, evolve as evolve_rows};
+use refusal::Refusal;
+use taylor::evolve::evolve as evolve_rows;
 use word::flat::WORD_LANES;
 
 // The numbers over a matrix that was built, or the refusal at which its columns stopped. The tables of numbers
 // are zero afterwards.
 fn evolve_built(
-    built: Built,
+    built: Result<Built, Refusal>,
     len: usize,
     offsets: &[u64],
     columns: &[u32],
@@ -37,26 +36,24 @@ fn evolve_built(
     b: &mut [f64],
     product: &mut [f64],
     out: &mut [f64],
-) -> Evolved
+) -> Result<usize, Refusal>
     requires { RowsReady len offsets.now columns.now values.now coeffs.now built v.old b.old product.old out.old }
     ensures { (record { answer = result; out = out.new } ≡ built_then len offsets.now columns.now values.now coeffs.now built dt drop_tol out.old) × (v.new ≡ replicate (length v.old) float0) × (b.new ≡ replicate (length b.old) float0) × (product.new ≡ replicate (length product.old) float0) }
 {
-    let acted = built.acted;
-    let norm = built.norm;
-    match acted {
-        Acted::Listed(count) => {
+    match built {
+        Ok(matrix) => {
             // No words take no product, and may come without a place for where rows start.
             if len == 0 {
                 clear_numbers(v);
                 clear_numbers(b);
                 clear_numbers(product);
-                return Evolved::Products(0);
+                return Ok(0);
             }
             evolve_rows(
                 &offsets[..len + 1],
-                &columns[..count],
-                &values[..count],
-                norm,
+                &columns[..matrix.count],
+                &values[..matrix.count],
+                matrix.norm,
                 dt,
                 drop_tol,
                 coeffs,
@@ -66,18 +63,18 @@ fn evolve_built(
                 out,
             )
         }
-        Acted::Refused(refusal) => {
+        Err(refusal) => {
             clear_numbers(v);
             clear_numbers(b);
             clear_numbers(product);
-            Evolved::Refused(refusal)
+            Err(refusal)
         }
     }
 }
 
 // The same, with zero in the tables of the matrix afterwards.
 pub fn evolve_and_clear(
-    built: Built,
+    built: Result<Built, Refusal>,
     len: usize,
     offsets: &mut [u64],
     columns: &mut [u32],
@@ -89,7 +86,7 @@ pub fn evolve_and_clear(
     b: &mut [f64],
     product: &mut [f64],
     out: &mut [f64],
-) -> Evolved
+) -> Result<usize, Refusal>
     requires { RowsReady len offsets.old columns.old values.old coeffs.now built v.old b.old product.old out.old }
     ensures { (record { answer = result; out = out.new } ≡ built_then len offsets.old columns.old values.old coeffs.now built dt drop_tol out.old) × (offsets.new ≡ replicate (length offsets.old) 0) × (columns.new ≡ replicate (length columns.old) 0) × (values.new ≡ replicate (length values.old) float0) × (v.new ≡ replicate (length v.old) float0) × (b.new ≡ replicate (length b.old) float0) × (product.new ≡ replicate (length product.old) float0) }
 {
@@ -133,7 +130,7 @@ fn evolve_tested(
     b: &mut [f64],
     product: &mut [f64],
     out: &mut [f64],
-) -> Evolved
+) -> Result<usize, Refusal>
     requires { (0 < length basis.now / word_lanes → ModelLent m (model_tables h_words.now h_coeffs.now jumps.now rates.now t_words.now t_numbers.now) h_index.old j_index.old mask.old) × SlotsReady m.qubits len basis.now heads.old nexts.old × NumbersLent m (model_tables h_words.now h_coeffs.now jumps.now rates.now t_words.now t_numbers.now) len coeffs.now offsets.old v.old b.old product.old out.old }
     ensures { record { answer = result; out = out.new; work = work_of (generator_work h_index.new j_index.new mask.new heads.new nexts.new work_words.new work_sums.new stage_rows.new stage_columns.new stage_values.new) offsets.new columns.new values.new v.new b.new product.new } ≡ evolved_then (work_of (generator_work h_index.old j_index.old mask.old heads.old nexts.old work_words.old work_sums.old stage_rows.old stage_columns.old stage_values.old) offsets.old columns.old values.old v.old b.old product.old) out.old m (model_tables h_words.now h_coeffs.now jumps.now rates.now t_words.now t_numbers.now) (words_in basis.now) coeffs.now len dt drop_tol }
 {
@@ -207,10 +204,10 @@ pub fn evolve(
     b: &mut [f64],
     product: &mut [f64],
     out: &mut [f64],
-) -> Evolved
+) -> Result<usize, Refusal>
     ensures { record { answer = result; out = out.new; work = work_of (generator_work h_index.new j_index.new mask.new heads.new nexts.new work_words.new work_sums.new stage_rows.new stage_columns.new stage_values.new) offsets.new columns.new values.new v.new b.new product.new } ≡ evolve_as (work_of (generator_work h_index.old j_index.old mask.old heads.old nexts.old work_words.old work_sums.old stage_rows.old stage_columns.old stage_values.old) offsets.old columns.old values.old v.old b.old product.old) out.old m (model_tables h_words.now h_coeffs.now jumps.now rates.now t_words.now t_numbers.now) words.now coeffs.now len dt drop_tol }
 {
-    let answer = check_evolution(
+    check_evolution(
         m,
         h_words,
         h_coeffs,
@@ -233,39 +230,36 @@ pub fn evolve(
         b.len(),
         product.len(),
         out.len(),
-    );
-    let Answer::Refused(refusal) = answer else {
-        return evolve_tested(
-            m,
-            h_words,
-            h_coeffs,
-            jumps,
-            rates,
-            t_words,
-            t_numbers,
-            &words[..len * WORD_LANES],
-            coeffs,
-            len,
-            dt,
-            drop_tol,
-            h_index,
-            j_index,
-            mask,
-            heads,
-            nexts,
-            work_words,
-            work_sums,
-            stage_rows,
-            stage_columns,
-            stage_values,
-            offsets,
-            columns,
-            values,
-            v,
-            b,
-            product,
-            out,
-        );
-    };
-    Evolved::Refused(refusal)
+    )?;
+    evolve_tested(
+        m,
+        h_words,
+        h_coeffs,
+        jumps,
+        rates,
+        t_words,
+        t_numbers,
+        &words[..len * WORD_LANES],
+        coeffs,
+        len,
+        dt,
+        drop_tol,
+        h_index,
+        j_index,
+        mask,
+        heads,
+        nexts,
+        work_words,
+        work_sums,
+        stage_rows,
+        stage_columns,
+        stage_values,
+        offsets,
+        columns,
+        values,
+        v,
+        b,
+        product,
+        out,
+    )
 }

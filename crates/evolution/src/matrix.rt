@@ -9,9 +9,8 @@ ghost use Rattle.model.specs.Between.{model_tables};
 ghost use Rattle.generator.specs.Between.{ModelLent, HeldRows};
 ghost use Rattle.generator.specs.Lent.{work_of};
 ghost use Rattle.generator.specs.Generators.{by_rows, staged_entries};
-ghost use Rattle.evolution.specs.Between.{SlotsReady, NormRead, StageHeld, Builds};
+ghost use Rattle.evolution.specs.Between.{SlotsReady, count_of, NormRead, StageHeld, Builds};
 
-use action::act::Acted;
 use generator::csr::list_rows;
 use generator::gather::gather;
 use generator::tables::{clear_entries, places_of};
@@ -19,28 +18,33 @@ use lent::clear::clear_lanes;
 use lent::sizes::smaller;
 use model::stored::Model;
 use raw_norm::largest_raw;
+use refusal::Refusal;
 
-// How many entries the matrix has, or why it was not built; and its norm.
-#[derive(Drop)]
+// How many entries the matrix has, and its norm.
+#[derive(Clone, Copy)]
 pub struct Built {
-    pub acted: Acted,
+    pub count: usize,
     pub norm: f64,
 }
 
-// The norm of what is staged; 0 where the columns were refused.
-fn norm_of(staged: Acted, stage_columns: &[u32], stage_values: &[f64], n: usize) -> f64
+// What is staged, with its norm.
+fn with_norm(
+    staged: Result<usize, Refusal>,
+    stage_columns: &[u32],
+    stage_values: &[f64],
+    n: usize,
+) -> Result<Built, Refusal>
     requires { StageHeld staged stage_columns.now stage_values.now }
-    ensures { NormRead staged stage_columns.now stage_values.now n result }
+    ensures { (count_of result ≡ staged) × NormRead result stage_columns.now stage_values.now n }
 {
-    let Acted::Listed(count) = staged else {
-        return 0.0;
-    };
-    largest_raw(&stage_columns[..count], &stage_values[..count], n)
+    let count = staged?;
+    let norm = largest_raw(&stage_columns[..count], &stage_values[..count], n);
+    Ok(Built { count, norm })
 }
 
 // What is staged, by rows, and its norm. The work table is zero afterwards.
 fn list_normed(
-    staged: Acted,
+    staged: Result<usize, Refusal>,
     stage_rows: &[u32],
     stage_columns: &[u32],
     stage_values: &[f64],
@@ -49,20 +53,16 @@ fn list_normed(
     offsets: &mut [u64],
     columns: &mut [u32],
     values: &mut [f64],
-) -> Built
+) -> Result<Built, Refusal>
     requires { HeldRows n staged stage_rows.now stage_columns.now stage_values.now columns.old values.old × (n ≤ length work.old) × (0 < n → n < length offsets.old) }
-    ensures { (record { answer = result.acted; offsets = offsets.new; columns = columns.new; values = values.new } ≡ by_rows n offsets.old columns.old values.old staged (staged_entries staged stage_rows.now stage_columns.now stage_values.now)) × (work.new ≡ replicate (length work.old) 0) × NormRead staged stage_columns.now stage_values.now n result.norm }
+    ensures { (record { answer = count_of result; offsets = offsets.new; columns = columns.new; values = values.new } ≡ by_rows n offsets.old columns.old values.old staged (staged_entries staged stage_rows.now stage_columns.now stage_values.now)) × (work.new ≡ replicate (length work.old) 0) × NormRead result stage_columns.now stage_values.now n }
 {
-    let norm = norm_of(staged, stage_columns, stage_values, n);
     // No places for where rows start: these are the rows of no words.
     if offsets.len() <= n {
         clear_lanes(work);
-        return Built {
-            acted: staged,
-            norm,
-        };
+        return with_norm(staged, stage_columns, stage_values, n);
     }
-    let acted = list_rows(
+    let listed = list_rows(
         staged,
         stage_rows,
         stage_columns,
@@ -73,7 +73,7 @@ fn list_normed(
         columns,
         values,
     );
-    Built { acted, norm }
+    with_norm(listed, stage_columns, stage_values, n)
 }
 
 pub fn build_matrix(
@@ -99,7 +99,7 @@ pub fn build_matrix(
     offsets: &mut [u64],
     columns: &mut [u32],
     values: &mut [f64],
-) -> Built
+) -> Result<Built, Refusal>
     requires { (0 < length basis.now / word_lanes → ModelLent m (model_tables h_words.now h_coeffs.now jumps.now rates.now t_words.now t_numbers.now) h_index.old j_index.old mask.old) × SlotsReady m.qubits len basis.now heads.old nexts.old × (0 < len → len < length offsets.old) }
     ensures { Builds m (model_tables h_words.now h_coeffs.now jumps.now rates.now t_words.now t_numbers.now) (words_in basis.now) len (work_of h_index.old j_index.old mask.old heads.old nexts.old work_words.old work_sums.old stage_rows.old stage_columns.old stage_values.old) offsets.old columns.old values.old result (work_of h_index.new j_index.new mask.new heads.new nexts.new work_words.new work_sums.new stage_rows.new stage_columns.new stage_values.new) offsets.new columns.new values.new }
 {

@@ -16,16 +16,11 @@ fn print_entry(rt: &impl Print, words: &[u64], i: usize, value: f64) {
 
 // The words of a list with their numbers, of the first count places.
 fn print_list(rt: &impl Print, words: &[u64], values: &[f64], count: usize) {
-    let mut i = 0;
-    while i < values.len() {
-        if count <= i {
-            return;
-        }
+    for (i, value) in values.iter().take(count).enumerate() {
         if i != 0 {
             print::text(rt, b", ");
         }
-        print_entry(rt, words, i, values[i]);
-        i += 1;
+        print_entry(rt, words, i, *value);
     }
 }
 

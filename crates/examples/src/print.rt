@@ -68,11 +68,8 @@ fn letter_of(code: u8) -> u8 {
 }
 
 fn letters(rt: &impl Print, codes: &[u8]) {
-    let mut q = 0;
-    while q < codes.len() {
-        let letter = [letter_of(codes[q])];
-        text(rt, &letter);
-        q += 1;
+    for code in codes {
+        text(rt, &[letter_of(*code)]);
     }
 }
 

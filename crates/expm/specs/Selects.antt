@@ -3,7 +3,7 @@
 
 -- Degree (m, s) for a norm t: the degree of the Taylor polynomial, and into how many steps the exponential is cut; 16 where that asks
 -- for too many products.
-use Rattle.std.specs.Prelude.{◌≡◌, ℕ, suc, ◌*◌, ◌/◌, ◌%◌, ◌<◌, ◌≤◌, min, max, cond, List, [], ◌∷◌, map, length, get_or, ◌==◌, nat_lt, slice_index_or, Float}
+use Rattle.std.specs.Prelude.{◌≡◌, ℕ, suc, ◌*◌, ◌/◌, ◌%◌, ◌<◌, ◌≤◌, min, max, cond, List, [], ◌∷◌, map, length, get_or, ◌==◌, nat_lt, slice_index_or, Float, Result, Ok, Err}
 use Rattle.std.specs.Float.{nan, inf, fin, binary64}
 use Rattle.std.specs.Float.Ieee.{up, down, lt, le, div}
 use Rattle.refusal.specs.declared.Refusal.{Refusal}
@@ -11,8 +11,6 @@ use Rattle.refusal.specs.declared.Refusal.TheVariants.{TooManyProducts}
 use Rattle.number.specs.Floats.{float0}
 use Rattle.expm.specs.Theta.{Row, row, decimal, theta, theta_loose}
 use Rattle.expm.specs.declared.Degree.{Degree}
-use Rattle.expm.specs.declared.Chosen.{Chosen}
-use Rattle.expm.specs.declared.Chosen.TheVariants.{Pair, Refused}
 
 abbrev pub max_steps : ℕ
 max_steps = 4294967295
@@ -60,11 +58,11 @@ abbrev pub max_products : ℕ
 max_products = 1048576
 
 -- 16 (m, s) where m × s exceeds the ceiling
-unfoldable pub under_ceiling : Degree → Chosen
-under_ceiling d = cond (nat_lt max_products (cost d)) (Refused (TooManyProducts d.m d.s)) (Pair d)
+unfoldable pub under_ceiling : Degree → Result Degree Refusal
+under_ceiling d = cond (nat_lt max_products (cost d)) (Err (TooManyProducts d.m d.s)) (Ok d)
 
 -- the degree choice: the first pair of least m × s, under the ceiling
-unfoldable pub chosen : Float → Float → Chosen
+unfoldable pub chosen : Float → Float → Result Degree Refusal
 chosen dropTol t = under_ceiling (degree_by (table_for dropTol) t)
 
 -- ---- what laws say

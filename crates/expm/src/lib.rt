@@ -6,7 +6,6 @@
 #![tactic(auto)]
 
 ghost use Rattle.std.specs.Prelude.{◌≡◌, ◌<◌, ◌≤◌, length};
-ghost use Rattle.expm.specs.Theta.{theta, theta_loose};
 ghost use Rattle.expm.specs.Selects.{steps_of, cost, better, degree_by, table_for, rows_from, under_ceiling, chosen};
 
 use refusal::Refusal;
@@ -15,13 +14,6 @@ use refusal::Refusal;
 pub struct Degree {
     pub m: u32,
     pub s: u32,
-}
-
-// The pair that was chosen, or why it is not accepted.
-#[derive(Drop)]
-pub enum Chosen {
-    Pair(Degree),
-    Refused(Refusal),
 }
 
 // The thresholds of degrees 1 to 30 at double precision (unit roundoff 2^-53), Table A.3.
@@ -92,53 +84,39 @@ fn select_ms_with(t: f64, thresholds: &[f64]) -> Degree
         m: 1,
         s: steps(t / thresholds[0]),
     };
-    let mut i = 1;
-    while i < thresholds.len() {
+    for i in 1..thresholds.len() {
         let s = steps(t / thresholds[i]);
-        i += 1;
-        best = better_of(best, Degree { m: i as u32, s });
+        best = better_of(best, Degree { m: i as u32 + 1, s });
     }
     best
 }
 
-fn select_ms(t: f64) -> Degree
-    ensures { result ≡ degree_by theta t }
-{
-    let thresholds = THETA;
-    select_ms_with(t, &thresholds)
-}
-
-fn select_ms_loose(t: f64) -> Degree
-    ensures { result ≡ degree_by theta_loose t }
-{
-    let thresholds = THETA_LOOSE;
-    select_ms_with(t, &thresholds)
-}
-
-// The table that fits how coarsely the state is cut. A NaN takes the tight one.
+// The pair by the table that fits how coarsely the state is cut. A NaN takes the tight one.
 fn select_pair(t: f64, drop_tol: f64) -> Degree
     ensures { result ≡ degree_by (table_for drop_tol) t }
 {
-    if LOOSE_FROM <= drop_tol {
-        return select_ms_loose(t);
-    }
-    select_ms(t)
+    let thresholds = if LOOSE_FROM <= drop_tol {
+        THETA_LOOSE
+    } else {
+        THETA
+    };
+    select_ms_with(t, &thresholds)
 }
 
 // A pair, unless it costs too much.
-fn under_ceiling(d: Degree) -> Chosen
+fn under_ceiling(d: Degree) -> Result<Degree, Refusal>
     ensures { result ≡ under_ceiling d }
 {
     if MAX_PRODUCTS < cost_of(d) {
-        return Chosen::Refused(Refusal::TooManyProducts {
+        return Err(Refusal::TooManyProducts {
             m: d.m as usize,
             s: d.s as usize,
         });
     }
-    Chosen::Pair(d)
+    Ok(d)
 }
 
-pub fn select_degree(t: f64, drop_tol: f64) -> Chosen
+pub fn select_degree(t: f64, drop_tol: f64) -> Result<Degree, Refusal>
     ensures { result ≡ chosen drop_tol t }
 {
     under_ceiling(select_pair(t, drop_tol))

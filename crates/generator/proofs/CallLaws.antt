@@ -10,8 +10,8 @@ use borrow.Author.Tests.{le-ltb}
 use lib.Ieee.{Float}
 use lib.ListN.{length, take}
 use Rattle.refusal.specs.declared.Refusal.{Refusal}
-use Rattle.refusal.specs.declared.Answer.{Answer}
-use Rattle.refusal.specs.declared.Answer.TheVariants as Tests
+use Rattle.std.specs.Prelude.{Result, Ok, Err}
+use Rattle.refusal.specs.Cause.{Answer}
 use Rattle.word.specs.declared.word.Word.{Word}
 use Rattle.model.specs.Stored.{ModelTables}
 use Rattle.lent.specs.Tests.{lent, and_then}
@@ -19,8 +19,6 @@ use Rattle.lent.proofs.Passed.{both, lent_passed}
 use Rattle.lent.specs.Words.{inside_to}
 use Rattle.model.specs.declared.stored.Model.{Model}
 use Rattle.action.specs.Acts.{sum_places}
-use Rattle.action.specs.declared.act.Acted.{Acted}
-use Rattle.action.specs.declared.act.Acted.TheVariants.{Listed, Refused}
 use Rattle.columns.specs.Entries.{Entry}
 use Rattle.columns.specs.Columns.{generator_of, generator_room}
 use Rattle.columns.specs.Stages.{answered}
@@ -35,12 +33,12 @@ use Rattle.columns.specs.Between.{StageRoom, Stages}
 use Rattle.generator.specs.Between.{HeldInside, HeldRows}
 
 -- ---- what the columns staged
-answered_listed : (tests : Answer) (k n : ℕ) → Listed n ≡ answered tests k → (tests ≡ Tests.Accepted) × (n ≡ k)
-answered_listed Tests.Accepted k n e = (refl, cc)
-answered_listed (Tests.Refused q) k n e = absurd (let z : ◌≡◌ {A = ℕ} 0 1 = cc in omega arith)
+answered_listed : (tests : Answer) (k n : ℕ) → Ok n ≡ answered tests k → (tests ≡ Ok tt) × (n ≡ k)
+answered_listed (Ok _) k n e = (refl, cc)
+answered_listed (Err q) k n e = absurd (let z : ◌≡◌ {A = ℕ} 0 1 = cc in omega arith)
 
-module _ (m : Model) (t : ModelTables) (bs : List Word) (sumRoom entryRoom : ℕ) (rows columns : List ℕ) (values : List Float) (r : Acted) (s : Stages (generator_room m t bs sumRoom entryRoom) (generator_of m t bs) rows columns values r) where
-  staged_few : (n : ℕ) → r ≡ Listed n → n ≤ entryRoom
+module _ (m : Model) (t : ModelTables) (bs : List Word) (sumRoom entryRoom : ℕ) (rows columns : List ℕ) (values : List Float) (r : Result ℕ Refusal) (s : Stages (generator_room m t bs sumRoom entryRoom) (generator_of m t bs) rows columns values r) where
+  staged_few : (n : ℕ) → r ≡ Ok n → n ≤ entryRoom
   staged_few n e =
       let a = answered_listed (generator_room m t bs sumRoom entryRoom) (length (generator_of m t bs)) n (sym e ∙ s.answers) in
       let f = generator_fits m t bs sumRoom entryRoom a.0 in
@@ -58,7 +56,7 @@ module _ (m : Model) (t : ModelTables) (bs : List Word) (sumRoom entryRoom : ℕ
     values_long = λ k e. let f = staged_few k e in omega (arith, f);
   }
     where
-      rowed : (k : ℕ) → r ≡ Listed k → k ≤ entryRoom → Rowed len k rows columns values
+      rowed : (k : ℕ) → r ≡ Ok k → k ≤ entryRoom → Rowed len k rows columns values
       rowed k e f =
           let a : k ≤ length rows = omega (arith, h.rows_long) in
           let b : k ≤ length columns = omega (arith, h.columns_long) in
@@ -69,11 +67,11 @@ module _ (m : Model) (t : ModelTables) (bs : List Word) (sumRoom entryRoom : ℕ
 -- ---- the generator
 module _ (rows columns : List ℕ) (values : List Float) (w : Work) (m : Model) (t : ModelTables) where
   module _ (bs : List Word) where
-    pub tested_repeated : (q : Refusal) (after : Work) → distinct bs ≡ Tests.Refused q → after ≡ w
-        → record { out = record { answer = Refused q; rows = rows; columns = columns; values = values }; work = after } ≡ tested rows columns values w (distinct bs) (listed_over rows columns values w m t bs)
+    pub tested_repeated : (q : Refusal) (after : Work) → distinct bs ≡ Err q → after ≡ w
+        → record { out = record { answer = Err q; rows = rows; columns = columns; values = values }; work = after } ≡ tested rows columns values w (distinct bs) (listed_over rows columns values w m t bs)
     tested_repeated q after e z = rw (e, z)
 
-    pub tested_listed : (out : Out) (after : Work) (places : ℕ) (stageRows stageColumns : List ℕ) (stageValues : List Float) (r : Acted) → distinct bs ≡ Tests.Accepted → places ≡ entry_places w rows columns values
+    pub tested_listed : (out : Out) (after : Work) (places : ℕ) (stageRows stageColumns : List ℕ) (stageValues : List Float) (r : Result ℕ Refusal) → distinct bs ≡ Ok tt → places ≡ entry_places w rows columns values
         → Stages (generator_room m t bs (sum_places w.work_words w.work_sums) places) (generator_of m t bs) stageRows stageColumns stageValues r
         → out ≡ listing rows columns values r (staged_entries r stageRows stageColumns stageValues) → after ≡ zeroed w
         → record { out = out; work = after } ≡ tested rows columns values w (distinct bs) (listed_over rows columns values w m t bs)
@@ -83,29 +81,29 @@ module _ (rows columns : List ℕ) (values : List Float) (w : Work) (m : Model) 
 
   module _ (lanes : List ℕ) (len : ℕ) where
     abbrev checks : Answer
-    checks = and_then (lent_tests m t lanes len w) (inside_to len lanes m.qubits Tests.Accepted)
+    checks = and_then (lent_tests m t lanes len w) (inside_to len lanes m.qubits (Ok tt))
 
-    pub generate_refused : (q : Refusal) → checks ≡ Tests.Refused q
-        → record { out = record { answer = Refused q; rows = rows; columns = columns; values = values }; work = w } ≡ generate rows columns values w m t lanes len
+    pub generate_refused : (q : Refusal) → checks ≡ Err q
+        → record { out = record { answer = Err q; rows = rows; columns = columns; values = values }; work = w } ≡ generate rows columns values w m t lanes len
     unfolding generate generator_tests
     generate_refused q e =
-        rw (then_other (lent_tests m t lanes len w) (inside_to len lanes m.qubits Tests.Accepted) (inside_to len lanes m.qubits (distinct (basis_of lanes len))) q (inside_refused len lanes m.qubits (distinct (basis_of lanes len)) q) e)
+        rw (then_other (lent_tests m t lanes len w) (inside_to len lanes m.qubits (Ok tt)) (inside_to len lanes m.qubits (distinct (basis_of lanes len))) q (inside_refused len lanes m.qubits (distinct (basis_of lanes len)) q) e)
 
-    pub generate_tested : checks ≡ Tests.Accepted → (bs : List Word) → bs ≡ basis_of lanes len
+    pub generate_tested : checks ≡ Ok tt → (bs : List Word) → bs ≡ basis_of lanes len
         → tested rows columns values w (distinct bs) (listed_over rows columns values w m t bs) ≡ generate rows columns values w m t lanes len
     unfolding generate generator_tests
     generate_tested e bs b =
-        let a = both (lent_tests m t lanes len w) (inside_to len lanes m.qubits Tests.Accepted) e in
+        let a = both (lent_tests m t lanes len w) (inside_to len lanes m.qubits (Ok tt)) e in
         rw (b, a.0, inside_then len lanes m.qubits (distinct (basis_of lanes len)) a.1)
 
 -- ---- by rows
 module _ (offsets columns : List ℕ) (values : List Float) (w : Work) (m : Model) (t : ModelTables) where
   module _ (n : ℕ) (bs : List Word) where
-    pub csr_repeated : (q : Refusal) (after : Work) → distinct bs ≡ Tests.Refused q → after ≡ w
-        → record { out = record { answer = Refused q; offsets = offsets; columns = columns; values = values }; work = after } ≡ csr_tested offsets columns values w (distinct bs) (csr_over offsets columns values w n m t bs)
+    pub csr_repeated : (q : Refusal) (after : Work) → distinct bs ≡ Err q → after ≡ w
+        → record { out = record { answer = Err q; offsets = offsets; columns = columns; values = values }; work = after } ≡ csr_tested offsets columns values w (distinct bs) (csr_over offsets columns values w n m t bs)
     csr_repeated q after e z = rw (e, z)
 
-    pub csr_listed : (out : CsrOut) (after : Work) (places : ℕ) (stageRows stageColumns : List ℕ) (stageValues : List Float) (r : Acted) → distinct bs ≡ Tests.Accepted → places ≡ csr_places w columns values
+    pub csr_listed : (out : CsrOut) (after : Work) (places : ℕ) (stageRows stageColumns : List ℕ) (stageValues : List Float) (r : Result ℕ Refusal) → distinct bs ≡ Ok tt → places ≡ csr_places w columns values
         → Stages (generator_room m t bs (sum_places w.work_words w.work_sums) places) (generator_of m t bs) stageRows stageColumns stageValues r
         → out ≡ by_rows n offsets columns values r (staged_entries r stageRows stageColumns stageValues) → after ≡ zeroed w
         → record { out = out; work = after } ≡ csr_tested offsets columns values w (distinct bs) (csr_over offsets columns values w n m t bs)
@@ -115,29 +113,29 @@ module _ (offsets columns : List ℕ) (values : List Float) (w : Work) (m : Mode
 
   module _ (lanes : List ℕ) (len : ℕ) where
     abbrev csr_checks : Answer
-    csr_checks = and_then (lent_tests m t lanes len w) (lent (suc len) (length offsets) (inside_to len lanes m.qubits Tests.Accepted))
+    csr_checks = and_then (lent_tests m t lanes len w) (lent (suc len) (length offsets) (inside_to len lanes m.qubits (Ok tt)))
 
-    pub build_refused : (q : Refusal) → csr_checks ≡ Tests.Refused q
-        → record { out = record { answer = Refused q; offsets = offsets; columns = columns; values = values }; work = w } ≡ build_csr offsets columns values w m t lanes len
+    pub build_refused : (q : Refusal) → csr_checks ≡ Err q
+        → record { out = record { answer = Err q; offsets = offsets; columns = columns; values = values }; work = w } ≡ build_csr offsets columns values w m t lanes len
     unfolding build_csr csr_tests
     build_refused q e =
-        let i : Answer = inside_to len lanes m.qubits Tests.Accepted in
+        let i : Answer = inside_to len lanes m.qubits (Ok tt) in
         let d : Answer = inside_to len lanes m.qubits (distinct (basis_of lanes len)) in
         rw (then_other (lent_tests m t lanes len w) (lent (suc len) (length offsets) i) (lent (suc len) (length offsets) d) q (lent_other (suc len) (length offsets) i d q (inside_refused len lanes m.qubits (distinct (basis_of lanes len)) q)) e)
 
     -- what is left once all but 12 is tested
     pub record CsrChecked : Type 0 where
-      pub tables : lent_tests m t lanes len w ≡ Tests.Accepted
+      pub tables : lent_tests m t lanes len w ≡ Ok tt
       pub offsets_long : len < length offsets
-      pub inside : inside_to len lanes m.qubits Tests.Accepted ≡ Tests.Accepted
+      pub inside : inside_to len lanes m.qubits (Ok tt) ≡ Ok tt
 
-    pub build_checked : csr_checks ≡ Tests.Accepted → CsrChecked
+    pub build_checked : csr_checks ≡ Ok tt → CsrChecked
     build_checked e =
-        let a = both (lent_tests m t lanes len w) (lent (suc len) (length offsets) (inside_to len lanes m.qubits Tests.Accepted)) e in
+        let a = both (lent_tests m t lanes len w) (lent (suc len) (length offsets) (inside_to len lanes m.qubits (Ok tt))) e in
         let b = lent_passed (suc len) (length offsets) _ a.1 in
         record { tables = a.0; offsets_long = b.0; inside = b.1 }
 
-    pub build_tested : csr_checks ≡ Tests.Accepted → (bs : List Word) → bs ≡ basis_of lanes len
+    pub build_tested : csr_checks ≡ Ok tt → (bs : List Word) → bs ≡ basis_of lanes len
         → csr_tested offsets columns values w (distinct bs) (csr_over offsets columns values w len m t bs) ≡ build_csr offsets columns values w m t lanes len
     unfolding build_csr csr_tests
     build_tested e bs b =

@@ -12,7 +12,8 @@ use lib.Ieee.{Float}
 use lib.ListN.{length, get_or, take, drop, take-append-drop}
 use lib.Seq.{get_or-take, length-take-le, take_at}
 use Rattle.refusal.specs.declared.Refusal.TheVariants.{RepeatedBasisWord}
-use Rattle.refusal.specs.declared.Answer.TheVariants.{Accepted, Refused}
+use Rattle.std.specs.Prelude.{Result, Ok, Err}
+use Rattle.refusal.specs.declared.Refusal.{Refusal}
 use Rattle.word.specs.Word.{identity}
 use Rattle.word.specs.Flat.{words, word_lanes}
 use Rattle.word.specs.Register.{reaches}
@@ -24,7 +25,6 @@ use Rattle.model.specs.declared.stored.Model.{Model}
 use Rattle.rules_by_index.specs.Near.{ModelIndexed}
 use Rattle.action.specs.Acts.{sum_places}
 use Rattle.lent.specs.Words.{outside_at}
-use Rattle.action.specs.declared.act.Acted.{Acted}
 use Rattle.columns.specs.Between.{LaysDistinct, ModelReady, BasisReady, SumRoom, Stages}
 use Rattle.generator.specs.Between.{ModelLent, BasisLent}
 use Rattle.columns.specs.Columns.{generator_of, generator_room}
@@ -74,7 +74,7 @@ module _ (n len : ℕ) (lanes heads nexts : List ℕ) (l : BasisLent n len lanes
   module _ (heads' part : List ℕ) (r : ℕ) (d : LaysDistinct (words lanes) heads (take len nexts) heads' part r) where
     -- a word came before
     module _ (h : r < len) where
-      pub repeated : distinct (words lanes) ≡ Refused (RepeatedBasisWord r)
+      pub repeated : distinct (words lanes) ≡ Err (RepeatedBasisWord r)
       unfolding distinct
       repeated = rw (← d.first, lt-ltb r (length (words lanes)) (omega (arith, basis_size)))
 
@@ -85,7 +85,7 @@ module _ (n len : ℕ) (lanes heads nexts : List ℕ) (l : BasisLent n len lanes
       nexts_kept = ap (λ (k : List ℕ). k ++ drop len nexts) (d.unchanged (omega (arith, basis_size))).1 ∙ take-append-drop len nexts
 
     module _ (h : len ≤ r) where
-      pub differ : distinct (words lanes) ≡ Accepted
+      pub differ : distinct (words lanes) ≡ Ok tt
       unfolding distinct
       differ = rw (← d.first, le-ltb r (length (words lanes)) (omega (arith, basis_size)))
 
@@ -103,6 +103,6 @@ module _ (n len : ℕ) (lanes heads nexts : List ℕ) (l : BasisLent n len lanes
 pub sums_room : {r : ℕ} (workWords : List ℕ) (workSums : List Float) → r ≡ min (length workWords / word_lanes) (length workSums / 2) → SumRoom r workWords workSums
 sums_room workWords workSums e = record { words_long = omega (arith, e); sums_long = omega (arith, e) }
 
-pub stages_room : (m : Model) (t : ModelTables) (bs : List Word) (workWords : List ℕ) (workSums : List Float) (entryRoom : ℕ) {s : ℕ} → s ≡ sum_places workWords workSums → (rows columns : List ℕ) (values : List Float) (r : Acted)
+pub stages_room : (m : Model) (t : ModelTables) (bs : List Word) (workWords : List ℕ) (workSums : List Float) (entryRoom : ℕ) {s : ℕ} → s ≡ sum_places workWords workSums → (rows columns : List ℕ) (values : List Float) (r : Result ℕ Refusal)
     → Stages (generator_room m t bs s entryRoom) (generator_of m t bs) rows columns values r → Stages (generator_room m t bs (sum_places workWords workSums) entryRoom) (generator_of m t bs) rows columns values r
 stages_room m t bs workWords workSums entryRoom e rows columns values r k = rw (← e) k

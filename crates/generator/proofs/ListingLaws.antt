@@ -8,11 +8,10 @@ use Prim.Native.Nat.{ℕ}
 use lib.Ieee.{Float}
 use lib.ListN.{length, take, set, replicate}
 use Rattle.refusal.specs.declared.Refusal.{Refusal}
-use Rattle.refusal.specs.declared.Answer.{Answer}
+use Rattle.std.specs.Prelude.{Result, Ok, Err}
+use Rattle.refusal.specs.Cause.{Answer}
 use Rattle.number.specs.Floats.{float0}
 use Rattle.lent.specs.Laid.{laid}
-use Rattle.action.specs.declared.act.Acted.{Acted}
-use Rattle.action.specs.declared.act.Acted.TheVariants.{Listed, Refused}
 use Rattle.columns.specs.Entries.{Entry, staged}
 use Rattle.columns.specs.Stages.{answered}
 use Rattle.columns.proofs.EntryLaws.{staged_rows, staged_columns, staged_values}
@@ -24,7 +23,7 @@ use Rattle.columns.specs.Between.{StageRoom, Stages}
 -- ---- what is copied
 module _ (n : ℕ) (stageRows stageColumns : List ℕ) (stageValues : List Float) (s : StageRoom n stageRows stageColumns stageValues) (rows columns : List ℕ) (values : List Float) where
   pub copied : (rows' columns' : List ℕ) (values' : List Float) → rows' ≡ laid set 0 (take n stageRows) rows → columns' ≡ laid set 0 (take n stageColumns) columns → values' ≡ laid set 0 (take n stageValues) values
-      → record { answer = Listed n; rows = rows'; columns = columns'; values = values' } ≡ listing rows columns values (Listed n) (staged_entries (Listed n) stageRows stageColumns stageValues)
+      → record { answer = Ok n; rows = rows'; columns = columns'; values = values' } ≡ listing rows columns values (Ok n) (staged_entries (Ok n) stageRows stageColumns stageValues)
   copied rows' columns' values' er ec ev =
       rw (
         er,
@@ -37,18 +36,18 @@ module _ (n : ℕ) (stageRows stageColumns : List ℕ) (stageValues : List Float
 
 -- ---- of what the columns staged
 module _ (tests : Answer) (G : List Entry) (stageRows stageColumns : List ℕ) (stageValues : List Float) where
-  pub listed_is : (rows columns : List ℕ) (values : List Float) (r : Acted) → Stages tests G stageRows stageColumns stageValues r
+  pub listed_is : (rows columns : List ℕ) (values : List Float) (r : Result ℕ Refusal) → Stages tests G stageRows stageColumns stageValues r
       → listing rows columns values r (staged_entries r stageRows stageColumns stageValues) ≡ listing rows columns values (answered tests (length G)) G
-  listed_is rows columns values (Listed n) s = ap₂ (λ (a : Acted) (E : List Entry). listing rows columns values a E) s.answers (s.held n refl)
-  listed_is rows columns values (Refused q) s = ap (λ (a : Acted). listing rows columns values a G) s.answers
+  listed_is rows columns values (Ok n) s = ap₂ (λ (a : Result ℕ Refusal) (E : List Entry). listing rows columns values a E) s.answers (s.held n refl)
+  listed_is rows columns values (Err q) s = ap (λ (a : Result ℕ Refusal). listing rows columns values a G) s.answers
 
-  pub by_rows_is : (n : ℕ) (offsets columns : List ℕ) (values : List Float) (r : Acted) → Stages tests G stageRows stageColumns stageValues r
+  pub by_rows_is : (n : ℕ) (offsets columns : List ℕ) (values : List Float) (r : Result ℕ Refusal) → Stages tests G stageRows stageColumns stageValues r
       → by_rows n offsets columns values r (staged_entries r stageRows stageColumns stageValues) ≡ by_rows n offsets columns values (answered tests (length G)) G
-  by_rows_is n offsets columns values (Listed k) s = ap₂ (λ (a : Acted) (E : List Entry). by_rows n offsets columns values a E) s.answers (s.held k refl)
-  by_rows_is n offsets columns values (Refused q) s = ap (λ (a : Acted). by_rows n offsets columns values a G) s.answers
+  by_rows_is n offsets columns values (Ok k) s = ap₂ (λ (a : Result ℕ Refusal) (E : List Entry). by_rows n offsets columns values a E) s.answers (s.held k refl)
+  by_rows_is n offsets columns values (Err q) s = ap (λ (a : Result ℕ Refusal). by_rows n offsets columns values a G) s.answers
 
 pub by_rows_done : (n k : ℕ) (E : List Entry) (offsets columns : List ℕ) (values : List Float) (offsets' columns' : List ℕ) (values' : List Float) → ByRows n E offsets columns values offsets' columns' values'
-    → record { answer = Listed k; offsets = offsets'; columns = columns'; values = values' } ≡ by_rows n offsets columns values (Listed k) E
+    → record { answer = Ok k; offsets = offsets'; columns = columns'; values = values' } ≡ by_rows n offsets columns values (Ok k) E
 by_rows_done n k E offsets columns values offsets' columns' values' b = rw (b.offsets_are, b.columns_are, b.values_are)
 
 -- ---- every table zero is the work tables zero
@@ -58,17 +57,17 @@ all_zero w e0 e1 e2 e3 e4 e5 e6 e7 e8 e9 = rw (e0, e1, e2, e3, e4, e5, e6, e7, e
 
 -- ---- answers that were read off
 module _ (rows columns : List ℕ) (values : List Float) (stageRows stageColumns : List ℕ) (stageValues : List Float) where
-  pub list_refused : (r : Acted) (q : Refusal) → r ≡ Refused q → record { answer = r; rows = rows; columns = columns; values = values } ≡ listing rows columns values r (staged_entries r stageRows stageColumns stageValues)
+  pub list_refused : (r : Result ℕ Refusal) (q : Refusal) → r ≡ Err q → record { answer = Err q; rows = rows; columns = columns; values = values } ≡ listing rows columns values r (staged_entries r stageRows stageColumns stageValues)
   list_refused r q e = rw e
 
-  pub list_copied : (r : Acted) (n : ℕ) → r ≡ Listed n → StageRoom n stageRows stageColumns stageValues → (rows' columns' : List ℕ) (values' : List Float) → rows' ≡ laid set 0 (take n stageRows) rows → columns' ≡ laid set 0 (take n stageColumns) columns → values' ≡ laid set 0 (take n stageValues) values
-      → record { answer = Listed n; rows = rows'; columns = columns'; values = values' } ≡ listing rows columns values r (staged_entries r stageRows stageColumns stageValues)
+  pub list_copied : (r : Result ℕ Refusal) (n : ℕ) → r ≡ Ok n → StageRoom n stageRows stageColumns stageValues → (rows' columns' : List ℕ) (values' : List Float) → rows' ≡ laid set 0 (take n stageRows) rows → columns' ≡ laid set 0 (take n stageColumns) columns → values' ≡ laid set 0 (take n stageValues) values
+      → record { answer = Ok n; rows = rows'; columns = columns'; values = values' } ≡ listing rows columns values r (staged_entries r stageRows stageColumns stageValues)
   list_copied r n e s rows' columns' values' er ec ev = rw e (copied n stageRows stageColumns stageValues s rows columns values rows' columns' values' er ec ev)
 
 module _ (n : ℕ) (offsets columns : List ℕ) (values : List Float) (stageRows stageColumns : List ℕ) (stageValues : List Float) where
-  pub rows_refused : (r : Acted) (q : Refusal) → r ≡ Refused q → record { answer = r; offsets = offsets; columns = columns; values = values } ≡ by_rows n offsets columns values r (staged_entries r stageRows stageColumns stageValues)
+  pub rows_refused : (r : Result ℕ Refusal) (q : Refusal) → r ≡ Err q → record { answer = r; offsets = offsets; columns = columns; values = values } ≡ by_rows n offsets columns values r (staged_entries r stageRows stageColumns stageValues)
   rows_refused r q e = rw e
 
-  pub rows_sorted : (r : Acted) (k : ℕ) → r ≡ Listed k → (offsets' columns' : List ℕ) (values' : List Float) → ByRows n (staged k stageRows stageColumns stageValues) offsets columns values offsets' columns' values'
-      → record { answer = Listed k; offsets = offsets'; columns = columns'; values = values' } ≡ by_rows n offsets columns values r (staged_entries r stageRows stageColumns stageValues)
+  pub rows_sorted : (r : Result ℕ Refusal) (k : ℕ) → r ≡ Ok k → (offsets' columns' : List ℕ) (values' : List Float) → ByRows n (staged k stageRows stageColumns stageValues) offsets columns values offsets' columns' values'
+      → record { answer = Ok k; offsets = offsets'; columns = columns'; values = values' } ≡ by_rows n offsets columns values r (staged_entries r stageRows stageColumns stageValues)
   rows_sorted r k e offsets' columns' values' b = rw e (by_rows_done n k (staged k stageRows stageColumns stageValues) offsets columns values offsets' columns' values' b)

@@ -2,16 +2,14 @@
 -- SPDX-License-Identifier: Apache-2.0
 
 -- The generator of a lent model over a lent basis, and the same matrix by rows: the answer, and every lent table afterwards.
-use Rattle.std.specs.Prelude.{ℕ, min, List, [], map, Float, length, set}
-use Rattle.refusal.specs.declared.Answer.{Answer}
-use Rattle.refusal.specs.declared.Answer.TheVariants as Tests
+use Rattle.std.specs.Prelude.{ℕ, min, List, [], map, Float, length, set, Result, Ok, Err}
+use Rattle.refusal.specs.declared.Refusal.{Refusal}
+use Rattle.refusal.specs.Cause.{Answer}
 use Rattle.word.specs.declared.word.Word.{Word}
 use Rattle.model.specs.Stored.{ModelTables}
 use Rattle.lent.specs.Laid.{laid}
 use Rattle.model.specs.declared.stored.Model.{Model}
 use Rattle.action.specs.Acts.{sum_places}
-use Rattle.action.specs.declared.act.Acted.{Acted}
-use Rattle.action.specs.declared.act.Acted.TheVariants.{Listed, Refused}
 use Rattle.columns.specs.Entries.{Entry, staged}
 use Rattle.columns.specs.Columns.{generator_of, generator_room}
 use Rattle.columns.specs.Stages.{answered}
@@ -20,15 +18,15 @@ use Rattle.generator.specs.Lent.{Work, zeroed, basis_of, generator_tests, csr_te
 
 -- ---- the generator
 pub record Out : Type 0 where
-  pub answer : Acted
+  pub answer : Result ℕ Refusal
   pub rows : List ℕ
   pub columns : List ℕ
   pub values : List Float
 
 -- entries by column, then word
-abbrev pub listing : List ℕ → List ℕ → List Float → Acted → List Entry → Out
-listing rows columns values (Listed n) E = record { answer = Listed n; rows = laid set 0 (map (λ e. e.row) E) rows; columns = columns_laid E columns; values = values_laid E values }
-listing rows columns values (Refused q) E = record { answer = Refused q; rows = rows; columns = columns; values = values }
+abbrev pub listing : List ℕ → List ℕ → List Float → Result ℕ Refusal → List Entry → Out
+listing rows columns values (Ok n) E = record { answer = Ok n; rows = laid set 0 (map (λ e. e.row) E) rows; columns = columns_laid E columns; values = values_laid E values }
+listing rows columns values (Err q) E = record { answer = Err q; rows = rows; columns = columns; values = values }
 
 -- table 3: those of the shortest table that holds entries
 abbrev pub entry_places : Work → List ℕ → List ℕ → List Float → ℕ
@@ -41,8 +39,8 @@ pub record Generating : Type 0 where
 module _ (rows columns : List ℕ) (values : List Float) (w : Work) where
   -- a refusal by a test changes nothing; work tables are zero after acceptance and 13
   abbrev pub tested : Answer → Out → Generating
-  tested Tests.Accepted out = record { out = out; work = zeroed w }
-  tested (Tests.Refused q) out = record { out = record { answer = Refused q; rows = rows; columns = columns; values = values }; work = w }
+  tested (Ok _) out = record { out = out; work = zeroed w }
+  tested (Err q) out = record { out = record { answer = Err q; rows = rows; columns = columns; values = values }; work = w }
 
   unfoldable pub listed_over : Model → ModelTables → List Word → Out
   listed_over m t bs =
@@ -55,15 +53,15 @@ module _ (rows columns : List ℕ) (values : List Float) (w : Work) where
 
 -- ---- by rows
 pub record CsrOut : Type 0 where
-  pub answer : Acted
+  pub answer : Result ℕ Refusal
   pub offsets : List ℕ
   pub columns : List ℕ
   pub values : List Float
 
 -- so many rows one after another
-abbrev pub by_rows : ℕ → List ℕ → List ℕ → List Float → Acted → List Entry → CsrOut
-by_rows n offsets columns values (Listed k) E = record { answer = Listed k; offsets = laid set 0 (offsets_of n E) offsets; columns = columns_laid (rows_to n E) columns; values = values_laid (rows_to n E) values }
-by_rows n offsets columns values (Refused q) E = record { answer = Refused q; offsets = offsets; columns = columns; values = values }
+abbrev pub by_rows : ℕ → List ℕ → List ℕ → List Float → Result ℕ Refusal → List Entry → CsrOut
+by_rows n offsets columns values (Ok k) E = record { answer = Ok k; offsets = laid set 0 (offsets_of n E) offsets; columns = columns_laid (rows_to n E) columns; values = values_laid (rows_to n E) values }
+by_rows n offsets columns values (Err q) E = record { answer = Err q; offsets = offsets; columns = columns; values = values }
 
 abbrev pub csr_places : Work → List ℕ → List Float → ℕ
 csr_places w columns values = min (stage_places w) (min (length columns) (length values))
@@ -74,8 +72,8 @@ pub record CsrBuilding : Type 0 where
 
 module _ (offsets columns : List ℕ) (values : List Float) (w : Work) where
   abbrev pub csr_tested : Answer → CsrOut → CsrBuilding
-  csr_tested Tests.Accepted out = record { out = out; work = zeroed w }
-  csr_tested (Tests.Refused q) out = record { out = record { answer = Refused q; offsets = offsets; columns = columns; values = values }; work = w }
+  csr_tested (Ok _) out = record { out = out; work = zeroed w }
+  csr_tested (Err q) out = record { out = record { answer = Err q; offsets = offsets; columns = columns; values = values }; work = w }
 
   -- over a basis of n words
   unfoldable pub csr_over : ℕ → Model → ModelTables → List Word → CsrOut
@@ -89,6 +87,6 @@ module _ (offsets columns : List ℕ) (values : List Float) (w : Work) where
 
 -- ---- for the functions that work on lent tables
 -- the entries that the columns left in lent tables
-abbrev pub staged_entries : Acted → List ℕ → List ℕ → List Float → List Entry
-staged_entries (Listed n) rows columns values = staged n rows columns values
-staged_entries (Refused q) rows columns values = []
+abbrev pub staged_entries : Result ℕ Refusal → List ℕ → List ℕ → List Float → List Entry
+staged_entries (Ok n) rows columns values = staged n rows columns values
+staged_entries (Err q) rows columns values = []

@@ -2,10 +2,9 @@
 -- SPDX-License-Identifier: Apache-2.0
 
 -- What both calls are lent to work with, and what both ask for: the model, 8, 9, 11, 12.
-use Rattle.std.specs.Prelude.{ℕ, suc, ◌*◌, ◌/◌, min, cond, List, [], ◌∷◌, ltb, Float, length, take, replicate}
+use Rattle.std.specs.Prelude.{ℕ, suc, ◌*◌, ◌/◌, min, cond, List, [], ◌∷◌, ltb, Float, length, take, replicate, Ok, Err}
 use Rattle.refusal.specs.declared.Refusal.TheVariants.{RepeatedBasisWord}
-use Rattle.refusal.specs.declared.Answer.{Answer}
-use Rattle.refusal.specs.declared.Answer.TheVariants.{Accepted, Refused}
+use Rattle.refusal.specs.Cause.{Answer}
 use Rattle.word.specs.Flat.{words, word_lanes}
 use Rattle.word.specs.declared.word.Word.{Word}
 use Rattle.number.specs.Floats.{float0}
@@ -74,11 +73,11 @@ table_tests m t lanes len hIndex jIndex mask heads nexts =
     ∷ lent (where_any len row_lanes) mask
     ∷ lent len heads
     ∷ lent len nexts
-    ∷ []) Accepted
+    ∷ []) (Ok tt)
 
 -- 12 at the first word that came before
 unfoldable pub distinct : List Word → Answer
-distinct ws = cond (ltb (first_repeat ws) (length ws)) (Refused (RepeatedBasisWord (first_repeat ws))) Accepted
+distinct ws = cond (ltb (first_repeat ws) (length ws)) (Err (RepeatedBasisWord (first_repeat ws))) (Ok tt)
 
 abbrev pub lent_tests : Model → ModelTables → List ℕ → ℕ → Work → Answer
 lent_tests m t lanes len w = table_tests m t lanes len (length w.h_index) (length w.j_index) (length w.mask) (length w.heads) (length w.nexts)

@@ -4,7 +4,6 @@
 // What both calls ask of what they are lent: the model, 8, 9, then 11. A word that comes again (12) is
 // found when the slots are laid.
 ghost use Rattle.std.specs.Prelude.{◌≡◌, suc, ◌*◌, ◌≤◌, length};
-ghost use Rattle.refusal.specs.declared.Answer.TheVariants.{Accepted};
 ghost use Rattle.word.specs.Flat.{word_lanes};
 ghost use Rattle.model.specs.Between.{model_tables};
 ghost use Rattle.lent.specs.Tests.{lent, and_then};
@@ -16,7 +15,7 @@ use lent::tests::{mismatch, where_any};
 use lent::words::{MAX_WORDS, first_outside};
 use model::stored::Model;
 use model::test::test_model;
-use refusal::{Answer, Refusal};
+use refusal::Refusal;
 use word::flat::WORD_LANES;
 
 fn check_tables(
@@ -34,15 +33,12 @@ fn check_tables(
     mask: usize,
     heads: usize,
     nexts: usize,
-) -> Answer
+) -> Result<(), Refusal>
     ensures { result ≡ table_tests m (model_tables h_words.now h_coeffs.now jumps.now rates.now t_words.now t_numbers.now) words.now len h_index j_index mask heads nexts }
 {
-    let model = test_model(m, h_words, h_coeffs, jumps, rates, t_words, t_numbers);
-    let Answer::Accepted = model else {
-        return model;
-    };
+    test_model(m, h_words, h_coeffs, jumps, rates, t_words, t_numbers)?;
     if MAX_WORDS < len {
-        return Answer::Refused(Refusal::CountAboveLimit { count: len });
+        return Err(Refusal::CountAboveLimit { count: len });
     }
     let places = words.len() / WORD_LANES;
     if places < len {
@@ -65,18 +61,18 @@ fn check_tables(
     if nexts < len {
         return mismatch(len, nexts);
     }
-    Answer::Accepted
+    Ok(())
 }
 
-pub fn check_inside(words: &[u64], len: usize, n: usize) -> Answer
+pub fn check_inside(words: &[u64], len: usize, n: usize) -> Result<(), Refusal>
     requires { word_lanes * len ≤ length words.now }
-    ensures { result ≡ inside_to len words.now n Accepted }
+    ensures { result ≡ inside_to len words.now n (Ok tt) }
 {
     let first = first_outside(words, len, n);
     if first < len {
-        return Answer::Refused(Refusal::WordOutsideRegister { position: first });
+        return Err(Refusal::WordOutsideRegister { position: first });
     }
-    Answer::Accepted
+    Ok(())
 }
 
 pub fn check_generator(
@@ -94,18 +90,14 @@ pub fn check_generator(
     mask: usize,
     heads: usize,
     nexts: usize,
-) -> Answer
-    ensures { result ≡ and_then (table_tests m (model_tables h_words.now h_coeffs.now jumps.now rates.now t_words.now t_numbers.now) words.now len h_index j_index mask heads nexts) (inside_to len words.now m.qubits Accepted) }
+) -> Result<(), Refusal>
+    ensures { result ≡ and_then (table_tests m (model_tables h_words.now h_coeffs.now jumps.now rates.now t_words.now t_numbers.now) words.now len h_index j_index mask heads nexts) (inside_to len words.now m.qubits (Ok tt)) }
 {
-    let tables = check_tables(
+    check_tables(
         m, h_words, h_coeffs, jumps, rates, t_words, t_numbers, words, len, h_index, j_index, mask,
         heads, nexts,
-    );
-    let Answer::Accepted = tables else {
-        return tables;
-    };
-    let n = m.qubits;
-    check_inside(words, len, n)
+    )?;
+    check_inside(words, len, m.qubits)
 }
 
 // The same for a matrix by rows, which has an offset for each row and one more.
@@ -125,19 +117,15 @@ pub fn check_csr(
     heads: usize,
     nexts: usize,
     offsets: usize,
-) -> Answer
-    ensures { result ≡ and_then (table_tests m (model_tables h_words.now h_coeffs.now jumps.now rates.now t_words.now t_numbers.now) words.now len h_index j_index mask heads nexts) (lent (suc len) offsets (inside_to len words.now m.qubits Accepted)) }
+) -> Result<(), Refusal>
+    ensures { result ≡ and_then (table_tests m (model_tables h_words.now h_coeffs.now jumps.now rates.now t_words.now t_numbers.now) words.now len h_index j_index mask heads nexts) (lent (suc len) offsets (inside_to len words.now m.qubits (Ok tt))) }
 {
-    let tables = check_tables(
+    check_tables(
         m, h_words, h_coeffs, jumps, rates, t_words, t_numbers, words, len, h_index, j_index, mask,
         heads, nexts,
-    );
-    let Answer::Accepted = tables else {
-        return tables;
-    };
+    )?;
     if offsets <= len {
         return mismatch(len + 1, offsets);
     }
-    let n = m.qubits;
-    check_inside(words, len, n)
+    check_inside(words, len, m.qubits)
 }

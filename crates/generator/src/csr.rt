@@ -13,19 +13,18 @@ ghost use Rattle.generator.specs.Generators.{by_rows, csr_tested, csr_over, buil
 use crate::check::check_csr;
 use crate::gather::gather;
 use crate::tables::{clear_entries, places_of};
-use action::act::Acted;
 use columns::repeat::lay_distinct;
 use csr_build::sort_rows;
 use lent::clear::clear_lanes;
 use lent::sizes::smaller;
 use model::stored::Model;
-use refusal::{Answer, Refusal};
+use refusal::Refusal;
 use word::flat::WORD_LANES;
 
 // What is staged, by rows; or the refusal at which the columns stopped. The work table is zero
 // afterwards.
 pub fn list_rows(
-    staged: Acted,
+    staged: Result<usize, Refusal>,
     stage_rows: &[u32],
     stage_columns: &[u32],
     stage_values: &[f64],
@@ -34,11 +33,11 @@ pub fn list_rows(
     offsets: &mut [u64],
     columns: &mut [u32],
     values: &mut [f64],
-) -> Acted
+) -> Result<usize, Refusal>
     requires { HeldRows n staged stage_rows.now stage_columns.now stage_values.now columns.old values.old × (n ≤ length work.old) × (n < length offsets.old) }
     ensures { (record { answer = result; offsets = offsets.new; columns = columns.new; values = values.new } ≡ by_rows n offsets.old columns.old values.old staged (staged_entries staged stage_rows.now stage_columns.now stage_values.now)) × (work.new ≡ replicate (length work.old) 0) }
 {
-    let Acted::Listed(count) = staged else {
+    let Ok(count) = staged else {
         clear_lanes(work);
         return staged;
     };
@@ -80,13 +79,13 @@ fn csr_tested(
     offsets: &mut [u64],
     columns: &mut [u32],
     values: &mut [f64],
-) -> Acted
+) -> Result<usize, Refusal>
     requires { (0 < length basis.now / word_lanes → ModelLent m (model_tables h_words.now h_coeffs.now jumps.now rates.now t_words.now t_numbers.now) h_index.old j_index.old mask.old) × BasisLent m.qubits len basis.now heads.old nexts.old × (len < length offsets.old) }
     ensures { record { out = record { answer = result; offsets = offsets.new; columns = columns.new; values = values.new }; work = (work_of h_index.new j_index.new mask.new heads.new nexts.new work_words.new work_sums.new stage_rows.new stage_columns.new stage_values.new) } ≡ csr_tested offsets.old columns.old values.old (work_of h_index.old j_index.old mask.old heads.old nexts.old work_words.old work_sums.old stage_rows.old stage_columns.old stage_values.old) (distinct (words_in basis.now)) (csr_over offsets.old columns.old values.old (work_of h_index.old j_index.old mask.old heads.old nexts.old work_words.old work_sums.old stage_rows.old stage_columns.old stage_values.old) len m (model_tables h_words.now h_coeffs.now jumps.now rates.now t_words.now t_numbers.now) (words_in basis.now)) }
 {
     let first = lay_distinct(basis, heads, &mut nexts[..len]);
     if first < len {
-        return Acted::Refused(Refusal::RepeatedBasisWord { position: first });
+        return Err(Refusal::RepeatedBasisWord { position: first });
     }
     let stage = places_of(stage_rows, stage_columns, stage_values);
     let out = smaller(columns.len(), values.len());
@@ -151,10 +150,10 @@ pub fn build_csr(
     offsets: &mut [u64],
     columns: &mut [u32],
     values: &mut [f64],
-) -> Acted
+) -> Result<usize, Refusal>
     ensures { record { out = record { answer = result; offsets = offsets.new; columns = columns.new; values = values.new }; work = (work_of h_index.new j_index.new mask.new heads.new nexts.new work_words.new work_sums.new stage_rows.new stage_columns.new stage_values.new) } ≡ build_csr offsets.old columns.old values.old (work_of h_index.old j_index.old mask.old heads.old nexts.old work_words.old work_sums.old stage_rows.old stage_columns.old stage_values.old) m (model_tables h_words.now h_coeffs.now jumps.now rates.now t_words.now t_numbers.now) words.now len }
 {
-    let answer = check_csr(
+    check_csr(
         m,
         h_words,
         h_coeffs,
@@ -170,32 +169,29 @@ pub fn build_csr(
         heads.len(),
         nexts.len(),
         offsets.len(),
-    );
-    let Answer::Refused(refusal) = answer else {
-        return csr_tested(
-            m,
-            h_words,
-            h_coeffs,
-            jumps,
-            rates,
-            t_words,
-            t_numbers,
-            &words[..len * WORD_LANES],
-            len,
-            h_index,
-            j_index,
-            mask,
-            heads,
-            nexts,
-            work_words,
-            work_sums,
-            stage_rows,
-            stage_columns,
-            stage_values,
-            offsets,
-            columns,
-            values,
-        );
-    };
-    Acted::Refused(refusal)
+    )?;
+    csr_tested(
+        m,
+        h_words,
+        h_coeffs,
+        jumps,
+        rates,
+        t_words,
+        t_numbers,
+        &words[..len * WORD_LANES],
+        len,
+        h_index,
+        j_index,
+        mask,
+        heads,
+        nexts,
+        work_words,
+        work_sums,
+        stage_rows,
+        stage_columns,
+        stage_values,
+        offsets,
+        columns,
+        values,
+    )
 }

@@ -12,11 +12,11 @@ ghost use Rattle.generator.specs.Between.{ModelLent};
 ghost use Rattle.action.specs.Acts.{sum_places};
 ghost use Rattle.columns.specs.Columns.{generator_of, generator_room};
 
-use action::act::Acted;
 use columns::stage::stage_columns as stage_all;
 use lent::clear::{clear_lanes, clear_numbers};
 use lent::sizes::smaller;
 use model::stored::Model;
+use refusal::Refusal;
 use rules_by_index::indexed::index_model;
 use word::flat::WORD_LANES;
 
@@ -40,7 +40,7 @@ pub fn gather(
     stage_columns: &mut [u32],
     stage_values: &mut [f64],
     entry_room: usize,
-) -> Acted
+) -> Result<usize, Refusal>
     requires { (0 < length basis.now / word_lanes → ModelLent m (model_tables h_words.now h_coeffs.now jumps.now rates.now t_words.now t_numbers.now) h_index.old j_index.old mask.old) × BasisReady m.qubits basis.now heads.now nexts.now × StageRoom entry_room stage_rows.old stage_columns.old stage_values.old }
     ensures { Stages (generator_room m (model_tables h_words.now h_coeffs.now jumps.now rates.now t_words.now t_numbers.now) (words_in basis.now) (sum_places work_words.old work_sums.old) entry_room) (generator_of m (model_tables h_words.now h_coeffs.now jumps.now rates.now t_words.now t_numbers.now) (words_in basis.now)) stage_rows.new stage_columns.new stage_values.new result × (h_index.new ≡ replicate (length h_index.old) 0) × (j_index.new ≡ replicate (length j_index.old) 0) × (mask.new ≡ replicate (length mask.old) 0) × (work_words.new ≡ replicate (length work_words.old) 0) × (work_sums.new ≡ replicate (length work_sums.old) float0) }
 {

@@ -13,34 +13,31 @@ ghost use Rattle.generator.specs.Generators.{listing, tested, listed_over, gener
 use crate::check::check_generator;
 use crate::gather::gather;
 use crate::tables::{clear_entries, copy_places, copy_values, places_of};
-use action::act::Acted;
 use columns::repeat::lay_distinct;
 use lent::clear::clear_lanes;
 use lent::sizes::smaller;
 use model::stored::Model;
-use refusal::{Answer, Refusal};
+use refusal::Refusal;
 use word::flat::WORD_LANES;
 
 // What is staged, listed; or the refusal at which the columns stopped.
 fn list_staged(
-    staged: Acted,
+    staged: Result<usize, Refusal>,
     stage_rows: &[u32],
     stage_columns: &[u32],
     stage_values: &[f64],
     rows: &mut [u32],
     columns: &mut [u32],
     values: &mut [f64],
-) -> Acted
+) -> Result<usize, Refusal>
     requires { HeldInside staged stage_rows.now stage_columns.now stage_values.now × HeldInside staged rows.old columns.old values.old }
     ensures { record { answer = result; rows = rows.new; columns = columns.new; values = values.new } ≡ listing rows.old columns.old values.old staged (staged_entries staged stage_rows.now stage_columns.now stage_values.now) }
 {
-    let Acted::Listed(count) = staged else {
-        return staged;
-    };
+    let count = staged?;
     copy_places(stage_rows, count, rows);
     copy_places(stage_columns, count, columns);
     copy_values(stage_values, count, values);
-    staged
+    Ok(count)
 }
 
 // The same of a model and a basis that passed their tests but for a word that comes again.
@@ -67,13 +64,13 @@ fn generator_tested(
     rows: &mut [u32],
     columns: &mut [u32],
     values: &mut [f64],
-) -> Acted
+) -> Result<usize, Refusal>
     requires { (0 < length basis.now / word_lanes → ModelLent m (model_tables h_words.now h_coeffs.now jumps.now rates.now t_words.now t_numbers.now) h_index.old j_index.old mask.old) × BasisLent m.qubits len basis.now heads.old nexts.old }
     ensures { record { out = record { answer = result; rows = rows.new; columns = columns.new; values = values.new }; work = (work_of h_index.new j_index.new mask.new heads.new nexts.new work_words.new work_sums.new stage_rows.new stage_columns.new stage_values.new) } ≡ tested rows.old columns.old values.old (work_of h_index.old j_index.old mask.old heads.old nexts.old work_words.old work_sums.old stage_rows.old stage_columns.old stage_values.old) (distinct (words_in basis.now)) (listed_over rows.old columns.old values.old (work_of h_index.old j_index.old mask.old heads.old nexts.old work_words.old work_sums.old stage_rows.old stage_columns.old stage_values.old) m (model_tables h_words.now h_coeffs.now jumps.now rates.now t_words.now t_numbers.now) (words_in basis.now)) }
 {
     let first = lay_distinct(basis, heads, &mut nexts[..len]);
     if first < len {
-        return Acted::Refused(Refusal::RepeatedBasisWord { position: first });
+        return Err(Refusal::RepeatedBasisWord { position: first });
     }
     let stage = places_of(stage_rows, stage_columns, stage_values);
     let out = places_of(rows, columns, values);
@@ -137,10 +134,10 @@ pub fn generator(
     rows: &mut [u32],
     columns: &mut [u32],
     values: &mut [f64],
-) -> Acted
+) -> Result<usize, Refusal>
     ensures { record { out = record { answer = result; rows = rows.new; columns = columns.new; values = values.new }; work = (work_of h_index.new j_index.new mask.new heads.new nexts.new work_words.new work_sums.new stage_rows.new stage_columns.new stage_values.new) } ≡ generate rows.old columns.old values.old (work_of h_index.old j_index.old mask.old heads.old nexts.old work_words.old work_sums.old stage_rows.old stage_columns.old stage_values.old) m (model_tables h_words.now h_coeffs.now jumps.now rates.now t_words.now t_numbers.now) words.now len }
 {
-    let answer = check_generator(
+    check_generator(
         m,
         h_words,
         h_coeffs,
@@ -155,32 +152,29 @@ pub fn generator(
         mask.len(),
         heads.len(),
         nexts.len(),
-    );
-    let Answer::Refused(refusal) = answer else {
-        return generator_tested(
-            m,
-            h_words,
-            h_coeffs,
-            jumps,
-            rates,
-            t_words,
-            t_numbers,
-            &words[..len * WORD_LANES],
-            len,
-            h_index,
-            j_index,
-            mask,
-            heads,
-            nexts,
-            work_words,
-            work_sums,
-            stage_rows,
-            stage_columns,
-            stage_values,
-            rows,
-            columns,
-            values,
-        );
-    };
-    Acted::Refused(refusal)
+    )?;
+    generator_tested(
+        m,
+        h_words,
+        h_coeffs,
+        jumps,
+        rates,
+        t_words,
+        t_numbers,
+        &words[..len * WORD_LANES],
+        len,
+        h_index,
+        j_index,
+        mask,
+        heads,
+        nexts,
+        work_words,
+        work_sums,
+        stage_rows,
+        stage_columns,
+        stage_values,
+        rows,
+        columns,
+        values,
+    )
 }

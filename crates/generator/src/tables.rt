@@ -12,11 +12,7 @@ use lent::sizes::smaller;
 pub fn clear_places(t: &mut [u32])
     ensures { t.new ≡ replicate (length t.old) 0 }
 {
-    let mut i = 0;
-    while i < t.len() {
-        t[i] = 0;
-        i += 1;
-    }
+    t.fill(0);
 }
 
 pub fn clear_entries(rows: &mut [u32], columns: &mut [u32], values: &mut [f64])
@@ -32,22 +28,14 @@ pub fn copy_places(from: &[u32], count: usize, to: &mut [u32])
     requires { (count ≤ length from.now) × (count ≤ length to.old) }
     ensures { to.new ≡ laid set 0 (take count from.now) to.old }
 {
-    let mut i = 0;
-    while i < count {
-        to[i] = from[i];
-        i += 1;
-    }
+    to[..count].copy_from_slice(&from[..count]);
 }
 
 pub fn copy_values(from: &[f64], count: usize, to: &mut [f64])
     requires { (count ≤ length from.now) × (count ≤ length to.old) }
     ensures { to.new ≡ laid set 0 (take count from.now) to.old }
 {
-    let mut i = 0;
-    while i < count {
-        to[i] = from[i];
-        i += 1;
-    }
+    to[..count].copy_from_slice(&from[..count]);
 }
 
 // The places of the shortest of three tables.

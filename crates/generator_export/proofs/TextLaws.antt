@@ -13,9 +13,9 @@ use lib.Dec.{eqb}
 use lib.Ieee.{Float, nan, inf, fin}
 use lib.IntN.{nat_abs}
 use lib.ListN.{length, take, length-map}
-use Rattle.refusal.specs.declared.Refusal.{Refusal}
-use Rattle.refusal.specs.declared.Answer.{Answer}
-use Rattle.refusal.specs.declared.Answer.TheVariants as Tests
+use Rattle.std.specs.Prelude.{Ok, Err}
+use Rattle.refusal.specs.Cause.{Answer}
+use Rattle.refusal.proofs.Told.{refused_not}
 use Rattle.word.specs.declared.word.Word.{Word}
 use Rattle.order.specs.Between.{All, AllBelow}
 use Rattle.order.proofs.Members.{all_append}
@@ -31,7 +31,6 @@ use Rattle.generator.specs.Lent.{Work, basis_of, generator_tests, stage_places}
 use Rattle.matrix_market.specs.Counts.{count_of, too_large}
 use Rattle.matrix_market.specs.Text.{Line, text_of}
 use Rattle.matrix_market.specs.Writes.{lines_of, Writing}
-use Rattle.matrix_market.specs.declared.write.Written.TheVariants as Texts
 use Rattle.matrix_market.proofs.TextLaws.{text_written, AllShort, text_short}
 use Rattle.generator_export.specs.Exports.{entry_line, entries_text, tested, text_over, export_generator}
 
@@ -42,22 +41,19 @@ lines_are [] = refl
 lines_are (e ∷ E) = ap (λ (ls : List Line). entry_line e ∷ ls) (lines_are E)
 
 -- ---- what was written
-refused_not : (q : Refusal) (k : ℕ) → Texts.Refused q ≡ Texts.Text k → ⊥
-refused_not q k e = let z : ◌≡◌ {A = ℕ} 0 1 = cc in omega arith
-
 module _ (text : List ℕ) (w : Work) (k : ℕ) where
-  entries_written : (n : ℕ) (a : Answer) (E : List Entry) → (entries_text n text (answered a (length E)) E).answer ≡ Texts.Text k
+  entries_written : (n : ℕ) (a : Answer) (E : List Entry) → (entries_text n text (answered a (length E)) E).answer ≡ Ok k
       → take k (entries_text n text (answered a (length E)) E).text ≡ text_of n (map entry_line E)
-  entries_written n Tests.Accepted E e =
+  entries_written n (Ok _) E e =
       text_written n (map (λ (e : Entry). e.row) E) (map (λ (e : Entry). e.column) E) (map (λ (e : Entry). e.value) E) text k e
       ∙ ap (text_of n) (lines_are E)
-  entries_written n (Tests.Refused q) E e = absurd (refused_not q k e)
+  entries_written n (Err q) E e = absurd (refused_not q k e)
 
-  tested_text : (a : Answer) (o : Writing) (bytes : List ℕ) → (tested text w a o).out.answer ≡ Texts.Text k → (o.answer ≡ Texts.Text k → take k o.text ≡ bytes) → take k (tested text w a o).out.text ≡ bytes
-  tested_text Tests.Accepted o bytes e h = h e
-  tested_text (Tests.Refused q) o bytes e h = absurd (refused_not q k e)
+  tested_text : (a : Answer) (o : Writing) (bytes : List ℕ) → (tested text w a o).out.answer ≡ Ok k → (o.answer ≡ Ok k → take k o.text ≡ bytes) → take k (tested text w a o).out.text ≡ bytes
+  tested_text (Ok _) o bytes e h = h e
+  tested_text (Err q) o bytes e h = absurd (refused_not q k e)
 
-  pub exported_text : (m : Model) (t : ModelTables) (lanes : List ℕ) (len : ℕ) → (export_generator text w m t lanes len).out.answer ≡ Texts.Text k
+  pub exported_text : (m : Model) (t : ModelTables) (lanes : List ℕ) (len : ℕ) → (export_generator text w m t lanes len).out.answer ≡ Ok k
       → take k (export_generator text w m t lanes len).out.text ≡ text_of len (map entry_line (generator_of m t (basis_of lanes len)))
   unfolding export_generator text_over
   exported_text m t lanes len e =

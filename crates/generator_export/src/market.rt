@@ -11,35 +11,30 @@ ghost use Rattle.generator.specs.Lent.{work_of, distinct};
 ghost use Rattle.generator.specs.Generators.{staged_entries};
 ghost use Rattle.generator_export.specs.Exports.{entries_text, tested, text_over, export_generator};
 
-use action::act::Acted;
 use columns::repeat::lay_distinct;
 use generator::check::check_generator;
 use generator::gather::gather;
 use generator::tables::{clear_entries, places_of};
 use lent::clear::clear_lanes;
-use matrix_market::write::{Written, write_entries};
+use matrix_market::write::write_entries;
 use model::stored::Model;
-use refusal::{Answer, Refusal};
+use refusal::Refusal;
 use word::flat::WORD_LANES;
 
 // The text of what is staged; or the refusal at which the columns stopped.
 fn write_staged(
-    staged: Acted,
+    staged: Result<usize, Refusal>,
     stage_rows: &[u32],
     stage_columns: &[u32],
     stage_values: &[f64],
     n: usize,
     text: &mut [u8],
-) -> Written
+) -> Result<usize, Refusal>
     requires { HeldInside staged stage_rows.now stage_columns.now stage_values.now }
     ensures { record { answer = result; text = text.new } ≡ entries_text n text.old staged (staged_entries staged stage_rows.now stage_columns.now stage_values.now) }
 {
-    match staged {
-        Acted::Listed(count) => {
-            write_entries(stage_rows, stage_columns, stage_values, count, n, text)
-        }
-        Acted::Refused(refusal) => Written::Refused(refusal),
-    }
+    let count = staged?;
+    write_entries(stage_rows, stage_columns, stage_values, count, n, text)
 }
 
 // The same of a model and a basis that passed their tests but for a word that comes again.
@@ -64,13 +59,13 @@ fn market_tested(
     stage_columns: &mut [u32],
     stage_values: &mut [f64],
     text: &mut [u8],
-) -> Written
+) -> Result<usize, Refusal>
     requires { (0 < length basis.now / word_lanes → ModelLent m (model_tables h_words.now h_coeffs.now jumps.now rates.now t_words.now t_numbers.now) h_index.old j_index.old mask.old) × BasisLent m.qubits len basis.now heads.old nexts.old }
     ensures { record { out = record { answer = result; text = text.new }; work = (work_of h_index.new j_index.new mask.new heads.new nexts.new work_words.new work_sums.new stage_rows.new stage_columns.new stage_values.new) } ≡ tested text.old (work_of h_index.old j_index.old mask.old heads.old nexts.old work_words.old work_sums.old stage_rows.old stage_columns.old stage_values.old) (distinct (words_in basis.now)) (text_over text.old (work_of h_index.old j_index.old mask.old heads.old nexts.old work_words.old work_sums.old stage_rows.old stage_columns.old stage_values.old) len m (model_tables h_words.now h_coeffs.now jumps.now rates.now t_words.now t_numbers.now) (words_in basis.now)) }
 {
     let first = lay_distinct(basis, heads, &mut nexts[..len]);
     if first < len {
-        return Written::Refused(Refusal::RepeatedBasisWord { position: first });
+        return Err(Refusal::RepeatedBasisWord { position: first });
     }
     let places = places_of(stage_rows, stage_columns, stage_values);
     let staged = gather(
@@ -122,10 +117,10 @@ pub fn matrix_market(
     stage_columns: &mut [u32],
     stage_values: &mut [f64],
     text: &mut [u8],
-) -> Written
+) -> Result<usize, Refusal>
     ensures { record { out = record { answer = result; text = text.new }; work = (work_of h_index.new j_index.new mask.new heads.new nexts.new work_words.new work_sums.new stage_rows.new stage_columns.new stage_values.new) } ≡ export_generator text.old (work_of h_index.old j_index.old mask.old heads.old nexts.old work_words.old work_sums.old stage_rows.old stage_columns.old stage_values.old) m (model_tables h_words.now h_coeffs.now jumps.now rates.now t_words.now t_numbers.now) words.now len }
 {
-    let answer = check_generator(
+    check_generator(
         m,
         h_words,
         h_coeffs,
@@ -140,30 +135,27 @@ pub fn matrix_market(
         mask.len(),
         heads.len(),
         nexts.len(),
-    );
-    let Answer::Refused(refusal) = answer else {
-        return market_tested(
-            m,
-            h_words,
-            h_coeffs,
-            jumps,
-            rates,
-            t_words,
-            t_numbers,
-            &words[..len * WORD_LANES],
-            len,
-            h_index,
-            j_index,
-            mask,
-            heads,
-            nexts,
-            work_words,
-            work_sums,
-            stage_rows,
-            stage_columns,
-            stage_values,
-            text,
-        );
-    };
-    Written::Refused(refusal)
+    )?;
+    market_tested(
+        m,
+        h_words,
+        h_coeffs,
+        jumps,
+        rates,
+        t_words,
+        t_numbers,
+        &words[..len * WORD_LANES],
+        len,
+        h_index,
+        j_index,
+        mask,
+        heads,
+        nexts,
+        work_words,
+        work_sums,
+        stage_rows,
+        stage_columns,
+        stage_values,
+        text,
+    )
 }

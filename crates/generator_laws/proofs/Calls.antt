@@ -13,12 +13,11 @@ use lib.ListN.{length, get_or, take, drop}
 use Rattle.word.specs.declared.word.Word.{Word}
 use Rattle.order.specs.Between.{AllBelow}
 use Rattle.order.specs.Places.{is_among}
-use Rattle.refusal.specs.declared.Answer.TheVariants.{Accepted}
+use Rattle.std.specs.Prelude.{Ok}
 use Rattle.model.specs.Stored.{ModelTables}
 use Rattle.model.specs.Tested.{test_model}
 use Rattle.model.specs.declared.stored.Model.{Model}
 use Rattle.action.specs.Acts.{action_of}
-use Rattle.action.specs.declared.act.Acted.TheVariants.{Listed}
 use Rattle.columns.specs.Entries.{Entry, entry}
 use Rattle.columns.specs.Columns.{generator_of}
 use Rattle.order.specs.Members.{Member}
@@ -58,8 +57,8 @@ module _ (m : Model) (t : ModelTables) (bs : List Word) (len : ℕ) (out : CsrOu
   rows_part r h = rw l.is (row_columns len (length (generator_of m t bs)) (generator_of m t bs) below l.offsets₀ l.columns₀ l.values₀ l.offsets_long l.columns_long l.values_long r h)
 
 -- ---- the generator
-module _ (rows columns : List ℕ) (values : List Float) (w : Work) (m : Model) (t : ModelTables) (lanes : List ℕ) (len n : ℕ) (accepted : (generate rows columns values w m t lanes len).out.answer ≡ Listed n) where
-  pub generator_model : test_model m t ≡ Accepted
+module _ (rows columns : List ℕ) (values : List Float) (w : Work) (m : Model) (t : ModelTables) (lanes : List ℕ) (len n : ℕ) (accepted : (generate rows columns values w m t lanes len).out.answer ≡ Ok n) where
+  pub generator_model : test_model m t ≡ Ok tt
   generator_model = (generator_accepted rows columns values w m t lanes len n accepted).model_passes
 
   -- the tables hold exactly the generator's entries
@@ -74,11 +73,11 @@ module _ (rows columns : List ℕ) (values : List Float) (w : Work) (m : Model) 
   reached_generator_row v e r = reached_row m t (basis_of lanes len) (Lists (generate rows columns values w m t lanes len).out) generator_exact v e r
 
 -- ---- the matrix by rows
-module _ (offsets columns : List ℕ) (values : List Float) (w : Work) (m : Model) (t : ModelTables) (lanes : List ℕ) (len n : ℕ) (accepted : (build_csr offsets columns values w m t lanes len).out.answer ≡ Listed n) where
+module _ (offsets columns : List ℕ) (values : List Float) (w : Work) (m : Model) (t : ModelTables) (lanes : List ℕ) (len n : ℕ) (accepted : (build_csr offsets columns values w m t lanes len).out.answer ≡ Ok n) where
   listed : RowListing m t (basis_of lanes len) len (build_csr offsets columns values w m t lanes len).out n
   listed = csr_accepted offsets columns values w m t lanes len n accepted
 
-  pub csr_model : test_model m t ≡ Accepted
+  pub csr_model : test_model m t ≡ Ok tt
   csr_model = listed.model_passes
 
   pub csr_exact : Exact m t (basis_of lanes len) (InRow (build_csr offsets columns values w m t lanes len).out)
@@ -100,7 +99,7 @@ module _ (offsets columns : List ℕ) (values : List Float) (w : Work) (m : Mode
   reached_csr_row v e r = reached_row m t (basis_of lanes len) (InRow (build_csr offsets columns values w m t lanes len).out) csr_exact v e r
 
   -- ---- both calls over one basis hold the same entries
-  module _ (rows columns' : List ℕ) (values' : List Float) (w' : Work) (n' : ℕ) (accepted' : (generate rows columns' values' w' m t lanes len).out.answer ≡ Listed n') (r c : ℕ) (v : Float) (low : r < length (basis_of lanes len)) where
+  module _ (rows columns' : List ℕ) (values' : List Float) (w' : Work) (n' : ℕ) (accepted' : (generate rows columns' values' w' m t lanes len).out.answer ≡ Ok n') (r c : ℕ) (v : Float) (low : r < length (basis_of lanes len)) where
     pub listed_in_row : Lists (generate rows columns' values' w' m t lanes len).out r c v → InRow (build_csr offsets columns values w m t lanes len).out r c v
     listed_in_row h = csr_exact.hold r c v low ((generator_exact rows columns' values' w' m t lanes len n' accepted').held r c v low h)
 

@@ -15,7 +15,7 @@ use Rattle.lent.specs.Laid.{laid}
 use Rattle.lent.proofs.LaidLaws.{laid_length, set_here}
 use Rattle.columns.specs.Entries.{Entry, entry}
 use Rattle.order.specs.Members.{Member}
-use Rattle.action.specs.declared.act.Acted.TheVariants.{Listed}
+use Rattle.std.specs.Prelude.{Ok}
 use Rattle.csr_build.specs.Rows.{row_of, rows_to, offsets_of}
 use Rattle.csr_build.proofs.RowLaws.{no_entry, rows_of, start_of, start_next, start_rises, rows_at, rows_all}
 use Rattle.csr_build.proofs.SameLaws.{member_place, place_member, row_holds, row_held}
@@ -28,7 +28,7 @@ same_entry x a b d = rw (← a, ← b, ← d)
 
 module _ (n k : ℕ) (E : List Entry) (below : AllBelow n (rows_of E)) (offsets columns : List ℕ) (values : List Float) (ho : n < length offsets) (hc : length E ≤ length columns) (hv : length E ≤ length values) where
   abbrev out : CsrOut
-  out = by_rows n offsets columns values (Listed k) E
+  out = by_rows n offsets columns values (Ok k) E
 
   pub offset_is : (r : ℕ) → r ≤ n → get_or out.offsets r 0 ≡ start_of E r
   offset_is r h =

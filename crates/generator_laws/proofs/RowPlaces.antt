@@ -15,7 +15,7 @@ use Rattle.order.proofs.Members.{all_at}
 use Rattle.model.specs.Stored.{ModelTables}
 use Rattle.model.specs.declared.stored.Model.{Model}
 use Rattle.action.specs.Acts.{action_of}
-use Rattle.action.specs.declared.act.Acted.TheVariants.{Listed}
+use Rattle.std.specs.Prelude.{Ok}
 use Rattle.columns.specs.Entries.{Entry}
 use Rattle.columns.specs.Columns.{generator_of}
 use Rattle.order.specs.Members.{Member}
@@ -56,7 +56,7 @@ module _ (n : ℕ) (E : List Entry) (below : AllBelow n (rows_of E)) where
 
   module _ (offsets columns : List ℕ) (values : List Float) where
     abbrev out : CsrOut
-    out = by_rows n offsets columns values (Listed (length E)) E
+    out = by_rows n offsets columns values (Ok (length E)) E
 
     pub first_offsets : n < length offsets → take (n + 1) out.offsets ≡ offsets_of n E
     first_offsets h = let m = offsets_many n E in laid_many 0 (offsets_of n E) offsets (n + 1) (omega (arith, m)) (omega arith)

@@ -13,7 +13,7 @@ use denote.Floats.{is_true}
 use lib.Dec.{T, eqb, leb}
 use lib.Ieee.{Float, nan}
 use lib.ListN.{length, get_or}
-use Rattle.refusal.specs.declared.Answer.TheVariants as Tests
+use Rattle.std.specs.Prelude.{Ok}
 use Rattle.word.specs.Word.{identity}
 use Rattle.word.specs.declared.word.Word.{Word}
 use Rattle.number.specs.Floats.{is_finite}
@@ -98,7 +98,7 @@ module _ (m : Model) (t : ModelTables) (bs : List Word) (n : ℕ) (all : length 
           let up = column_rises m t bs n k low (λ s. false≢true (sym e ∙ starts k s)) in
           rw (lt-leb (get_or columns k 0) (get_or columns (k - 1) 0) (omega (arith, here, before, up)))
 
-  values_finite : test_model m t ≡ Tests.Accepted → (k : ℕ) → k < length values → is_finite (get_or values k nan) ≡ true
+  values_finite : test_model m t ≡ Ok tt → (k : ℕ) → k < length values → is_finite (get_or values k nan) ≡ true
   values_finite passes k h =
       let z = values_many n entries below in
       let e = entry_entered m t bs n k (omega (arith, ended, z)) in
@@ -107,7 +107,7 @@ module _ (m : Model) (t : ModelTables) (bs : List Word) (n : ℕ) (all : length 
       let f = every_at (λ (c : Term). T (is_finite c.num.re) × T (is_finite c.num.im)) A p.at e.term (listed_finite m t passes (get_or bs (entry_at n entries k).column identity)) p.low in
       ap is_finite (value_at n entries k ∙ e.value ∙ ap (λ (c : Term). c.num.re) (sym p.is)) ∙ is_true _ f.0
 
-  pub generator_sound : test_model m t ≡ Tests.Accepted → (input : List Float) (overwrite : Bool) (output : List Float) → NoneBefore (not_finite input) n → (overwrite ≡ false → NoneBefore (not_finite output) n)
+  pub generator_sound : test_model m t ≡ Ok tt → (input : List Float) (overwrite : Bool) (output : List Float) → NoneBefore (not_finite input) n → (overwrite ≡ false → NoneBefore (not_finite output) n)
       → Sound n offsets columns values input overwrite output
   unfolding not_finite
   generator_sound passes input overwrite output in-finite out-finite = record {

@@ -10,7 +10,7 @@ use Prim.Native.Nat.{ℕ, zero, suc, ◌+◌, ◌-◌, ◌*◌, ◌≤◌, ◌<�
 use native.Mathlib.Omega.{arith}
 use lib.Ieee.{nan}
 use lib.ListN.{length, get_or, take}
-use Rattle.refusal.specs.declared.Answer.TheVariants.{Accepted}
+use Rattle.std.specs.Prelude.{Ok}
 use Rattle.word.specs.Word.{identity}
 use Rattle.word.specs.Flat.{words, word_lanes}
 use Rattle.word.specs.declared.word.Word.{Word}
@@ -110,11 +110,11 @@ module _ (m : Model) (t t' : ModelTables) (same : SameModel m t t') where
       words_room : (n : ℕ) (l l' : List ℕ) → take n (words l) ≡ take n (words l') → word_lanes * n ≤ length l → word_lanes * n ≤ length l'
       words_room n l l' e h = omega (arith, same_long n (words l) (words l') e (omega (arith, h, words_high l)), words_low l')
 
-  pub same_passes : test_model m t ≡ Accepted → test_model m t' ≡ Accepted
+  pub same_passes : test_model m t ≡ Ok tt → test_model m t' ≡ Ok tt
   same_passes e = stands_tested m t' (stands_same (tested_stands m t e))
 
   -- ---- the rules, their sums, and the action
-  module _ (passes : test_model m t ≡ Accepted) (p : Word) where
+  module _ (passes : test_model m t ≡ Ok tt) (p : Word) where
     reals_same : reals_in m t ≡ reals_in m t'
     reals_same = read_same (real_at t) (real_at t') 0 m.hamiltonian (λ i l h. real_same i (omega arith))
 

@@ -2,6 +2,7 @@
 -- SPDX-License-Identifier: Apache-2.0
 
 -- The set bits that a cursor leaves. Assumes nothing.
+use Rattle.std.specs.Prelude.{Some, None, Option}
 use mathlib.Core.Path.{◌≡◌, refl, sym, ap, ap₂, ◌∙◌}
 use mathlib.Core.List.{List, [], ◌∷◌, ◌++◌}
 use Prim.Native.Nat.{ℕ, suc, ◌+◌, ◌-◌, ◌*◌, ◌/◌, ◌%◌, ◌<◌, ◌≤◌}
@@ -11,8 +12,6 @@ use lib.Bits.{bit_and}
 use lib.ListN.{get_or}
 use Rattle.word.specs.Word.{bit}
 use Rattle.index.specs.declared.Cursor.{Cursor}
-use Rattle.index.specs.declared.Next.{Next}
-use Rattle.index.specs.declared.Next.TheVariants.{Item, Done}
 use Rattle.index.specs.Index.{flag}
 use Rattle.index.specs.Visit.{up_from, keep, flagged, left, Steps}
 use Rattle.word.proofs.Digits.{zero_bit}
@@ -91,13 +90,13 @@ module _ (row : ℕ) (mask : List ℕ) (c : Cursor) (i m : ℕ) (inv : left row 
   pub step_done : m ≡ 0 → row ≤ i + 1 → left row mask c ≡ []
   step_done z h = inv ∙ ap (λ (x : ℕ). left row mask (cursor i x)) z ∙ left_none row mask i ∙ flagged_end row mask ((i + 1) * 64) (omega arith)
 
-  pub step_item : (t : ℕ) → Lowest 64 m t → i < row → Steps row mask c (Item (i * 64 + t) (cursor i (bit_and m (m - 1))))
+  pub step_item : (t : ℕ) → Lowest 64 m t → i < row → Steps row mask c (Some (i * 64 + t, cursor i (bit_and m (m - 1))))
   step_item t l h = (inv ∙ left_next row mask i m t l, omega (arith, l.inside), h)
 
 -- ---- what a caller's loop uses
 
-pub stepped : (row : ℕ) (mask : List ℕ) (c : Cursor) (r : Next) (j : ℕ) (d : Cursor) → r ≡ Item j d → Steps row mask c r → (left row mask c ≡ j ∷ left row mask d) × (j < row * 64) × (d.lane < row)
+pub stepped : (row : ℕ) (mask : List ℕ) (c : Cursor) (r : Option (ℕ × Cursor)) (j : ℕ) (d : Cursor) → r ≡ Some (j, d) → Steps row mask c r → (left row mask c ≡ j ∷ left row mask d) × (j < row * 64) × (d.lane < row)
 stepped row mask c r j d e s = rw e at s
 
-pub ended : (row : ℕ) (mask : List ℕ) (c : Cursor) (r : Next) → r ≡ Done → Steps row mask c r → left row mask c ≡ []
+pub ended : (row : ℕ) (mask : List ℕ) (c : Cursor) (r : Option (ℕ × Cursor)) → r ≡ None → Steps row mask c r → left row mask c ≡ []
 ended row mask c r e s = rw e at s

@@ -2,6 +2,7 @@
 -- SPDX-License-Identifier: Apache-2.0
 
 -- What is visited: exactly the items that share a qubit with p, each once, in rising order. Assumes nothing.
+use Rattle.std.specs.Prelude.{Some, Option}
 use mathlib.Core.Path.{◌≡◌, refl, sym, ap, ap₂, ◌∙◌}
 use mathlib.Core.Bool.{Bool, true, false, ◌&&◌, ◌||◌, or-false, and-false}
 use mathlib.Core.List.{List, [], ◌∷◌}
@@ -16,8 +17,6 @@ use Rattle.word.specs.Register.{acts_on, reaches, share}
 use Rattle.word.specs.declared.word.Word.{Word}
 use Rattle.word.proofs.Sums.{any_false}
 use Rattle.index.specs.declared.Cursor.{Cursor}
-use Rattle.index.specs.declared.Next.{Next}
-use Rattle.index.specs.declared.Next.TheVariants.{Item}
 use Rattle.index.specs.Index.{flag, digit, acts, acts_any, shares_any, unites, Indexed, United}
 use Rattle.index.specs.Visit.{up_from, keep, flagged, left, Steps, AllBelow}
 use Rattle.index.proofs.Kept.{keep_short, keep_below}
@@ -125,6 +124,6 @@ module _ (n : ℕ) (p : Word) (few : n ≤ max_qubits) (low : reaches p n ≡ fa
     flagged_below h = rw (flagged_items h) (keep_below (flag mask) (length items) (length items) 0 (omega arith))
 
 -- ---- each visit is below what all were
-pub step_below : (row : ℕ) (mask : List ℕ) (c : Cursor) (r : Next) → Steps row mask c r → (n j : ℕ) (d : Cursor) → r ≡ Item j d → AllBelow n (left row mask c) → (j < n) × AllBelow n (left row mask d)
+pub step_below : (row : ℕ) (mask : List ℕ) (c : Cursor) (r : Option (ℕ × Cursor)) → Steps row mask c r → (n j : ℕ) (d : Cursor) → r ≡ Some (j, d) → AllBelow n (left row mask c) → (j < n) × AllBelow n (left row mask d)
 unfolding AllBelow
 step_below row mask c r s n j d e a = rw (stepped row mask c r j d e s).0 at a

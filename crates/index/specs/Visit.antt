@@ -2,11 +2,9 @@
 -- SPDX-License-Identifier: Apache-2.0
 
 -- Contracts between functions: the order of visits, the set bits of a mask of so many lanes from low to high.
-use Rattle.std.specs.Prelude.{cond, List, [], ◌∷◌, ◌++◌, ◌≡◌, ℕ, zero, suc, ◌+◌, ◌*◌, ◌-◌, ◌<◌, eqb}
+use Rattle.std.specs.Prelude.{cond, List, [], ◌∷◌, ◌++◌, ◌≡◌, ℕ, zero, suc, ◌+◌, ◌*◌, ◌-◌, ◌<◌, eqb, Some, None, Option}
 use Rattle.word.specs.Word.{bit}
 use Rattle.index.specs.declared.Cursor.{Cursor}
-use Rattle.index.specs.declared.Next.{Next}
-use Rattle.index.specs.declared.Next.TheVariants.{Item, Done}
 use Rattle.index.specs.Index.{flag}
 
 -- d numbers from j on
@@ -28,9 +26,9 @@ unfoldable pub left : ℕ → List ℕ → Cursor → List ℕ
 left row mask c = keep (λ j. bit c.rest (j - c.lane * 64)) (up_from 64 (c.lane * 64)) ++ flagged row mask (c.lane * 64 + 64)
 
 -- a step: the first of those left, and a cursor that leaves the others
-abbrev pub Steps : ℕ → List ℕ → Cursor → Next → Type 0
-Steps row mask c (Item j d) = (left row mask c ≡ j ∷ left row mask d) × (j < row * 64) × (d.lane < row)
-Steps row mask c Done = left row mask c ≡ []
+abbrev pub Steps : ℕ → List ℕ → Cursor → Option (ℕ × Cursor) → Type 0
+Steps row mask c (Some next) = (left row mask c ≡ next.0 ∷ left row mask next.1) × (next.0 < row * 64) × (next.1.lane < row)
+Steps row mask c None = left row mask c ≡ []
 
 -- each of a list is below n
 unfoldable pub AllBelow : ℕ → List ℕ → Type 0

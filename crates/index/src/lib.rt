@@ -21,12 +21,6 @@ pub struct Cursor {
     pub rest: u64,
 }
 
-#[derive(Drop)]
-pub enum Next {
-    Item(usize, Cursor),
-    Done,
-}
-
 // How many of n qubits a word holds.
 fn held_qubits(n: usize) -> usize
     ensures { result ≡ min n max_qubits }
@@ -53,6 +47,7 @@ pub fn mark_word(index: &mut [u64], row: usize, n: usize, j: usize, w: Word)
     ensures { Marks row n j (w ∷ []) index.old index.new }
 {
     let end = held_qubits(n);
+    // From qubit to qubit of the word.
     let mut q = next_qubit(w, 0);
     while q < end {
         let at = q * row + j / 64;
@@ -66,11 +61,7 @@ fn clear_row(mask: &mut [u64], row: usize)
     requires { row ≤ length mask.old }
     ensures { (i : ℕ) → i < row → get_or mask.new i 0 ≡ 0 }
 {
-    let mut i = 0;
-    while i < row {
-        mask[i] = 0;
-        i += 1;
-    }
+    mask[..row].fill(0);
 }
 
 // A row of the index, from at on, or'd into a mask.
@@ -78,10 +69,8 @@ fn or_row(mask: &mut [u64], row: usize, index: &[u64], at: usize)
     requires { (row ≤ length mask.old) × (at + row ≤ length index.now) }
     ensures { (i : ℕ) → i < row → get_or mask.new i 0 ≡ bit_or (get_or mask.old i 0) (get_or index.now (at + i) 0) }
 {
-    let mut i = 0;
-    while i < row {
+    for i in 0..row {
         mask[i] = mask[i] | index[at + i];
-        i += 1;
     }
 }
 
@@ -92,6 +81,7 @@ pub fn union_rows(p: Word, row: usize, n: usize, index: &[u64], mask: &mut [u64]
 {
     clear_row(mask, row);
     let end = held_qubits(n);
+    // From qubit to qubit of p.
     let mut q = next_qubit(p, 0);
     while q < end {
         or_row(mask, row, index, q * row);
@@ -110,21 +100,22 @@ pub fn start(mask: &[u64], row: usize) -> Cursor
     }
 }
 
-// The first of the set bits that are left, and the others.
-pub fn step(mask: &[u64], row: usize, c: Cursor) -> Next
+// The first of the set bits that are left, and the others; None where none is.
+pub fn step(mask: &[u64], row: usize, c: Cursor) -> Option<(usize, Cursor)>
     requires { (64 ≤ length mask.now) × (row ≤ 64) × (c.lane < row) }
     ensures { Steps row mask.now c result }
 {
     let mut lane = c.lane;
     let mut m = c.rest;
+    // On to the next lane that has a bit left.
     while m == 0 {
         lane += 1;
         if row <= lane {
-            return Next::Done;
+            return None;
         }
         m = mask[lane];
     }
     let j = lane * 64 + u64::trailing_zeros(m) as usize;
     let rest = m & (m - 1);
-    Next::Item(j, Cursor { lane, rest })
+    Some((j, Cursor { lane, rest }))
 }

@@ -111,9 +111,6 @@ module _ (ops : ℕ) (k : List Float) (largest : Float) (s : Square ops k larges
 
 -- ---- the numbers that pass a test
 module _ (f : ℕ → Bool) where
-  pub passing_start : (n : ℕ) → 0 + length (passing f 0 (n - 0)) ≡ length (passing f 0 n)
-  passing_start n = let d : n - 0 ≡ n = omega arith in rw d (omega arith)
-
   -- at p, of those below n
   pub passing_yes : (p n : ℕ) → p < n → f p ≡ true → passing f p (n - p) ≡ p ∷ passing f (p + 1) (n - (p + 1))
   unfolding passing

@@ -11,8 +11,8 @@ use native.Mathlib.Omega.{arith}
 use borrow.Author.Tests.{eq-eqb}
 use lib.Ieee.{Float}
 use lib.ListN.{length}
-use Rattle.refusal.specs.declared.Answer.{Answer}
-use Rattle.refusal.specs.declared.Answer.TheVariants.{Accepted}
+use Rattle.std.specs.Prelude.{Ok}
+use Rattle.refusal.specs.Cause.{Answer}
 use Rattle.word.specs.Flat.{word_lanes}
 use Rattle.model.specs.Stored.{ModelTables}
 use Rattle.model.specs.Tested.{max_jumps}
@@ -47,11 +47,11 @@ module _ (m : Model) (i : Input) (t : ModelTables) (workWords : List ℕ) (workN
       (lent needed (length t.rates)
       (lent work (length workWords / word_lanes)
       (lent work (length workNumbers / 2)
-      Accepted)))
+      (Ok tt))))
 
   pub own_agree : length i.k / 2 ≡ operators i * operators i → length i.k ≡ operators i * operators i * 2
       → length i.lengths ≡ terms → length i.numbers ≡ terms * 2
-      → parts_fit i.counts terms ≡ Accepted → parts_fit i.lengths (length i.texts) ≡ Accepted
+      → parts_fit i.counts terms ≡ Ok tt → parts_fit i.lengths (length i.texts) ≡ Ok tt
       → (needed : ℕ) → needed ≡ min max_jumps (m.jumps + operators i * (operators i + 1) / 2)
       → (few : ℕ) → few ≡ min terms (max_terms * operators i) → (work : ℕ) → work ≡ where_any (operators i) (256 + few)
       → lengths_answer m i t workWords workNumbers ≡ tables_answer needed work
@@ -60,7 +60,7 @@ module _ (m : Model) (i : Input) (t : ModelTables) (workWords : List ℕ) (workN
       let n : needed ≡ entries_needed m (operators i) = e ∙ ap (λ (s : ℕ). min max_jumps (m.jumps + operators i * s / 2)) (add-one (operators i)) in
       rw (n, w, f, eq-eqb _ _ h, eq-eqb _ _ k, eq-eqb _ _ l, eq-eqb _ _ x, by_counts, byLengths)
 
-  pub lengths_fit : lengths_answer m i t workWords workNumbers ≡ Accepted → LengthsFit m i t workWords workNumbers
+  pub lengths_fit : lengths_answer m i t workWords workNumbers ≡ Ok tt → LengthsFit m i t workWords workNumbers
   unfolding lengths_answer
   lengths_fit e =
       let e1 = equal_passed (operators i * operators i) (length i.k / 2) _ e in

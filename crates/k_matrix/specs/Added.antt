@@ -2,10 +2,9 @@
 -- SPDX-License-Identifier: Apache-2.0
 
 -- Adding a matrix to a model that stands: the model, 8, 9, 7, 10, the operators, 8; 13 last. The tables afterwards.
-use Rattle.std.specs.Prelude.{ℕ, suc, ◌+◌, ◌*◌, ◌/◌, min, cond, List, [], ◌∷◌, ◌++◌, map, ltb, Float, length, set}
+use Rattle.std.specs.Prelude.{ℕ, suc, ◌+◌, ◌*◌, ◌/◌, min, cond, List, [], ◌∷◌, ◌++◌, map, ltb, Float, length, set, Ok, Err}
 use Rattle.refusal.specs.declared.Refusal.TheVariants.{TableFull}
-use Rattle.refusal.specs.declared.Answer.{Answer}
-use Rattle.refusal.specs.declared.Answer.TheVariants.{Accepted}
+use Rattle.refusal.specs.Cause.{Answer}
 use Rattle.word.specs.Flat.{lay_word, word_lanes}
 use Rattle.number.specs.Numbers.{Cx}
 use Rattle.number.specs.Floats.{floats}
@@ -20,7 +19,6 @@ use Rattle.model.specs.Terms.{Term}
 use Rattle.lent.specs.Laid.{laid}
 use Rattle.model_build.specs.Built.{parts, term_items, parts_fit, term_places, entries_from, terms_of, rates_of, Building, finished, tested, when_read}
 use Rattle.model.specs.declared.stored.Model.{Model}
-use Rattle.model_build.specs.declared.spec.Built.TheVariants as Answers
 use Rattle.k_matrix.specs.Matrix.{hermitian, pair_places}
 use Rattle.k_matrix.specs.Pairs.{pairs_of}
 use Rattle.lent.specs.Tests.{counted, lent, where_any, entries, and_then, equal, in_turn}
@@ -71,7 +69,7 @@ lengths_answer m i t workWords workNumbers =
     ∷ lent (entries_needed m ops) (length t.rates)
     ∷ lent (work_needed ops terms) (length workWords / word_lanes)
     ∷ lent (work_needed ops terms) (length workNumbers / 2)
-    ∷ []) Accepted
+    ∷ []) (Ok tt)
 
 -- ---- the operators, read
 abbrev pub read_operators : ℕ → Input → Read (List (List Term))
@@ -92,11 +90,11 @@ module _ (m : Model) (i : Input) (t : ModelTables) (workWords : List ℕ) (workN
       ∷ counted max_operators (operators i)
       ∷ and_then (lengths_answer m i t workWords workNumbers)
       ∷ entries (operators i * operators i) (number_fails i.k)
-      ∷ []) (hermitian (operators i) (matrix i) Accepted)
+      ∷ []) (hermitian (operators i) (matrix i) (Ok tt))
 
   -- the test after them: 8 for jumps and pairs together
   abbrev pub pairs_test : Answer
-  pairs_test = counted max_jumps (m.jumps + length (pair_places floats (operators i) (matrix i))) Accepted
+  pairs_test = counted max_jumps (m.jumps + length (pair_places floats (operators i) (matrix i))) (Ok tt)
 
   -- the operators' terms, then those of each pair
   unfoldable pub stored : List (List Term) → List Compiled → ModelTables
@@ -114,8 +112,8 @@ module _ (m : Model) (i : Input) (t : ModelTables) (workWords : List ℕ) (workN
       let cs : List Compiled = pairs_of m.terms i.counts (matrix i) As in
       let terms : ℕ = m.terms + length (all_terms As ++ terms_of cs) in
       cond (ltb (term_places t) terms)
-      (finished t workWords workNumbers (Answers.Refused (TableFull 4 (term_places t))) t)
-      (finished t workWords workNumbers (Answers.Model (record { qubits = m.qubits; hamiltonian = m.hamiltonian; jumps = m.jumps + length cs; terms = terms })) (stored As cs))
+      (finished t workWords workNumbers (Err (TableFull 4 (term_places t))) t)
+      (finished t workWords workNumbers (Ok (record { qubits = m.qubits; hamiltonian = m.hamiltonian; jumps = m.jumps + length cs; terms = terms })) (stored As cs))
 
   unfoldable pub add : Building
   add =

@@ -2,10 +2,9 @@
 -- SPDX-License-Identifier: Apache-2.0
 
 -- K by its places, row by row: which rows and columns disagree with their mirror entries, and which make pairs.
-use Rattle.std.specs.Prelude.{ℕ, zero, suc, ◌*◌, ◌/◌, ◌%◌, Bool, not, ◌&&◌, cond, List, [], ◌∷◌, ltb, leb}
+use Rattle.std.specs.Prelude.{ℕ, zero, suc, ◌*◌, ◌/◌, ◌%◌, Bool, not, ◌&&◌, cond, List, [], ◌∷◌, ltb, leb, Err}
 use Rattle.refusal.specs.declared.Refusal.TheVariants.{KMatrixNotHermitian}
-use Rattle.refusal.specs.declared.Answer.{Answer}
-use Rattle.refusal.specs.declared.Answer.TheVariants.{Refused}
+use Rattle.refusal.specs.Cause.{Answer}
 use Rattle.number.specs.Numbers.{Numbers, Cx, sub_c, conj_c, square, largest_over}
 use Rattle.number.specs.Floats.{floats}
 use Rattle.gksl.specs.Model.{entry_in}
@@ -23,7 +22,7 @@ apart_at N ops K p = leb (p / ops) (p % ops) && apart N ops K (p / ops) (p % ops
 unfoldable pub hermitian : ℕ → List (Cx floats) → Answer → Answer
 hermitian ops K after =
     let p : ℕ = first_to (ops * ops) (apart_at floats ops K) in
-    cond (ltb p (ops * ops)) (Refused (KMatrixNotHermitian (p / ops) (p % ops))) after
+    cond (ltb p (ops * ops)) (Err (KMatrixNotHermitian (p / ops) (p % ops))) after
 
 -- ---- pairs, the row not above the column; an entry is skipped if it is negligible beside the largest one
 unfoldable pub skipped : (N : Numbers) → ℕ → List (Cx N) → ℕ → ℕ → Bool

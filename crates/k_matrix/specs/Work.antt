@@ -3,7 +3,7 @@
 
 -- Contracts between functions: K with its largest square, and operators in the work table.
 use Rattle.std.specs.Prelude.{ℕ, ◌+◌, ◌-◌, ◌*◌, ◌≤◌, ◌≡◌, List, Float, length, get_or, drop}
-use Rattle.refusal.specs.declared.Answer.{Answer}
+use Rattle.refusal.specs.Cause.{Answer}
 use Rattle.word.specs.Flat.{word_lanes}
 use Rattle.number.specs.Numbers.{Cx, largest_over}
 use Rattle.number.specs.Floats.{floats}

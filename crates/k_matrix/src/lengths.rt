@@ -4,7 +4,6 @@
 // Whether the lengths of a matrix and its operators agree, and whether the lent tables have room: the
 // input's own lengths first, then the tables in their order. The first refusal is the answer.
 ghost use Rattle.std.specs.Prelude.{◌≡◌, List, ℕ, ◌≤◌, Float, length};
-ghost use Rattle.refusal.specs.declared.Answer.TheVariants.{Accepted};
 ghost use Rattle.lent.specs.Tests.{lent};
 ghost use Rattle.k_matrix.specs.Added.{lengths_answer};
 
@@ -14,7 +13,7 @@ use model::stored::{JUMP_NUMBERS, Model};
 use model::test::MAX_JUMPS;
 use model_build::items::{MAX_TERMS, parts_fit};
 use operator_product::product::SUM_PLACES;
-use refusal::Answer;
+use refusal::Refusal;
 use word::flat::WORD_LANES;
 
 // Whether the lent tables have the places that are needed. By numbers alone: a proof that carries no
@@ -26,8 +25,8 @@ fn tables_fit(
     rates: usize,
     words: usize,
     numbers: usize,
-) -> Answer
-    ensures { result ≡ lent entries jumps (lent entries rates (lent work words (lent work numbers Accepted))) }
+) -> Result<(), Refusal>
+    ensures { result ≡ lent entries jumps (lent entries rates (lent work words (lent work numbers (Ok tt)))) }
 {
     if jumps < entries {
         return mismatch(entries, jumps);
@@ -41,7 +40,7 @@ fn tables_fit(
     if numbers < work {
         return mismatch(work, numbers);
     }
-    Answer::Accepted
+    Ok(())
 }
 
 // Whether there is an entry of K for each two operators, a text and two numbers for each term, and
@@ -58,7 +57,7 @@ pub fn lengths_agree(
     rates: &[f64],
     work_words: &[u64],
     work_numbers: &[f64],
-) -> Answer
+) -> Result<(), Refusal>
     requires { (m.jumps ≤ 4096) × (length counts.now ≤ 64) }
     ensures { (hWords : List ℕ) → (hCoeffs : List Float) → (tWords : List ℕ) → (tNumbers : List Float) → result ≡ lengths_answer m (record { texts = texts.entry.now; lengths = lengths.now; counts = counts.now; numbers = numbers.now; k = k.now }) (record { h_words = hWords; h_coeffs = hCoeffs; jumps = jumps.now; rates = rates.now; t_words = tWords; t_numbers = tNumbers }) work_words.now work_numbers.now }
 {
@@ -77,14 +76,8 @@ pub fn lengths_agree(
     if numbers.len() != terms * 2 {
         return mismatch(terms * 2, numbers.len());
     }
-    let by_counts = parts_fit(counts, terms);
-    let Answer::Accepted = by_counts else {
-        return by_counts;
-    };
-    let by_lengths = parts_fit(lengths, texts.len());
-    let Answer::Accepted = by_lengths else {
-        return by_lengths;
-    };
+    parts_fit(counts, terms)?;
+    parts_fit(lengths, texts.len())?;
     let entries = smaller(MAX_JUMPS, m.jumps + ops * (ops + 1) / 2);
     let work = where_any(ops, SUM_PLACES + smaller(terms, MAX_TERMS * ops));
     tables_fit(

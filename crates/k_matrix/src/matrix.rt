@@ -20,10 +20,8 @@ pub fn largest_square(k: &[f64]) -> f64
 {
     let places = k.len() / 2;
     let mut largest = 0.0;
-    let mut p = 0;
-    while p < places {
+    for p in 0..places {
         largest = larger(largest, norm_sqr(complex_at(k, p)));
-        p += 1;
     }
     largest
 }
@@ -44,8 +42,7 @@ pub fn first_apart(k: &[f64], ops: usize, largest: f64) -> usize
     ensures { result ≡ first_to (ops * ops) (apart_at floats ops (complexes k.now)) }
 {
     let places = ops * ops;
-    let mut p = 0;
-    while p < places {
+    for p in 0..places {
         let n = p / ops;
         let m = p % ops;
         if n <= m {
@@ -53,7 +50,6 @@ pub fn first_apart(k: &[f64], ops: usize, largest: f64) -> usize
                 return p;
             }
         }
-        p += 1;
     }
     places
 }
@@ -77,12 +73,10 @@ pub fn count_pairs(k: &[f64], ops: usize, largest: f64) -> usize
 {
     let places = ops * ops;
     let mut count = 0;
-    let mut p = 0;
-    while p < places {
+    for p in 0..places {
         if makes_pair(k, ops, largest, p) {
             count += 1;
         }
-        p += 1;
     }
     count
 }

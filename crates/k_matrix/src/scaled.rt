@@ -28,19 +28,16 @@ pub fn store_scaled(
     ensures { Keeps (map (scaled (cx k)) (thinned (sum_rows len words.now numbers.now))) at t_words.old t_numbers.old result t_words.new t_numbers.new }
 {
     let mut place = at;
-    let mut i = 0;
-    while i < len {
+    for i in 0..len {
         let t = term_at(words, numbers, i);
         let z = t.number;
         if negligible(norm_sqr(z)) {
-            i += 1;
-        } else {
-            let w = t.word;
-            set_word(t_words, place, w);
-            set_complex(t_numbers, place, mul(k, z));
-            place += 1;
-            i += 1;
+            continue;
         }
+        let w = t.word;
+        set_word(t_words, place, w);
+        set_complex(t_numbers, place, mul(k, z));
+        place += 1;
     }
     place
 }

@@ -1,13 +1,14 @@
 -- SPDX-FileCopyrightText: 2026 The PPVM Authors
 -- SPDX-License-Identifier: Apache-2.0
 
--- How many flags are not 0: once one is raised, where all or none are, and where each is made 0 or 1. Assumes nothing.
+-- Flags as numbers of tests; and how many flags are not 0: once one is raised, where all or none are, and where each is made 0 or 1. Assumes nothing.
 use mathlib.Core.Path.{◌≡◌, refl, ap}
-use mathlib.Core.Bool.{Bool, true, false, cond}
+use mathlib.Core.Bool.{Bool, true, false, not, cond}
 use mathlib.Core.List.{List, [], ◌∷◌, map}
 use Prim.Native.Nat.{ℕ, zero, suc, ◌≤◌, ◌<◌}
 use native.Mathlib.Omega.{arith}
 use lib.Dec.{eqb}
+use mir.Val.{bool_byte}
 use lib.ListN.{length, get_or, set, replicate}
 use borrow.Author.Tests.{ne_eqb}
 use Rattle.keep.specs.Retained.{flagged}
@@ -16,6 +17,15 @@ use Rattle.keep.specs.Chosen.{flag_of}
 -- the flag at p is not 0
 abbrev pub Kept : List ℕ → ℕ → Type 0
 Kept flags p = get_or flags p 0 ≡ 0 → ⊥
+
+-- the number of a test
+pub test_number : (b : Bool) → bool_byte b ≡ cond b 1 0
+test_number true = refl
+test_number false = refl
+
+pub not_number : (b : Bool) → bool_byte (not b) ≡ cond b 0 1
+not_number true = refl
+not_number false = refl
 
 pub flag_small : (k : ℕ) → flag_of k ≤ 1
 flag_small k = go (eqb k 0)

@@ -4,7 +4,7 @@
 -- Positions held against the last one to stay: one turn at a time; and where the count is right, they are the chosen ones. With a slot for
 -- each all are chosen. Assumes nothing.
 use mathlib.Core.Path.{◌≡◌, refl, ap, sym, subst, ◌∙◌}
-use mathlib.Core.Bool.{Bool, true, false, cond}
+use mathlib.Core.Bool.{Bool, true, false, not, cond}
 use mathlib.Core.List.{List, map}
 use mathlib.Core.Logic.{◌⊎◌, inl, inr}
 use Prim.Native.Nat.{ℕ, zero, suc, ◌+◌, ◌≤◌, ◌<◌}
@@ -12,9 +12,10 @@ use native.Mathlib.Omega.{arith}
 use native.Mathlib.Decide.{dec_lt}
 use borrow.Author.Tests.{ltb-true, ltb-false, eqb-true, eqb-false, eq-eqb, ne_eqb}
 use lib.Dec.{eqb, ltb}
+use mir.Val.{bool_byte}
 use lib.Ieee.{Float, nan, lt}
 use lib.ListN.{length, get_or, set, take, replicate, length-set, length-map, length-replicate, get_or-replicate, get_or-eq_default}
-use lib.Seq.{take_all, take-set-le, get_or-set_same, get_or-set_other}
+use lib.Seq.{take-set-le, get_or-set_same, get_or-set_other}
 use Rattle.number.specs.Floats.{magnitude}
 use Rattle.order.specs.Magnitudes.{by_magnitude, key_at}
 use Rattle.order.proofs.MagnitudeLaws.{by_magnitude_lem, size_lt}
@@ -34,7 +35,7 @@ flag_same zero h = refl
 flag_same (suc zero) h = refl
 flag_same (suc (suc k)) h = absurd (omega arith)
 
-pub stays_small : (cut : Float) (last i : ℕ) (x : Float) (k : ℕ) → stays_flag cut last i x k ≤ 1
+stays_small : (cut : Float) (last i : ℕ) (x : Float) (k : ℕ) → stays_flag cut last i x k ≤ 1
 unfolding stays_flag
 stays_small cut last i x k = go (eqb k 0) (ltb last i) (lt cut (magnitude x)) (lt (magnitude x) cut)
   where
@@ -44,6 +45,17 @@ stays_small cut last i x k = go (eqb k 0) (ltb last i) (lt cut (magnitude x)) (l
     go true false c true = omega arith
     go true false c false = omega arith
     go false b c d = omega arith
+
+-- the number of the test whether a position stays is its flag
+pub beside_number : (cut : Float) (last i : ℕ) (x : Float) (b : Bool) → b ≡ cond (ltb last i) (lt cut (magnitude x)) (not (lt (magnitude x) cut)) → bool_byte b ≡ stays_flag cut last i x 0
+unfolding stays_flag
+beside_number cut last i x b e = ap bool_byte e ∙ go (ltb last i) (lt cut (magnitude x)) (lt (magnitude x) cut)
+  where
+    go : (a c d : Bool) → bool_byte (cond a c (not d)) ≡ cond a (cond c 1 0) (cond d 0 1)
+    go true true d = refl
+    go true false d = refl
+    go false c true = refl
+    go false c false = refl
 
 module _ (cut : Float) (coeffs : List Float) (fixed : List ℕ) (last : ℕ) where
   abbrev stay : ℕ → ℕ
@@ -55,10 +67,6 @@ module _ (cut : Float) (coeffs : List Float) (fixed : List ℕ) (last : ℕ) whe
     pub long : length kept ≡ length fixed
     pub flags : (j : ℕ) → j < i → get_or kept j 0 ≡ stay j
     pub others : taken + flagged (take i fixed) ≡ flagged (take i kept)
-
-  pub keeping_start : (kept : List ℕ) → length kept ≡ length fixed → Keeping 0 0 kept
-  unfolding flagged
-  keeping_start kept e = record { few = omega arith; long = e; flags = λ j h. absurd (omega arith); others = refl }
 
   module _ (taken i : ℕ) (kept : List ℕ) (m : Keeping taken i kept) (h : i < length fixed) where
     next : (k v : ℕ) → k ≤ 1 → v ≡ stay i → k + flag_of (get_or fixed i 0) ≡ flag_of v → Keeping (taken + k) (i + 1) (set kept i v)
@@ -90,13 +98,6 @@ module _ (cut : Float) (coeffs : List Float) (fixed : List ℕ) (last : ℕ) whe
         let n : eqb (get_or fixed i 0) 0 ≡ false = ne_eqb (get_or fixed i 0) 0 z in
         let o : taken + 0 ≡ taken = omega arith in
         rw (← o) (next 0 1 (omega arith) (rw n) (rw n))
-
-  pub kept_all : (taken i : ℕ) (kept : List ℕ) → Keeping taken i kept → length fixed ≤ i → cut ≡ magnitude (get_or coeffs last nan) → KeepsTo coeffs fixed last taken kept
-  kept_all taken i kept m h e = record {
-    long = m.long;
-    flags = λ j g. m.flags j (omega arith) ∙ rw e;
-    others = rw (take_all i fixed h, take_all i kept (omega (arith, m.long))) at m.others;
-  }
 
 -- ---- of two that are not fixed, one chosen and one not, the chosen one is at least as large, and the earlier of equals
 module _ (values : List Float) (finite : AllFinite values) (fixed : List ℕ) (long : length fixed ≡ length values) (slots : ℕ) where

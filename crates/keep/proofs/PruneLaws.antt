@@ -8,6 +8,7 @@ use mathlib.Core.List.{List, [], ◌∷◌}
 use Prim.Native.Nat.{ℕ, zero, suc, ◌≤◌, ◌<◌}
 use native.Mathlib.Omega.{arith}
 use lib.Dec.{T, eqb}
+use mir.Val.{bool_byte}
 use lib.Ieee.{Float, nan, binary64, le, fits, is_nan}
 use lib.ListN.{length, get_or, take}
 use lib.Seq.{length-take-le, get_or-take}
@@ -16,7 +17,7 @@ use Rattle.number.specs.Floats.{magnitude}
 use Rattle.number.specs.Key.{nonneg, key}
 use Rattle.number.proofs.KeyLaws.{le_key, magnitude_nonneg, magnitude_fits}
 use Rattle.keep.specs.Pruned.{large_flag, large_flags}
-use Rattle.keep.proofs.FlagLaws.{Kept}
+use Rattle.keep.proofs.FlagLaws.{Kept, test_number}
 
 module _ (tol : Float) where
   pub large_length : (xs : List Float) (ks : List ℕ) → length (large_flags tol xs ks) ≡ length ks
@@ -38,6 +39,11 @@ module _ (tol : Float) where
   large_first xs ks len i h g k =
       large_at (take len xs) ks i (omega (arith, h, length-take-le len xs g)) (omega arith)
       ∙ ap (λ (x : Float). large_flag tol x (get_or ks i 0)) (get_or-take len xs i nan h)
+
+-- the flag of a number whose magnitude is size
+pub size_flag : (tol x size : Float) → size ≡ magnitude x → bool_byte (le tol size) ≡ large_flag tol x 0
+unfolding large_flag
+size_flag tol x size e = test_number (le tol size) ∙ rw e
 
 -- a number of the code that is no NaN
 pub record Number (x : Float) : Type 0 where

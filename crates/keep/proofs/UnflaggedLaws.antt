@@ -5,10 +5,11 @@
 use mathlib.Core.Path.{◌≡◌, refl, ap, ◌∙◌}
 use mathlib.Core.Bool.{Bool, true, false, cond}
 use mathlib.Core.List.{List, [], ◌∷◌, ◌++◌, append-nil}
-use Prim.Native.Nat.{ℕ, zero, suc, ◌+◌, ◌≤◌, ◌<◌}
+use Prim.Native.Nat.{ℕ, zero, suc, ◌+◌, ◌<◌}
 use native.Mathlib.Omega.{arith}
 use native.Mathlib.Numerals.{add-one}
 use lib.Dec.{eqb}
+use mir.Val.{bool_byte}
 use lib.ListN.{length, get_or, set, take}
 use lib.Seq.{take-set-le, take-suc-set}
 use Rattle.order.specs.Between.{All, AllBelow}
@@ -19,28 +20,18 @@ pub laid_start : (ks out : List ℕ) → take 0 out ≡ unflagged_to ks 0
 unfolding unflagged_to
 laid_start ks out = refl
 
-pub one_small : (k : ℕ) → cond (eqb k 0) 1 0 ≤ 1
-one_small k = go (eqb k 0)
-  where
-    go : (b : Bool) → cond b 1 0 ≤ 1
-    go true = omega arith
-    go false = omega arith
-
 -- i is laid down where the next position goes, and counts if its flag is 0
-pub laid_next : (ks out : List ℕ) (held i k : ℕ) → held < length out → take held out ≡ unflagged_to ks i → k ≡ cond (eqb (get_or ks i 0) 0) 1 0 → take (held + k) (set out held i) ≡ unflagged_to ks (i + 1)
+pub laid_next : (ks out : List ℕ) (held i k : ℕ) → held < length out → take held out ≡ unflagged_to ks i → k ≡ bool_byte (eqb (get_or ks i 0) 0) → take (held + k) (set out held i) ≡ unflagged_to ks (i + 1)
 unfolding unflagged_to
 laid_next ks out held i k h e f = rw add-one (go (eqb (get_or ks i 0) 0) f)
   where
-    go : (b : Bool) → k ≡ cond b 1 0 → take (held + k) (set out held i) ≡ unflagged_to ks i ++ cond b (i ∷ []) []
+    go : (b : Bool) → k ≡ bool_byte b → take (held + k) (set out held i) ≡ unflagged_to ks i ++ cond b (i ∷ []) []
     go true z =
         let o : held + k ≡ suc held = omega arith in
         rw o (take-suc-set out held i h ∙ ap (λ (t : List ℕ). t ++ (i ∷ [])) e)
     go false z =
         let o : held + k ≡ held = omega arith in
         rw (o, append-nil) (take-set-le held out held i (omega arith) ∙ e)
-
-pub laid_all : (ks out : List ℕ) (held i : ℕ) → i ≡ length ks → take held out ≡ unflagged_to ks i → take held out ≡ unflagged ks
-laid_all ks out held i l e = e ∙ ap (unflagged_to ks) l
 
 below_to : (ks : List ℕ) (n : ℕ) → AllBelow n (unflagged_to ks n)
 unfolding unflagged_to All

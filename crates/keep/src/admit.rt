@@ -15,16 +15,13 @@ fn append_words(words: &mut [u64], len: usize, list: &[u64], count: usize, kept:
     ensures { (result ≡ len + flagged (take count kept.now)) × (words.new ≡ appended_lanes len (picked count kept.now list.now) words.old) }
 {
     let mut at = len;
-    let mut i = 0;
-    while i < count {
+    for i in 0..count {
         if kept[i] == 0 {
-            i += 1;
-        } else {
-            let w = word_at(list, i);
-            set_word(words, at, w);
-            at += 1;
-            i += 1;
+            continue;
         }
+        let w = word_at(list, i);
+        set_word(words, at, w);
+        at += 1;
     }
     at
 }

@@ -4,11 +4,12 @@
 // The largest of the coefficients that are not fixed, without an order of them all. The last one to
 // stay is looked for; every position is held against it, and those that stay are counted. So nothing
 // rests on the search: where the count is not right, all positions are ordered.
-ghost use Rattle.std.specs.Prelude.{◌≡◌, cond, ◌<◌, length, replicate};
+ghost use Rattle.std.specs.Prelude.{◌≡◌, cond, not, ltb, ◌<◌, length, replicate};
 ghost use Rattle.std.specs.Float.Ieee.{lt};
+ghost use Rattle.number.specs.Floats.{magnitude};
 ghost use Rattle.order.specs.Magnitudes.{by_magnitude};
 ghost use Rattle.keep.specs.Chosen.{chosen};
-ghost use Rattle.keep.specs.Largest.{stays_flag, KeepsTo};
+ghost use Rattle.keep.specs.Largest.{KeepsTo};
 ghost use Rattle.order.specs.Between.{AreFinite};
 
 use crate::choose::{choose_largest, copy_flags};
@@ -16,29 +17,15 @@ use crate::nth::find_last;
 use number::scalar::magnitude;
 use order::magnitudes::order_by_desc_mag;
 
-fn flag_below(x: f64, y: f64) -> u64
-    ensures { result ≡ cond (lt x y) 1 0 }
-{
-    if x < y { 1 } else { 0 }
-}
-
-fn flag_not_below(x: f64, y: f64) -> u64
-    ensures { result ≡ cond (lt x y) 0 1 }
-{
-    if x < y { 0 } else { 1 }
-}
-
 // Whether a position that is not fixed stays beside the last one, whose magnitude is the cutoff.
-fn stays(x: f64, cut: f64, i: usize, last: usize) -> u64
-    ensures { result ≡ stays_flag cut last i x 0 }
+fn stays(x: f64, cut: f64, i: usize, last: usize) -> bool
+    ensures { result ≡ cond (ltb last i) (lt cut (magnitude x)) (not (lt (magnitude x) cut)) }
 {
     let size = magnitude(x);
-    let above = flag_below(cut, size);
-    let at_least = flag_not_below(size, cut);
     if last < i {
-        return above;
+        return cut < size;
     }
-    at_least
+    !(size < cut)
 }
 
 // Flags the fixed positions and those that stay beside the last one: how many of the others stay.
@@ -48,16 +35,13 @@ fn keep_to(coeffs: &[f64], fixed: &[u64], last: usize, kept: &mut [u64]) -> usiz
 {
     let cut = magnitude(coeffs[last]);
     let mut taken = 0;
-    let mut i = 0;
-    while i < coeffs.len() {
-        let flag = stays(coeffs[i], cut, i, last);
+    for i in 0..coeffs.len() {
+        let is_large = stays(coeffs[i], cut, i, last);
         if fixed[i] == 0 {
-            kept[i] = flag;
-            taken += flag as usize;
-            i += 1;
+            kept[i] = u64::from(is_large);
+            taken += usize::from(is_large);
         } else {
             kept[i] = 1;
-            i += 1;
         }
     }
     taken
@@ -75,11 +59,7 @@ fn choose_by_order(coeffs: &[f64], fixed: &[u64], slots: usize, order: &mut [u64
 fn flag_all(kept: &mut [u64])
     ensures { kept.new ≡ replicate (length kept.old) 1 }
 {
-    let mut i = 0;
-    while i < kept.len() {
-        kept[i] = 1;
-        i += 1;
-    }
+    kept.fill(1);
 }
 
 // Flags the fixed positions, and of the others the largest, as many as there are slots; ties to the

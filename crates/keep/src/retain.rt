@@ -8,7 +8,6 @@ ghost use Rattle.std.specs.Prelude.{◌*◌, ◌≤◌, length};
 ghost use Rattle.word.specs.Flat.{word_lanes};
 ghost use Rattle.keep.specs.Between.{Retains};
 
-use crate::choose::flag_of;
 use lent::clear::{clear_lanes, clear_numbers};
 use word::flat::{WORD_LANES, set_word, word_at};
 
@@ -18,13 +17,11 @@ pub fn retain_in_place(words: &mut [u64], coeffs: &mut [f64], len: usize, kept: 
     ensures { Retains len kept.now words.old coeffs.old result words.new coeffs.new }
 {
     let mut held = 0;
-    let mut i = 0;
-    while i < len {
+    for i in 0..len {
         let w = word_at(words, i);
         set_word(words, held, w);
         coeffs[held] = coeffs[i];
-        held += flag_of(kept[i]) as usize;
-        i += 1;
+        held += usize::from(kept[i] != 0);
     }
     let end = held * WORD_LANES;
     clear_lanes(&mut words[end..]);

@@ -18,7 +18,7 @@ use Rattle.word.specs.Flat.{word_lanes}
 use Rattle.number.specs.Floats.{floats, float0}
 use Rattle.sums.specs.Numbers.{complexes}
 use Rattle.model.specs.declared.stored.Model.{Model}
-use Rattle.model_build.specs.declared.spec.Built.TheVariants as Answers
+use Rattle.std.specs.Prelude.{Ok, Err}
 use Rattle.model.specs.Stored.{ModelTables}
 use Rattle.model_build.specs.Given.{read_operator}
 use Rattle.model_build.specs.Compiled.{Compiled}
@@ -121,15 +121,15 @@ module _ (m : Model) (i : Input) (t : ModelTables) (workWords : List ℕ) (workN
   abbrev left : List (List Term) → List Compiled → Building
   left As cs =
       cond (ltb (term_places t) (m.terms + length (all_terms As ++ terms_of cs)))
-      (finished t workWords workNumbers (Answers.Refused (TableFull 4 (term_places t))) t)
-      (finished t workWords workNumbers (Answers.Model (record { qubits = m.qubits; hamiltonian = m.hamiltonian; jumps = m.jumps + length cs; terms = m.terms + length (all_terms As ++ terms_of cs) })) (stored m i t workWords workNumbers As cs))
+      (finished t workWords workNumbers (Err (TableFull 4 (term_places t))) t)
+      (finished t workWords workNumbers (Ok (record { qubits = m.qubits; hamiltonian = m.hamiltonian; jumps = m.jumps + length cs; terms = m.terms + length (all_terms As ++ terms_of cs) })) (stored m i t workWords workNumbers As cs))
 
-  left_none : m.terms ≤ term_places t → left [] [] ≡ finished t workWords workNumbers (Answers.Model m) t
+  left_none : m.terms ≤ term_places t → left [] [] ≡ finished t workWords workNumbers (Ok m) t
   unfolding all_terms terms_of stored laid entries_from
   left_none h =
       let jumps : m.jumps + 0 ≡ m.jumps = omega arith in
       let terms : m.terms + 0 ≡ m.terms = omega arith in
-      ap₂ (λ (j k : ℕ). cond (ltb (term_places t) k) (finished t workWords workNumbers (Answers.Refused (TableFull 4 (term_places t))) t) (finished t workWords workNumbers (Answers.Model (record { qubits = m.qubits; hamiltonian = m.hamiltonian; jumps = j; terms = k })) t)) jumps terms
+      ap₂ (λ (j k : ℕ). cond (ltb (term_places t) k) (finished t workWords workNumbers (Err (TableFull 4 (term_places t))) t) (finished t workWords workNumbers (Ok (record { qubits = m.qubits; hamiltonian = m.hamiltonian; jumps = j; terms = k })) t)) jumps terms
       ∙ rw (le-ltb (term_places t) m.terms h)
 
   no_pairs : (As : List (List Term)) → operators i ≡ 0 → pairs_of m.terms i.counts (matrix i) As ≡ []
@@ -140,7 +140,7 @@ module _ (m : Model) (i : Input) (t : ModelTables) (workWords : List ℕ) (workN
   pub added_none : (As : List (List Term)) → add m i t workWords workNumbers ≡ compiled_matrix m i t workWords workNumbers As → operators i ≡ 0
       → (l : List Term) → As ≡ parts i.counts l → m.terms ≤ term_places t
       → (words' : List ℕ) (numbers' : List Float) → words' ≡ replicate (length workWords) 0 → numbers' ≡ replicate (length workNumbers) float0
-      → record { answer = Answers.Model m; tables = t; work_words = words'; work_numbers = numbers' } ≡ add m i t workWords workNumbers
+      → record { answer = Ok m; tables = t; work_words = words'; work_numbers = numbers' } ≡ add m i t workWords workNumbers
   added_none As add_is none l are h words' numbers' cw cn =
       rw (cw, cn) (sym (add_is ∙ ap₂ left (are ∙ parts_none i.counts l none) (no_pairs As none) ∙ left_none h))
 
@@ -156,7 +156,7 @@ module _ (m : Model) (i : Input) (t : ModelTables) (workWords : List ℕ) (workN
     module _ (words' : List ℕ) (numbers' : List Float) (cw : words' ≡ replicate (length workWords) 0) (cn : numbers' ≡ replicate (length workNumbers) float0) where
       -- a table that is full stays as it was
       pub added_full : places < m.terms + length i.lengths + kept
-          → record { answer = Answers.Refused (TableFull 4 places); tables = t; work_words = words'; work_numbers = numbers' } ≡ add m i t workWords workNumbers
+          → record { answer = Err (TableFull 4 places); tables = t; work_words = words'; work_numbers = numbers' } ≡ add m i t workWords workNumbers
       added_full h =
           let full : term_places t < m.terms + length (all_terms As ++ terms_of pairs) = rw (← p, ← terms_are) h in
           rw (cw, cn, p, add_is, lt-ltb (term_places t) (m.terms + length (all_terms As ++ terms_of pairs)) full)
@@ -171,7 +171,7 @@ module _ (m : Model) (i : Input) (t : ModelTables) (workWords : List ℕ) (workN
             rw (stores.entries_are, stores.rates_are, both.lanes_are, both.numbers_are, own) refl
 
         pub added_model : (count : ℕ) → count ≡ length (pair_places floats (operators i) (matrix i)) → record {
-          answer = Answers.Model (record { qubits = m.qubits; hamiltonian = m.hamiltonian; jumps = m.jumps + count; terms = m.terms + length i.lengths + kept });
+          answer = Ok (record { qubits = m.qubits; hamiltonian = m.hamiltonian; jumps = m.jumps + count; terms = m.terms + length i.lengths + kept });
           tables = record { h_words = t.h_words; h_coeffs = t.h_coeffs; jumps = jumps'; rates = rates'; t_words = tWords'; t_numbers = tNumbers' };
           work_words = words';
           work_numbers = numbers';
@@ -180,9 +180,9 @@ module _ (m : Model) (i : Input) (t : ModelTables) (workWords : List ℕ) (workN
             let fits : m.terms + length (all_terms As ++ terms_of pairs) ≤ term_places t = rw (← p, ← terms_are) h in
             let n : m.jumps + count ≡ m.jumps + length pairs = ap (λ (k : ℕ). m.jumps + k) (e ∙ sym (length-map (pair_places floats (operators i) (matrix i)) _)) in
             (λ k. record {
-              answer = Answers.Model (record { qubits = m.qubits; hamiltonian = m.hamiltonian; jumps = n k; terms = terms_are k });
+              answer = Ok (record { qubits = m.qubits; hamiltonian = m.hamiltonian; jumps = n k; terms = terms_are k });
               tables = tables_are k;
               work_words = cw k;
               work_numbers = cn k;
             })
-            ∙ sym (add_is ∙ ap (λ (b : Bool). cond b (finished t workWords workNumbers (Answers.Refused (TableFull 4 (term_places t))) t) (finished t workWords workNumbers (Answers.Model (record { qubits = m.qubits; hamiltonian = m.hamiltonian; jumps = m.jumps + length pairs; terms = m.terms + length (all_terms As ++ terms_of pairs) })) (stored m i t workWords workNumbers As pairs))) (le-ltb (term_places t) (m.terms + length (all_terms As ++ terms_of pairs)) fits))
+            ∙ sym (add_is ∙ ap (λ (b : Bool). cond b (finished t workWords workNumbers (Err (TableFull 4 (term_places t))) t) (finished t workWords workNumbers (Ok (record { qubits = m.qubits; hamiltonian = m.hamiltonian; jumps = m.jumps + length pairs; terms = m.terms + length (all_terms As ++ terms_of pairs) })) (stored m i t workWords workNumbers As pairs))) (le-ltb (term_places t) (m.terms + length (all_terms As ++ terms_of pairs)) fits))

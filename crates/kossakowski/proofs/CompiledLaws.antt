@@ -12,7 +12,7 @@ use lib.Dec.{ltb}
 use lib.Ieee.{Float}
 use lib.ListN.{length, get_or, replicate, length-map}
 use Rattle.refusal.specs.declared.Refusal.TheVariants.{TooManyQubits, TableFull}
-use Rattle.refusal.specs.declared.Answer.TheVariants.{Accepted}
+use Rattle.std.specs.Prelude.{Ok, Err}
 use Rattle.word.specs.Flat.{word_lanes}
 use Rattle.word.specs.Word.{max_qubits}
 use Rattle.number.specs.Numbers.{largest_over}
@@ -25,7 +25,6 @@ use Rattle.lent.specs.Laid.{total}
 use Rattle.model_build.specs.Thinned.{LaysTerms, StoreRoom}
 use Rattle.model_build.specs.Work.{operator_in, operator_taken, ReadRoom, TextsFit, JumpsRoom, StoresJumps}
 use Rattle.model.specs.declared.stored.Model.{Model}
-use Rattle.model_build.specs.declared.spec.Built.TheVariants as Answers
 use Rattle.lent.proofs.Passed.{passed, counted_passed, lent_passed}
 use Rattle.lent.proofs.NeedLaws.{need_some}
 use Rattle.operator_product.proofs.WorkLaws.{terms_stay}
@@ -38,7 +37,7 @@ use Rattle.kossakowski.proofs.MatrixAccepted.{Accepts}
 use Rattle.kossakowski.proofs.AddLaws.{operators_are, all_are, all_length, counts_few, operators_in_lem, operators_stay, added_none, added_full, added_model}
 
 -- a model that passes its test counts no more terms than there are places
-pub terms_inside : (m : Model) (t : ModelTables) → test_model m t ≡ Accepted → (m.terms ≤ length t.t_words / word_lanes) × (m.terms ≤ length t.t_numbers / 2)
+pub terms_inside : (m : Model) (t : ModelTables) → test_model m t ≡ Ok tt → (m.terms ≤ length t.t_words / word_lanes) × (m.terms ≤ length t.t_numbers / 2)
 unfolding test_model
 terms_inside m t e =
     let e1 = passed (ltb max_qubits m.qubits) (TooManyQubits m.qubits max_qubits) _ e in
@@ -100,7 +99,7 @@ module _ (m : Model) (i : Input) (t : ModelTables) (workWords : List ℕ) (workN
 
   -- ---- without operators the model and its tables stay
   pub compiled_none : operators i ≡ 0 → (words' : List ℕ) (numbers' : List Float) → words' ≡ replicate (length workWords) 0 → numbers' ≡ replicate (length workNumbers) float0
-      → record { answer = Answers.Model m; tables = t; work_words = words'; work_numbers = numbers' } ≡ add m i t workWords workNumbers
+      → record { answer = Ok m; tables = t; work_words = words'; work_numbers = numbers' } ≡ add m i t workWords workNumbers
   compiled_none none words' numbers' cw cn =
       let inside = terms_inside m t a.modelled in
       added_none m i t workWords workNumbers a.As a.add_is none (operator_taken m.qubits i.lengths i.texts i.numbers) (operators_are m.qubits i a.As a.read) (omega (arith, inside.0, inside.1)) words' numbers' cw cn
@@ -153,7 +152,7 @@ module _ (m : Model) (i : Input) (t : ModelTables) (workWords : List ℕ) (workN
     -- ---- what is left
     module _ (words' : List ℕ) (numbers'' : List Float) (cw : words' ≡ replicate (length workWords) 0) (cn : numbers'' ≡ replicate (length workNumbers) float0) where
       pub compiled_full : places < m.terms + own + kept
-          → record { answer = Answers.Refused (TableFull 4 places); tables = t; work_words = words'; work_numbers = numbers'' } ≡ add m i t workWords workNumbers
+          → record { answer = Err (TableFull 4 places); tables = t; work_words = words'; work_numbers = numbers'' } ≡ add m i t workWords workNumbers
       compiled_full h = added_full m i t workWords workNumbers a.As a.add_is own_number kept kept_is places p words' numbers'' cw cn h
 
       pub compiled_model : m.terms + own + kept ≤ places
@@ -161,7 +160,7 @@ module _ (m : Model) (i : Input) (t : ModelTables) (workWords : List ℕ) (workN
           → LaysTerms (terms_in lanes' numbers' 256 (256 + own)) m.terms t.t_words t.t_numbers tWords₁ tNumbers₁
           → StoresJumps (pairs_of m.terms i.counts (matrix i) (operators_in i.counts lanes' numbers')) m.jumps (m.terms + own) t.jumps t.rates tWords₁ tNumbers₁ jumps' rates' tWords' tNumbers'
           → (count : ℕ) → count ≡ length (pair_places floats (operators i) (matrix i)) → record {
-            answer = Answers.Model (record { qubits = m.qubits; hamiltonian = m.hamiltonian; jumps = m.jumps + count; terms = m.terms + own + kept });
+            answer = Ok (record { qubits = m.qubits; hamiltonian = m.hamiltonian; jumps = m.jumps + count; terms = m.terms + own + kept });
             tables = record { h_words = t.h_words; h_coeffs = t.h_coeffs; jumps = jumps'; rates = rates'; t_words = tWords'; t_numbers = tNumbers' };
             work_words = words';
             work_numbers = numbers'';

@@ -12,8 +12,8 @@ use lib.Ieee.{Float}
 use lib.ListN.{length}
 use Rattle.refusal.specs.declared.Refusal.{Refusal}
 use Rattle.refusal.specs.declared.Refusal.TheVariants.{TooManyQubits, CountAboveLimit, NumberOutOfRange, KMatrixNotHermitian}
-use Rattle.refusal.specs.declared.Answer.{Answer}
-use Rattle.refusal.specs.declared.Answer.TheVariants.{Accepted, Refused}
+use Rattle.std.specs.Prelude.{Ok, Err}
+use Rattle.refusal.specs.Cause.{Answer}
 use Rattle.word.specs.Word.{max_qubits}
 use Rattle.number.specs.Floats.{floats}
 use Rattle.model.specs.Stored.{ModelTables, range}
@@ -30,7 +30,7 @@ use Rattle.k_matrix.specs.Added.{Input, operators, matrix, lengths_answer, read_
 use Rattle.k_matrix.specs.Work.{matrix_answer}
 
 -- a model that passes its own test has at most so many jumps
-pub jumps_few : (m : Model) (t : ModelTables) → test_model m t ≡ Accepted → m.jumps ≤ 4096
+pub jumps_few : (m : Model) (t : ModelTables) → test_model m t ≡ Ok tt → m.jumps ≤ 4096
 unfolding test_model
 jumps_few m t e =
     let e1 = passed (ltb max_qubits m.qubits) (TooManyQubits m.qubits max_qubits) _ e in
@@ -51,44 +51,44 @@ module _ (m : Model) (i : Input) (t : ModelTables) (workWords : List ℕ) (workN
   abbrev answer : Answer
   answer = matrix_answer m i t workWords workNumbers
 
-  pub model_refused : (a : Answer) → a ≡ test_model m t → (r : Refusal) → a ≡ Refused r → a ≡ answer
+  pub model_refused : (r : Refusal) → test_model m t ≡ Err r → Err r ≡ answer
   unfolding matrix_answer matrix_tests
-  model_refused a is r h = rw (sym is, h)
+  model_refused r h = rw h
 
-  module _ (modelled : test_model m t ≡ Accepted) where
-    pub operators_above : 64 < operators i → Refused (CountAboveLimit (operators i)) ≡ answer
+  module _ (modelled : test_model m t ≡ Ok tt) where
+    pub operators_above : 64 < operators i → Err (CountAboveLimit (operators i)) ≡ answer
     unfolding matrix_answer matrix_tests
     operators_above h = rw (modelled, lt-ltb 64 (operators i) h)
 
     module _ (few : operators i ≤ 64) where
-      pub lengths_refused : (a : Answer) → a ≡ lengths_answer m i t workWords workNumbers → (r : Refusal) → a ≡ Refused r → a ≡ answer
+      pub lengths_refused : (r : Refusal) → lengths_answer m i t workWords workNumbers ≡ Err r → Err r ≡ answer
       unfolding matrix_answer matrix_tests
-      lengths_refused a is r h = rw (modelled, le-ltb 64 (operators i) few, sym is, h)
+      lengths_refused r h = rw (modelled, le-ltb 64 (operators i) few, h)
 
-      module _ (agreed : lengths_answer m i t workWords workNumbers ≡ Accepted) (outside : ℕ) (outside-is : outside ≡ first_to places (number_fails i.k)) where
-        pub number_outside : outside < places → Refused (NumberOutOfRange outside) ≡ answer
+      module _ (agreed : lengths_answer m i t workWords workNumbers ≡ Ok tt) (outside : ℕ) (outside-is : outside ≡ first_to places (number_fails i.k)) where
+        pub number_outside : outside < places → Err (NumberOutOfRange outside) ≡ answer
         unfolding matrix_answer matrix_tests entries
         number_outside h = rw (modelled, le-ltb 64 (operators i) few, agreed, sym outside-is, lt-ltb outside places h)
 
         module _ (inside : places ≤ outside) (q : ℕ) (q-is : q ≡ first_to places (apart_at floats (operators i) (matrix i))) where
-          pub not_hermitian : q < places → Refused (KMatrixNotHermitian (q / operators i) (q % operators i)) ≡ answer
+          pub not_hermitian : q < places → Err (KMatrixNotHermitian (q / operators i) (q % operators i)) ≡ answer
           unfolding matrix_answer matrix_tests entries hermitian
           not_hermitian h =
               rw (modelled, le-ltb 64 (operators i) few, agreed, sym outside-is, le-ltb outside places inside, sym q-is, lt-ltb q places h)
 
           module _ (mirrored : places ≤ q) where
-            pub operators_refused : (a : Answer) → a ≡ answer_of (read_operators m.qubits i) → (r : Refusal) → a ≡ Refused r → a ≡ answer
+            pub operators_refused : (r : Refusal) → answer_of (read_operators m.qubits i) ≡ Err r → Err r ≡ answer
             unfolding matrix_answer matrix_tests entries hermitian
-            operators_refused a is r h =
-                rw (modelled, le-ltb 64 (operators i) few, agreed, sym outside-is, le-ltb outside places inside, sym q-is, le-ltb q places mirrored, sym is, h)
+            operators_refused r h =
+                rw (modelled, le-ltb 64 (operators i) few, agreed, sym outside-is, le-ltb outside places inside, sym q-is, le-ltb q places mirrored, h)
 
-            module _ (taken : answer_of (read_operators m.qubits i) ≡ Accepted) (count : ℕ) (count-is : count ≡ length (pair_places floats (operators i) (matrix i))) where
-              pub pairs_above : 4096 < m.jumps + count → Refused (CountAboveLimit (m.jumps + count)) ≡ answer
+            module _ (taken : answer_of (read_operators m.qubits i) ≡ Ok tt) (count : ℕ) (count-is : count ≡ length (pair_places floats (operators i) (matrix i))) where
+              pub pairs_above : 4096 < m.jumps + count → Err (CountAboveLimit (m.jumps + count)) ≡ answer
               unfolding matrix_answer matrix_tests entries hermitian
               pairs_above h =
                   rw (modelled, le-ltb 64 (operators i) few, agreed, sym outside-is, le-ltb outside places inside, sym q-is, le-ltb q places mirrored, taken, sym count-is, lt-ltb 4096 (m.jumps + count) h)
 
-              pub all_passed : m.jumps + count ≤ 4096 → Accepted ≡ answer
+              pub all_passed : m.jumps + count ≤ 4096 → (Ok tt) ≡ answer
               unfolding matrix_answer matrix_tests entries hermitian
               all_passed h =
                   rw (modelled, le-ltb 64 (operators i) few, agreed, sym outside-is, le-ltb outside places inside, sym q-is, le-ltb q places mirrored, taken, sym count-is, le-ltb 4096 (m.jumps + count) h)

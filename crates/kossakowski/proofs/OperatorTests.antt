@@ -10,8 +10,8 @@ use lib.Ieee.{Float}
 use lib.ListN.{get_or, length, take, drop}
 use lib.Seq.{drop-cons}
 use Rattle.refusal.specs.declared.Refusal.{Refusal}
-use Rattle.refusal.specs.declared.Answer.{Answer}
-use Rattle.refusal.specs.declared.Answer.TheVariants.{Accepted, Refused}
+use Rattle.std.specs.Prelude.{Ok, Err}
+use Rattle.refusal.specs.Cause.{Answer}
 use Rattle.sums.specs.Numbers.{complexes}
 use Rattle.model_build.specs.Given.{GivenTerm, read_operator}
 use Rattle.model_build.specs.Built.{parts, term_items}
@@ -29,7 +29,7 @@ module _ (n : ℕ) (cs ns l : List ℕ) (xs : List Float) where
   pub operators_start : answer_of (each (read_operator n) 0 (parts cs (term_items (parts ns l) (complexes xs)))) ≡ operators_left 0 0 0
   operators_start = each_answer_lem (read_operator n) 0 (parts cs (term_items (parts ns l) (complexes xs)))
 
-  pub operators_end : (j t p : ℕ) → length cs ≤ j → operators_left j t p ≡ Accepted
+  pub operators_end : (j t p : ℕ) → length cs ≤ j → operators_left j t p ≡ Ok tt
   operators_end j t p h = each_end _ j _ (parts_end cs _ j h)
 
   module _ (j t p : ℕ) (inCs : j < length cs) where
@@ -52,10 +52,10 @@ module _ (n : ℕ) (cs ns l : List ℕ) (xs : List Float) where
       operator_is : a ≡ answer_of (read_operator n j terms)
       operator_is = is ∙ ap (λ (ts : List GivenTerm). answer_of (read_operator n j ts)) (tested_is n xs cs ns l xs t p (get_or cs j 0))
 
-      pub operators_on : a ≡ Accepted → (sum : ℕ) → sum ≡ total (take (t + get_or cs j 0 - t) (drop t ns)) → operators_left j t p ≡ operators_left (j + 1) (t + get_or cs j 0) (p + sum)
+      pub operators_on : a ≡ Ok tt → (sum : ℕ) → sum ≡ total (take (t + get_or cs j 0 - t) (drop t ns)) → operators_left j t p ≡ operators_left (j + 1) (t + get_or cs j 0) (p + sum)
       operators_on h sum e =
           each_on _ j _ _ _ operator_turn (sym operator_is ∙ h)
           ∙ ap (λ (q : ℕ). operators_left (j + 1) (t + get_or cs j 0) (p + q)) (sym (e ∙ ap total (part_is ns t (get_or cs j 0) (t + get_or cs j 0) refl)))
 
-      pub operators_stop : (r : Refusal) → a ≡ Refused r → operators_left j t p ≡ a
-      operators_stop r h = each_stop _ j _ _ _ operator_turn r (sym operator_is ∙ h) ∙ sym h
+      pub operators_stop : (r : Refusal) → a ≡ Err r → operators_left j t p ≡ Err r
+      operators_stop r h = each_stop _ j _ _ _ operator_turn r (sym operator_is ∙ h)

@@ -5,11 +5,11 @@
 use mathlib.Core.Path.{◌≡◌, refl, sym, ap, ap₂, ◌∙◌, subst, subst⁻¹}
 use mathlib.Core.List.{List, [], ◌∷◌, ◌++◌, map, map-append}
 use Prim.Native.Nat.{ℕ, suc, ◌+◌, ◌-◌, ◌*◌, ◌≤◌, ◌<◌}
-use native.Mathlib.Nat.{zero-mul, suc-mul, mul-le-mul, mul-le-mul_right}
+use native.Mathlib.Nat.{zero-mul, suc-mul, mul-le-mul}
 use native.Mathlib.Omega.{arith}
 use lib.Ieee.{Float}
 use lib.ListN.{length, set, length-append, length-map, length-take}
-use Rattle.word.specs.Flat.{words, word_lanes}
+use Rattle.word.specs.Flat.{words}
 use Rattle.number.specs.Numbers.{Cx, mul_c, conj_c, square}
 use Rattle.number.specs.Floats.{floats, float0, cx}
 use Rattle.number.specs.declared.scalar.Complex.{Complex}
@@ -41,33 +41,27 @@ unfolding factor_of
 factor_is a b k c m n hc hm hn = onto_eq (hn ∙ ap (λ (z : Cx floats). mul_c floats z (cx k)) (hm ∙ ap (λ (z : Cx floats). mul_c floats z (cx b.number)) hc)) refl
 
 -- ---- what f makes of the terms in a range, laid one after another
-pub record RowState (f : Term → Term) (right : Range) (at : ℕ) (lanes : List ℕ) (numbers : List Float) (tLanes₀ : List ℕ) (tNumbers₀ : List Float) (tLanes : List ℕ) (tNumbers : List Float) (j place : ℕ) : Type 0 where
+pub record RowState (f : Term → Term) (right : Range) (at : ℕ) (lanes : List ℕ) (numbers : List Float) (tLanes₀ : List ℕ) (tNumbers₀ : List Float) (tLanes : List ℕ) (tNumbers : List Float) (j : ℕ) : Type 0 where
   pub low : right.start ≤ j
   pub high : j ≤ right.end
-  pub here : place ≡ at + (j - right.start)
   pub lanes_same : length tLanes ≡ length tLanes₀
   pub numbers_same : length tNumbers ≡ length tNumbers₀
   pub lays : LaysTerms (map f (terms_in lanes numbers right.start j)) at tLanes₀ tNumbers₀ tLanes tNumbers
 
 module _ (f : Term → Term) (right : Range) (at : ℕ) (lanes : List ℕ) (numbers : List Float) (tLanes₀ : List ℕ) (tNumbers₀ : List Float) (room : StoreRoom right.start right.end lanes numbers at tLanes₀ tNumbers₀) where
-  pub row_start : RowState f right at lanes numbers tLanes₀ tNumbers₀ tLanes₀ tNumbers₀ right.start at
+  pub row_start : RowState f right at lanes numbers tLanes₀ tNumbers₀ tLanes₀ tNumbers₀ right.start
   row_start = record {
     low = omega arith;
     high = room.order;
-    here = omega arith;
     lanes_same = refl;
     numbers_same = refl;
     lays = subst⁻¹ (λ (T : List Term). LaysTerms T at tLanes₀ tNumbers₀ tLanes₀ tNumbers₀) (ap (map f) (terms_none lanes numbers right.start)) (lays_none at tLanes₀ tNumbers₀);
   }
 
-  module _ (tLanes : List ℕ) (tNumbers : List Float) (j place : ℕ) (s : RowState f right at lanes numbers tLanes₀ tNumbers₀ tLanes tNumbers j place) where
-    -- there is a place for the next
-    pub row_room : j < right.end → (word_lanes * place + word_lanes ≤ length tLanes) × (2 * place + 2 ≤ length tNumbers)
-    row_room h = (omega (arith, s.here, s.low, s.lanes_same, room.lanes_room), omega (arith, s.here, s.low, s.numbers_same, room.numbers_room))
-
+  module _ (tLanes : List ℕ) (tNumbers : List Float) (j : ℕ) (s : RowState f right at lanes numbers tLanes₀ tNumbers₀ tLanes tNumbers j) where
     pub row_next : (tLanes' : List ℕ) (tNumbers' : List Float) (t : Term) → j < right.end → t ≡ f (term_at lanes numbers j)
-        → LaysTerms (t ∷ []) place tLanes tNumbers tLanes' tNumbers' → length tLanes' ≡ length tLanes → length tNumbers' ≡ length tNumbers
-        → RowState f right at lanes numbers tLanes₀ tNumbers₀ tLanes' tNumbers' (j + 1) (place + 1)
+        → LaysTerms (t ∷ []) (at + (j - right.start)) tLanes tNumbers tLanes' tNumbers' → length tLanes' ≡ length tLanes → length tNumbers' ≡ length tNumbers
+        → RowState f right at lanes numbers tLanes₀ tNumbers₀ tLanes' tNumbers' (j + 1)
     row_next tLanes' tNumbers' t h e g hl hn =
         let T : List Term = terms_in lanes numbers right.start j in
         let n = terms_length lanes numbers right.start j s.low (omega (arith, room.lanes_long)) (omega (arith, room.numbers_long)) in
@@ -77,17 +71,11 @@ module _ (f : Term → Term) (right : Range) (at : ℕ) (lanes : List ℕ) (numb
         record {
           low = omega (arith, s.low);
           high = omega arith;
-          here = omega (arith, s.here, s.low);
           lanes_same = hl ∙ s.lanes_same;
           numbers_same = hn ∙ s.numbers_same;
           lays = subst⁻¹ (λ (U : List Term). LaysTerms U at tLanes₀ tNumbers₀ tLanes' tNumbers') more
-              (lays_append (map f T) (t ∷ []) at place tLanes₀ tLanes tLanes' tNumbers₀ tNumbers tNumbers' (omega (arith, s.here, n, length-map T f)) s.lays g);
+              (lays_append (map f T) (t ∷ []) at (at + (j - right.start)) tLanes₀ tLanes tLanes' tNumbers₀ tNumbers tNumbers' (omega (arith, n, length-map T f)) s.lays g);
         }
-
-    pub row_done : right.end ≤ j → LaysTerms (map f (terms_of lanes numbers right)) at tLanes₀ tNumbers₀ tLanes tNumbers
-    row_done h =
-        let e : j ≡ right.end = omega (arith, s.high) in
-        subst (λ (m : ℕ). LaysTerms (map f (terms_in lanes numbers right.start m)) at tLanes₀ tNumbers₀ tLanes tNumbers) e s.lays
 
 -- ---- how many there are: a row for each term of A
 pub pairs_length : (f : Term → Term → Term) (A B : List Term) → length (pairs_over floats pauli f A B) ≡ length A * length B
@@ -98,10 +86,6 @@ pairs_length f (a ∷ A) B =
     let m = length-map B (f a) in
     let r = pairs_length f A B in
     omega (arith, l, m, r, suc-mul (length A) (length B))
-
--- the next row ends before the end
-row_fits : (d n w : ℕ) → d < n → d * w + w ≤ n * w
-row_fits d n w h = omega (arith, suc-mul d w, mul-le-mul_right w h)
 
 -- ---- the factors of A with B, laid row by row
 pub record FactorsState (k : Cx floats) (left right : Range) (at : ℕ) (lanes : List ℕ) (numbers : List Float) (tLanes₀ : List ℕ) (tNumbers₀ : List Float) (tLanes : List ℕ) (tNumbers : List Float) (i place : ℕ) : Type 0 where
@@ -135,19 +119,6 @@ module _ (k : Cx floats) (left right : Range) (at : ℕ) (lanes : List ℕ) (num
 
   module _ (tLanes : List ℕ) (tNumbers : List Float) (i place : ℕ) (s : FactorsState k left right at lanes numbers tLanes₀ tNumbers₀ tLanes tNumbers i place) where
     module _ (h : i < left.end) where
-      -- the next row ends before the end of all
-      pub row_ends : place + width ≤ at + (left.end - left.start) * width
-      row_ends = let l : i - left.start < left.end - left.start = omega (arith, s.low) in omega (arith, s.here, row_fits (i - left.start) (left.end - left.start) width l)
-
-      pub factors_room : StoreRoom right.start right.end lanes numbers place tLanes tNumbers
-      factors_room = record {
-        order = room.right_order;
-        lanes_long = room.lanes_long.1;
-        numbers_long = room.numbers_long.1;
-        lanes_room = omega (arith, row_ends, s.lanes_same, room.lanes_room);
-        numbers_room = omega (arith, row_ends, s.numbers_same, room.numbers_room);
-      }
-
       pub factors_next : (a : Term) (tLanes' : List ℕ) (tNumbers' : List Float) → a ≡ term_at lanes numbers i
           → LaysTerms (map (factor_of k a) B) place tLanes tNumbers tLanes' tNumbers' → length tLanes' ≡ length tLanes → length tNumbers' ≡ length tNumbers
           → FactorsState k left right at lanes numbers tLanes₀ tNumbers₀ tLanes' tNumbers' (i + 1) (place + width)
@@ -170,11 +141,6 @@ module _ (k : Cx floats) (left right : Range) (at : ℕ) (lanes : List ℕ) (num
             lays = subst⁻¹ (λ (T : List Term). LaysTerms T at tLanes₀ tNumbers₀ tLanes' tNumbers') more
                 (lays_append (factors_of k A B) (map (factor_of k a) B) at place tLanes₀ tLanes tLanes' tNumbers₀ tNumbers tNumbers' (omega (arith, s.here, long)) s.lays g);
           }
-
-    pub factors_done : left.end ≤ i → LaysTerms (factors_of k (terms_of lanes numbers left) (terms_of lanes numbers right)) at tLanes₀ tNumbers₀ tLanes tNumbers
-    factors_done h =
-        let e : i ≡ left.end = omega (arith, s.high) in
-        subst (λ (m : ℕ). LaysTerms (factors_of k (terms_in lanes numbers left.start m) B) at tLanes₀ tNumbers₀ tLanes tNumbers) e s.lays
 
 -- ---- the operators of a pair in the work table
 module _ (left right : Range) (lanes : List ℕ) (numbers : List Float) (room : PairRoom left right lanes numbers) where

@@ -2,7 +2,7 @@
 -- SPDX-License-Identifier: Apache-2.0
 
 -- All pairs of K in turn, over operators whose terms stand in the work table: counted, then stored. Assumes nothing.
-use mathlib.Core.Path.{◌≡◌, refl, sym, ap, ap₂, ◌∙◌, subst, subst⁻¹}
+use mathlib.Core.Path.{◌≡◌, refl, sym, ap, ap₂, ◌∙◌, subst}
 use mathlib.Core.Bool.{true, false}
 use mathlib.Core.List.{List, [], ◌∷◌, map}
 use Prim.Native.Nat.{ℕ, zero, suc, ◌+◌, ◌-◌, ◌*◌, ◌/◌, ◌%◌, ◌≤◌, ◌<◌}
@@ -26,7 +26,7 @@ use Rattle.model_build.specs.Work.{JumpRoom, StoresJump, JumpsRoom, StoresJumps}
 use Rattle.model.specs.declared.stored.Range.{Range}
 use Rattle.model_build.proofs.Parts.{total_split, total_turn, part_is}
 use Rattle.operator_product.proofs.WorkLaws.{terms_stay}
-use Rattle.model_build.proofs.JumpsLaws.{terms_turn, terms_end, Storing, storing_start, storing_room, storing_next, storing_done}
+use Rattle.model_build.proofs.JumpsLaws.{terms_turn, terms_end, Storing, storing_room, storing_next, storing_done}
 use Rattle.k_matrix.specs.Matrix.{is_pair, passing}
 use Rattle.k_matrix.specs.Pairs.{compile_pair, range_of, pair_at, pairs_of}
 use Rattle.k_matrix.specs.Work.{OperatorsRoom, operators_in, CountsPair, WorkStays}
@@ -66,9 +66,6 @@ pub record Standing (lanes₀ : List ℕ) (numbers₀ : List Float) (lanes : Lis
   pub numbers_same : length numbers ≡ length numbers₀
   pub stays : WorkStays lanes₀ numbers₀ lanes numbers
 
-pub standing_start : (lanes₀ : List ℕ) (numbers₀ : List Float) → Standing lanes₀ numbers₀ lanes₀ numbers₀
-standing_start lanes₀ numbers₀ = record { lanes_same = refl; numbers_same = refl; stays = record { lanes_stay = refl; numbers_stay = refl } }
-
 pub standing_next : (lanes₀ lanes lanes' : List ℕ) (numbers₀ numbers numbers' : List Float) → Standing lanes₀ numbers₀ lanes numbers
     → WorkStays lanes numbers lanes' numbers' → length lanes' ≡ length lanes → length numbers' ≡ length numbers → Standing lanes₀ numbers₀ lanes' numbers'
 standing_next lanes₀ lanes lanes' numbers₀ numbers numbers' s w hl hn = record {
@@ -107,9 +104,6 @@ module _ (from : ℕ) (counts : List ℕ) (K : List (Cx floats)) (ops : List (Li
   abbrev pub pairs_left : ℕ → List Compiled
   pairs_left p = map (pair_at from counts K ops) (passing (is_pair floats (length counts) K) p (length counts * length counts - p))
 
-  left_all : pairs_left 0 ≡ pairs_of from counts K ops
-  left_all = let e : length counts * length counts - 0 ≡ length counts * length counts = omega arith in ap (λ (n : ℕ). map (pair_at from counts K ops) (passing (is_pair floats (length counts) K) 0 n)) e
-
   module _ (p : ℕ) where
     left_yes : p < length counts * length counts → is_pair floats (length counts) K p ≡ true → pairs_left p ≡ pair_at from counts K ops p ∷ pairs_left (p + 1)
     left_yes h e = ap (map (pair_at from counts K ops)) (passing_yes (is_pair floats (length counts) K) p (length counts * length counts) h e)
@@ -131,14 +125,6 @@ pub record CountState (K : List (Cx floats)) (counts lanes₀ : List ℕ) (numbe
 module _ (K : List (Cx floats)) (counts lanes₀ : List ℕ) (numbers₀ : List Float) (room : OperatorsRoom counts lanes₀ numbers₀) where
   abbrev ops : List (List Term)
   ops = operators_in counts lanes₀ numbers₀
-
-  pub count_start : CountState K counts lanes₀ numbers₀ lanes₀ numbers₀ 0 0
-  count_start = record {
-    high = omega arith;
-    standing = standing_start lanes₀ numbers₀;
-    few = omega arith;
-    counted = λ from. omega (arith, ap (λ (x : List Compiled). length (Compiling.terms_of x)) (left_all from counts K ops));
-  }
 
   module _ (lanes : List ℕ) (numbers : List Float) (kept p : ℕ) (s : CountState K counts lanes₀ numbers₀ lanes numbers kept p) where
     -- place p makes no pair
@@ -192,14 +178,6 @@ module _ (from first at : ℕ) (K : List (Cx floats)) (counts lanes₀ : List �
 
   abbrev all : List Compiled
   all = pairs_of from counts K As
-
-  pub store_start : StoreState from first at K counts lanes₀ numbers₀ jumps₀ rates₀ tLanes₀ tNumbers₀ lanes₀ numbers₀ jumps₀ rates₀ tLanes₀ tNumbers₀ at first 0
-  store_start = record {
-    high = omega arith;
-    standing = standing_start lanes₀ numbers₀;
-    storing = subst⁻¹ (λ (x : List Compiled). Storing all x jumps₀ rates₀ tLanes₀ tNumbers₀ at first jumps₀ rates₀ tLanes₀ tNumbers₀ at first) (left_all from counts K As)
-        (storing_start all jumps₀ rates₀ tLanes₀ tNumbers₀ at first);
-  }
 
   module _ (lanes : List ℕ) (numbers : List Float) (jumps : List ℕ) (rates : List Float) (tLanes : List ℕ) (tNumbers : List Float) (place j p : ℕ)
       (s : StoreState from first at K counts lanes₀ numbers₀ jumps₀ rates₀ tLanes₀ tNumbers₀ lanes numbers jumps rates tLanes tNumbers place j p) where

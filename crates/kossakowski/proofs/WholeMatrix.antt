@@ -3,6 +3,7 @@
 
 -- K over whole numbers with parts of at most 256: each test over f64 is that over the whole numbers, an accepted K is exactly
 -- Hermitian, and only zeros are skipped. Assumes nothing.
+use Rattle.refusal.specs.Cause.{Answer}
 use mathlib.Core.Path.{◌≡◌, refl, sym, ap, ap₂, ◌∙◌, subst}
 use mathlib.Core.Bool.{Bool, true, false, not, ◌&&◌, cond}
 use mathlib.Core.List.{List, [], ◌∷◌}
@@ -18,7 +19,7 @@ use lib.ListN.{get_or, length}
 use lib.Ieee.{Float, binary64}
 use lib.Ieee.Fits.{add-fits}
 use Rattle.refusal.specs.declared.Refusal.TheVariants.{KMatrixNotHermitian}
-use Rattle.refusal.specs.declared.Answer.TheVariants.{Accepted, Refused}
+use Rattle.std.specs.Prelude.{Ok, Err}
 use Rattle.number.specs.Numbers.{Cx, sub_c, conj_c, zero_c, square, largest_from, largest_over}
 use Rattle.number.specs.Floats.{floats, float0}
 use Rattle.number.specs.Whole.{◌⊞◌, ◌⊠◌, neg, at_most, ten_to20, whole}
@@ -182,15 +183,15 @@ module _ (k : MatrixOver whole pauli) (K : List (Cx floats)) (w : WholeEntries K
   abbrev first : ℕ
   first = first_to places (apart_at floats (length k.ops) K)
 
-  accepted_passes : hermitian (length k.ops) K Accepted ≡ Accepted → (p : ℕ) → p < places → apart_at floats (length k.ops) K p ≡ false
+  accepted_passes : hermitian (length k.ops) K (Ok tt) ≡ Ok tt → (p : ℕ) → p < places → apart_at floats (length k.ops) K p ≡ false
   unfolding hermitian
   accepted_passes e p h = go (ltb first places) refl e
     where
-      go : (b : Bool) → ltb first places ≡ b → cond b (Refused (KMatrixNotHermitian (first / length k.ops) (first % length k.ops))) Accepted ≡ Accepted → apart_at floats (length k.ops) K p ≡ false
+      go : (b : Bool) → ltb first places ≡ b → ◌≡◌ {A = Answer} (cond b (Err (KMatrixNotHermitian (first / length k.ops) (first % length k.ops))) (Ok tt)) (Ok tt) → apart_at floats (length k.ops) K p ≡ false
       go true l e = let z : ◌≡◌ {A = ℕ} 0 1 = cc in absurd (omega arith)
       go false l e = first_before places (apart_at floats (length k.ops) K) p (omega (arith, ltb-false first places l))
 
-  pub accepted_moderate : hermitian (length k.ops) K Accepted ≡ Accepted → Moderate pauli k
+  pub accepted_moderate : hermitian (length k.ops) K (Ok tt) ≡ Ok tt → Moderate pauli k
   accepted_moderate e =
       let l = largest_is K k.entries w in
       record {

@@ -11,7 +11,7 @@ use k_matrix::lengths::lengths_agree;
 use k_matrix::matrix::{count_pairs, first_apart, largest_square};
 use model::stored::{Model, Range};
 use model::test::{MAX_JUMPS, test_model, test_range};
-use refusal::{Answer, Refusal};
+use refusal::Refusal;
 
 // The operators that a matrix may have.
 pub const MAX_OPERATORS: usize = 64;
@@ -31,18 +31,15 @@ pub fn check_matrix(
     t_numbers: &[f64],
     work_words: &[u64],
     work_numbers: &[f64],
-) -> Answer
+) -> Result<(), Refusal>
     ensures { result ≡ matrix_answer m (record { texts = texts.entry.now; lengths = lengths.now; counts = counts.now; numbers = numbers.now; k = k.now }) (record { h_words = h_words.now; h_coeffs = h_coeffs.now; jumps = jumps.now; rates = rates.now; t_words = t_words.now; t_numbers = t_numbers.now }) work_words.now work_numbers.now }
 {
-    let model = test_model(m, h_words, h_coeffs, jumps, rates, t_words, t_numbers);
-    let Answer::Accepted = model else {
-        return model;
-    };
+    test_model(m, h_words, h_coeffs, jumps, rates, t_words, t_numbers)?;
     let ops = counts.len();
     if MAX_OPERATORS < ops {
-        return Answer::Refused(Refusal::CountAboveLimit { count: ops });
+        return Err(Refusal::CountAboveLimit { count: ops });
     }
-    let agree = lengths_agree(
+    lengths_agree(
         m,
         texts,
         lengths,
@@ -53,10 +50,7 @@ pub fn check_matrix(
         rates,
         work_words,
         work_numbers,
-    );
-    let Answer::Accepted = agree else {
-        return agree;
-    };
+    )?;
     let places = ops * ops;
     let outside = test_range(
         Range {
@@ -67,23 +61,20 @@ pub fn check_matrix(
         places,
     );
     if outside < places {
-        return Answer::Refused(Refusal::NumberOutOfRange { index: outside });
+        return Err(Refusal::NumberOutOfRange { index: outside });
     }
     let largest = largest_square(k);
     let apart = first_apart(k, ops, largest);
     if apart < places {
-        return Answer::Refused(Refusal::KMatrixNotHermitian {
+        return Err(Refusal::KMatrixNotHermitian {
             n: apart / ops,
             m: apart % ops,
         });
     }
-    let operators = check_operators(texts, lengths, counts, numbers, m.qubits);
-    let Answer::Accepted = operators else {
-        return operators;
-    };
+    check_operators(texts, lengths, counts, numbers, m.qubits)?;
     let count = m.jumps + count_pairs(k, ops, largest);
     if MAX_JUMPS < count {
-        return Answer::Refused(Refusal::CountAboveLimit { count });
+        return Err(Refusal::CountAboveLimit { count });
     }
-    Answer::Accepted
+    Ok(())
 }

@@ -7,7 +7,6 @@
 // is tested first; then the operators are read into the work table, the pairs' terms counted there,
 // and only then is anything stored.
 ghost use Rattle.std.specs.Prelude.{◌≡◌};
-ghost use Rattle.refusal.specs.declared.Answer.TheVariants.{Accepted};
 ghost use Rattle.k_matrix.specs.Added.{add};
 ghost use Rattle.k_matrix.specs.Work.{matrix_answer};
 
@@ -18,10 +17,10 @@ use lent::clear::{clear_lanes, clear_numbers};
 use lent::sizes::smaller;
 use model::stored::Model;
 use model_build::jumps::read_operator;
-use model_build::spec::{Built, TERMS_TABLE};
+use model_build::spec::TERMS_TABLE;
 use model_build::store::store_terms;
 use operator_product::product::SUM_PLACES;
-use refusal::{Answer, Refusal};
+use refusal::Refusal;
 use word::flat::WORD_LANES;
 
 // Adds a matrix that was tested. Without operators there is nothing to add and no work place to use.
@@ -40,14 +39,14 @@ fn compile_matrix(
     t_numbers: &mut [f64],
     work_words: &mut [u64],
     work_numbers: &mut [f64],
-) -> Built
-    requires { matrix_answer m (record { texts = texts.now; lengths = lengths.now; counts = counts.now; numbers = numbers.now; k = k.now }) (record { h_words = h_words.now; h_coeffs = h_coeffs.now; jumps = jumps.old; rates = rates.old; t_words = t_words.old; t_numbers = t_numbers.old }) work_words.old work_numbers.old ≡ Accepted }
+) -> Result<Model, Refusal>
+    requires { matrix_answer m (record { texts = texts.now; lengths = lengths.now; counts = counts.now; numbers = numbers.now; k = k.now }) (record { h_words = h_words.now; h_coeffs = h_coeffs.now; jumps = jumps.old; rates = rates.old; t_words = t_words.old; t_numbers = t_numbers.old }) work_words.old work_numbers.old ≡ Ok tt }
     ensures { record { answer = result; tables = record { h_words = h_words.now; h_coeffs = h_coeffs.now; jumps = jumps.new; rates = rates.new; t_words = t_words.new; t_numbers = t_numbers.new }; work_words = work_words.new; work_numbers = work_numbers.new } ≡ add m (record { texts = texts.entry.now; lengths = lengths.now; counts = counts.now; numbers = numbers.now; k = k.now }) (record { h_words = h_words.now; h_coeffs = h_coeffs.now; jumps = jumps.old; rates = rates.old; t_words = t_words.old; t_numbers = t_numbers.old }) work_words.old work_numbers.old }
 {
     if counts.len() == 0 {
         clear_lanes(work_words);
         clear_numbers(work_numbers);
-        return Built::Model(m);
+        return Ok(m);
     }
     let own = lengths.len();
     let from = m.terms;
@@ -62,7 +61,7 @@ fn compile_matrix(
     if places < terms {
         clear_lanes(work_words);
         clear_numbers(work_numbers);
-        return Built::Refused(Refusal::TableFull {
+        return Err(Refusal::TableFull {
             table: TERMS_TABLE,
             places,
         });
@@ -92,7 +91,7 @@ fn compile_matrix(
     );
     clear_lanes(work_words);
     clear_numbers(work_numbers);
-    Built::Model(Model {
+    Ok(Model {
         qubits: m.qubits,
         hamiltonian: m.hamiltonian,
         jumps: first + pairs,
@@ -118,10 +117,10 @@ pub fn add_kossakowski(
     t_numbers: &mut [f64],
     work_words: &mut [u64],
     work_numbers: &mut [f64],
-) -> Built
+) -> Result<Model, Refusal>
     ensures { record { answer = result; tables = record { h_words = h_words.now; h_coeffs = h_coeffs.now; jumps = jumps.new; rates = rates.new; t_words = t_words.new; t_numbers = t_numbers.new }; work_words = work_words.new; work_numbers = work_numbers.new } ≡ add m (record { texts = texts.entry.now; lengths = lengths.now; counts = counts.now; numbers = numbers.now; k = k.now }) (record { h_words = h_words.now; h_coeffs = h_coeffs.now; jumps = jumps.old; rates = rates.old; t_words = t_words.old; t_numbers = t_numbers.old }) work_words.old work_numbers.old }
 {
-    let answer = check_matrix(
+    check_matrix(
         m,
         texts,
         lengths,
@@ -136,24 +135,21 @@ pub fn add_kossakowski(
         t_numbers,
         work_words,
         work_numbers,
-    );
-    let Answer::Refused(refusal) = answer else {
-        return compile_matrix(
-            m,
-            texts,
-            lengths,
-            counts,
-            numbers,
-            k,
-            h_words,
-            h_coeffs,
-            jumps,
-            rates,
-            t_words,
-            t_numbers,
-            work_words,
-            work_numbers,
-        );
-    };
-    Built::Refused(refusal)
+    )?;
+    compile_matrix(
+        m,
+        texts,
+        lengths,
+        counts,
+        numbers,
+        k,
+        h_words,
+        h_coeffs,
+        jumps,
+        rates,
+        t_words,
+        t_numbers,
+        work_words,
+        work_numbers,
+    )
 }

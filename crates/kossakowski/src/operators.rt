@@ -12,7 +12,7 @@ ghost use Rattle.lent.specs.Read.{each};
 ghost use Rattle.lent.specs.Laid.{total};
 
 use model_build::items::{check_operator, sum_of};
-use refusal::Answer;
+use refusal::Refusal;
 
 // The operators: a count of terms for each.
 pub fn check_operators(
@@ -21,29 +21,24 @@ pub fn check_operators(
     counts: &[u64],
     numbers: &[f64],
     n_qubits: usize,
-) -> Answer
+) -> Result<(), Refusal>
     requires { (total counts.now ≡ length lengths.now) × (length numbers.now ≡ 2 * length lengths.now) × (total lengths.now ≤ length texts.now) }
     ensures { result ≡ answer_of (each (read_operator n_qubits) 0 (parts counts.now (term_items (parts lengths.now texts.now) (complexes numbers.now)))) }
 {
     let mut at = 0;
     let mut t = 0;
-    let mut j = 0;
-    while j < counts.len() {
-        let k = counts[j] as usize;
+    for (j, count) in counts.iter().enumerate() {
+        let k = *count as usize;
         let own = &lengths[t..t + k];
-        let answer = check_operator(
+        check_operator(
             &texts[at..],
             own,
             &numbers[2 * t..2 * t + 2 * k],
             n_qubits,
             j,
-        );
-        let Answer::Accepted = answer else {
-            return answer;
-        };
+        )?;
         at += sum_of(own);
         t += k;
-        j += 1;
     }
-    Answer::Accepted
+    Ok(())
 }

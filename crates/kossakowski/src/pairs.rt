@@ -54,18 +54,14 @@ fn store_row(
     requires { StoreRoom right.start right.end words.now numbers.now at t_words.old t_numbers.old }
     ensures { LaysTerms (map (factor_of (cx k) (onto a)) (terms_of words.now numbers.now right)) at t_words.old t_numbers.old t_words.new t_numbers.new }
 {
-    let end = right.end;
-    let mut j = right.start;
-    let mut place = at;
-    while j < end {
+    for j in right.start..right.end {
         let b = term_at(words, numbers, j);
         let f = factor_of(a, b, k);
         let w = f.word;
         let z = f.number;
+        let place = at + (j - right.start);
         set_word(t_words, place, w);
         set_complex(t_numbers, place, z);
-        place += 1;
-        j += 1;
     }
 }
 
@@ -84,14 +80,11 @@ fn store_factors(
     ensures { LaysTerms (factors_of (cx k) (terms_of words.now numbers.now left) (terms_of words.now numbers.now right)) at t_words.old t_numbers.old t_words.new t_numbers.new }
 {
     let width = right.end - right.start;
-    let end = left.end;
-    let mut i = left.start;
     let mut place = at;
-    while i < end {
+    for i in left.start..left.end {
         let a = term_at(words, numbers, i);
         store_row(words, numbers, a, right, k, t_words, t_numbers, place);
         place += width;
-        i += 1;
     }
 }
 
@@ -163,16 +156,13 @@ pub fn count_terms(
     let ops = counts.len();
     let places = ops * ops;
     let mut kept = 0;
-    let mut p = 0;
-    while p < places {
-        if makes_pair(k, ops, largest, p) {
-            let left = operator_range(256, counts, p / ops);
-            let right = operator_range(256, counts, p % ops);
-            kept += count_pair(words, sums, left, right);
-            p += 1;
-        } else {
-            p += 1;
+    for p in 0..places {
+        if !makes_pair(k, ops, largest, p) {
+            continue;
         }
+        let left = operator_range(256, counts, p / ops);
+        let right = operator_range(256, counts, p % ops);
+        kept += count_pair(words, sums, left, right);
     }
     kept
 }
@@ -200,30 +190,27 @@ pub fn store_pairs(
     let places = ops * ops;
     let mut place = at;
     let mut j = first;
-    let mut p = 0;
-    while p < places {
-        if makes_pair(k, ops, largest, p) {
-            let n = p / ops;
-            let m = p % ops;
-            place = store_pair(
-                words,
-                sums,
-                operator_range(256, counts, n),
-                operator_range(256, counts, m),
-                complex_at(k, p),
-                operator_range(from, counts, n),
-                operator_range(from, counts, m),
-                j,
-                place,
-                jumps,
-                rates,
-                t_words,
-                t_numbers,
-            );
-            j += 1;
-            p += 1;
-        } else {
-            p += 1;
+    for p in 0..places {
+        if !makes_pair(k, ops, largest, p) {
+            continue;
         }
+        let n = p / ops;
+        let m = p % ops;
+        place = store_pair(
+            words,
+            sums,
+            operator_range(256, counts, n),
+            operator_range(256, counts, m),
+            complex_at(k, p),
+            operator_range(from, counts, n),
+            operator_range(from, counts, m),
+            j,
+            place,
+            jumps,
+            rates,
+            t_words,
+            t_numbers,
+        );
+        j += 1;
     }
 }

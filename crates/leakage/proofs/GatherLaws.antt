@@ -12,7 +12,7 @@ use lib.Dec.{ltb}
 use lib.Ieee.{Float}
 use lib.ListN.{length}
 use Rattle.refusal.specs.declared.Refusal.TheVariants.{WordOutsideRegister}
-use Rattle.refusal.specs.declared.Answer.TheVariants.{Accepted}
+use Rattle.std.specs.Prelude.{Ok}
 use Rattle.word.specs.Flat.{word_lanes}
 use Rattle.model.specs.Stored.{ModelTables}
 use Rattle.model.specs.Tested.{test_model}
@@ -30,7 +30,7 @@ use Rattle.limits.specs.Defaults.{limit_tests}
 use Rattle.limits.specs.declared.Limits.{Limits}
 
 pub record Passed (m : Model) (t : ModelTables) (b : Basis) (w : Work) : Type 0 where
-  pub model : test_model m t ≡ Accepted
+  pub model : test_model m t ≡ Ok tt
   pub words_long : b.len ≤ length b.lanes / word_lanes
   pub coeffs_long : b.len ≤ length b.coeffs
   pub protected_whole : length b.protected ≡ length b.protected / word_lanes * word_lanes
@@ -42,7 +42,7 @@ pub record Passed (m : Model) (t : ModelTables) (b : Basis) (w : Work) : Type 0 
   pub nexts_long : where_any b.len (b.len + length b.protected / word_lanes) ≤ length w.nexts
   pub inside : (k : ℕ) → k < b.len → outside_at b.lanes m.qubits k ≡ false
 
-pub leak_passed : (m : Model) (t : ModelTables) (b : Basis) (l : Limits) (w : Work) → leak_tests m t b l w ≡ Accepted → Passed m t b w
+pub leak_passed : (m : Model) (t : ModelTables) (b : Basis) (l : Limits) (w : Work) → leak_tests m t b l w ≡ Ok tt → Passed m t b w
 unfolding leak_tests work_tests entry_tests inside_to
 leak_passed m t b l w e =
     let count : ℕ = length b.protected / word_lanes in

@@ -27,7 +27,8 @@ use Rattle.lent.specs.Words.{outside_at}
 use Rattle.model.specs.declared.stored.Model.{Model}
 use Rattle.rules_by_index.specs.Near.{ModelIndexed}
 use Rattle.passes.specs.Leaks.{passes, pass_count, touched_at, leaks_at, candidates_of}
-use Rattle.passes.specs.declared.taken.Taken.{Taken}
+use Rattle.std.specs.Prelude.{Result}
+use Rattle.refusal.specs.declared.Refusal.{Refusal}
 use Rattle.leakage.specs.Leakages.{Basis, Work, leak_course, sum_places, candidate_places}
 use Rattle.limits.specs.Defaults.{limit_of}
 use Rattle.limits.specs.declared.Limits.{Limits}
@@ -102,5 +103,5 @@ module _ (m : Model) (t : ModelTables) (b : Basis) (w : Work) (p : Passed m t b 
           let n : length (take b.len order) ≡ length coeffs = length-take-le b.len order (omega (arith, p.order_long, order-long)) ∙ sym coeffs_long in
           rw (n, ordered b.len order b.coeffs (λ h. (laid h).order_is), er, words_are)
 
-      pub gathered : (candWords : List ℕ) (candSums : List Float) (placeOrder : List ℕ) (r : Taken) → Took (candidate_places w) (course (take b.len order)) candWords candSums placeOrder r → Took (candidate_places w) (leak_course m t b l w) candWords candSums placeOrder r
+      pub gathered : (candWords : List ℕ) (candSums : List Float) (placeOrder : List ℕ) (r : Result ℕ Refusal) → Took (candidate_places w) (course (take b.len order)) candWords candSums placeOrder r → Took (candidate_places w) (leak_course m t b l w) candWords candSums placeOrder r
       gathered candWords candSums placeOrder r k = rw course_is k

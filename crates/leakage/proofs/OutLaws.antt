@@ -14,19 +14,16 @@ use Rattle.refusal.specs.declared.Refusal.TheVariants.{TableFull}
 use Rattle.word.specs.Flat.{lay_word, word_lanes}
 use Rattle.number.specs.Floats.{float0}
 use Rattle.candidates.specs.Tables.{Rows}
-use Rattle.refusal.specs.declared.Answer.TheVariants as Tests
+use Rattle.std.specs.Prelude.{Result, Ok, Err}
 use Rattle.model.specs.Stored.{ModelTables}
 use Rattle.model.specs.declared.stored.Model.{Model}
 use Rattle.lent.specs.Read.{Read, got, refused}
 use Rattle.lent.specs.Laid.{laid}
 use Rattle.action.specs.Acts.{list_places}
-use Rattle.action.specs.declared.act.Acted.TheVariants.{Listed, Refused}
 use Rattle.passes.specs.Leaks.{above, words_of, sums_of}
 use Rattle.leakage.specs.Leakages.{Basis, Work, work_of, zeroed, Out, action_places, row_places, leak_tests, leak_course, listing, leak}
 use Rattle.limits.specs.Defaults.{tau_of}
 use Rattle.limits.specs.declared.Limits.{Limits}
-use Rattle.passes.specs.declared.taken.Taken.{Taken}
-use Rattle.passes.specs.declared.taken.Taken.TheVariants as Steps
 use Rattle.passes.specs.Between.{Took}
 use Rattle.leakage.specs.Between.{step_rows, HeldInside}
 
@@ -41,35 +38,35 @@ row_places_are cw cs po pw ea eb er = rw (er, ea, eb)
 
 -- ---- the list
 module _ (tau : Float) (outWords : List ℕ) (outValues : List Float) where
-  pub listing_stopped : (r : Refusal) → record { answer = Refused r; out_words = outWords; out_values = outValues } ≡ listing tau outWords outValues (refused r)
+  pub listing_stopped : (r : Refusal) → record { answer = Err r; out_words = outWords; out_values = outValues } ≡ listing tau outWords outValues (refused r)
   unfolding listing
   listing_stopped r = refl
 
   module _ (T : Rows) (count places : ℕ) (counted : count ≡ length (above tau T)) (lent : places ≡ list_places outWords outValues) where
-    pub listing_full : places < count → record { answer = Refused (TableFull 3 places); out_words = outWords; out_values = outValues } ≡ listing tau outWords outValues (got T)
+    pub listing_full : places < count → record { answer = Err (TableFull 3 places); out_words = outWords; out_values = outValues } ≡ listing tau outWords outValues (got T)
     unfolding listing
     listing_full l = rw (← counted, ← lent, lt-ltb places count l)
 
     pub listing_done : (outWords' : List ℕ) (outValues' : List Float) → count ≤ places → outWords' ≡ laid lay_word 0 (words_of (above tau T)) outWords → outValues' ≡ laid set 0 (sums_of (above tau T)) outValues
-        → record { answer = Listed count; out_words = outWords'; out_values = outValues' } ≡ listing tau outWords outValues (got T)
+        → record { answer = Ok count; out_words = outWords'; out_values = outValues' } ≡ listing tau outWords outValues (got T)
     unfolding listing
     listing_done outWords' outValues' l ew ev = rw (← counted, ← lent, le-ltb places count l, ew, ev)
 
 -- ---- what a step left
-pub took_rows : (room : ℕ) (course : Read Rows) (lanes : List ℕ) (sums : List Float) (order : List ℕ) (r : Taken) → Took room course lanes sums order r → step_rows r lanes sums order ≡ course
-took_rows room course lanes sums order (Steps.Held n) k = sym (k.held n refl).0
-took_rows room course lanes sums order (Steps.Refused q) k = sym (k.stopped q refl)
+pub took_rows : (room : ℕ) (course : Read Rows) (lanes : List ℕ) (sums : List Float) (order : List ℕ) (r : Result ℕ Refusal) → Took room course lanes sums order r → step_rows r lanes sums order ≡ course
+took_rows room course lanes sums order (Ok n) k = sym (k.held n refl).0
+took_rows room course lanes sums order (Err q) k = sym (k.stopped q refl)
 
-pub took_inside : (room : ℕ) (course : Read Rows) (lanes : List ℕ) (sums : List Float) (order : List ℕ) (r : Taken) → Took room course lanes sums order r → room ≤ length order → HeldInside r lanes sums order
+pub took_inside : (room : ℕ) (course : Read Rows) (lanes : List ℕ) (sums : List Float) (order : List ℕ) (r : Result ℕ Refusal) → Took room course lanes sums order r → room ≤ length order → HeldInside r lanes sums order
 took_inside room course lanes sums order r k a = record { inside = λ n e. (omega (arith, (k.held n e).1), (k.held n e).2) }
 
 -- ---- the call
 module _ (outWords : List ℕ) (outValues : List Float) (w : Work) (m : Model) (t : ModelTables) (b : Basis) (l : Limits) where
-  pub leak_refused : (r : Refusal) → leak_tests m t b l w ≡ Tests.Refused r → record { out = record { answer = Refused r; out_words = outWords; out_values = outValues }; work = w } ≡ leak outWords outValues w m t b l
+  pub leak_refused : (r : Refusal) → leak_tests m t b l w ≡ Err r → record { out = record { answer = Err r; out_words = outWords; out_values = outValues }; work = w } ≡ leak outWords outValues w m t b l
   unfolding leak
   leak_refused r e = rw e
 
-  pub leak_accepted : (out : Out) (after : Work) (rows : Read Rows) → leak_tests m t b l w ≡ Tests.Accepted → rows ≡ leak_course m t b l w → out ≡ listing (tau_of l) outWords outValues rows → after ≡ zeroed w
+  pub leak_accepted : (out : Out) (after : Work) (rows : Read Rows) → leak_tests m t b l w ≡ Ok tt → rows ≡ leak_course m t b l w → out ≡ listing (tau_of l) outWords outValues rows → after ≡ zeroed w
       → record { out = out; work = after } ≡ leak outWords outValues w m t b l
   unfolding leak
   leak_accepted out after rows e er eo ez = rw (e, eo, ez, er)

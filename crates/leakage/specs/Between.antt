@@ -2,14 +2,13 @@
 -- SPDX-License-Identifier: Apache-2.0
 
 -- Contracts between functions: what the functions of the call ask for and leave.
-use Rattle.std.specs.Prelude.{ℕ, ◌+◌, ◌*◌, ◌/◌, ◌≤◌, ◌≡◌, List, ◌++◌, Float, length, take}
+use Rattle.std.specs.Prelude.{ℕ, ◌+◌, ◌*◌, ◌/◌, ◌≤◌, ◌≡◌, List, ◌++◌, Float, length, take, Result, Ok, Err}
 use Rattle.word.specs.Flat.{words, word_lanes}
 use Rattle.order.specs.Magnitudes.{by_magnitude}
 use Rattle.slots.specs.Between.{Slotted}
 use Rattle.candidates.specs.Tables.{Rows}
 use Rattle.lent.specs.Read.{Read, got, refused}
-use Rattle.passes.specs.declared.taken.Taken.{Taken}
-use Rattle.passes.specs.declared.taken.Taken.TheVariants as Steps
+use Rattle.refusal.specs.declared.Refusal.{Refusal}
 use Rattle.passes.specs.Between.{rows_at, Placed}
 
 -- a word, a coefficient and a place of each table for each of so many positions, places for the protected words behind them, and at least as many slots
@@ -26,10 +25,10 @@ pub record BasisLaid (len : ℕ) (lanes : List ℕ) (coeffs : List Float) (prote
   pub slots : Slotted (words (take (len * word_lanes) lanes) ++ words protected) heads (take (len + length protected / word_lanes) nexts)
 
 -- the candidates that a step left in lent tables, at positions in their order
-abbrev pub step_rows : Taken → List ℕ → List Float → List ℕ → Read Rows
-step_rows (Steps.Held n) lanes sums order = got (rows_at lanes sums (take n order))
-step_rows (Steps.Refused r) lanes sums order = refused r
+abbrev pub step_rows : Result ℕ Refusal → List ℕ → List Float → List ℕ → Read Rows
+step_rows (Ok n) lanes sums order = got (rows_at lanes sums (take n order))
+step_rows (Err r) lanes sums order = refused r
 
 -- as many positions as a step says that it holds, each with a word and a sum
-pub record HeldInside (r : Taken) (lanes : List ℕ) (sums : List Float) (order : List ℕ) : Type 0 where
-  pub inside : (n : ℕ) → r ≡ Steps.Held n → (n ≤ length order) × Placed lanes sums (take n order)
+pub record HeldInside (r : Result ℕ Refusal) (lanes : List ℕ) (sums : List Float) (order : List ℕ) : Type 0 where
+  pub inside : (n : ℕ) → r ≡ Ok n → (n ≤ length order) × Placed lanes sums (take n order)

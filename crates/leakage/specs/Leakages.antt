@@ -2,10 +2,10 @@
 -- SPDX-License-Identifier: Apache-2.0
 
 -- Leakage over a lent model, basis and protected list: refusals in their order, the answer, and every lent table afterwards.
-use Rattle.std.specs.Prelude.{ℕ, ◌+◌, ◌-◌, ◌*◌, ◌/◌, min, cond, List, [], ◌∷◌, ltb, Float, length, take, set, replicate}
+use Rattle.std.specs.Prelude.{ℕ, ◌+◌, ◌-◌, ◌*◌, ◌/◌, min, cond, List, [], ◌∷◌, ltb, Float, length, take, set, replicate, Result, Ok, Err}
 use Rattle.refusal.specs.declared.Refusal.TheVariants.{TableFull}
-use Rattle.refusal.specs.declared.Answer.{Answer}
-use Rattle.refusal.specs.declared.Answer.TheVariants as Tests
+use Rattle.refusal.specs.declared.Refusal.{Refusal}
+use Rattle.refusal.specs.Cause.{Answer}
 use Rattle.word.specs.Flat.{words, lay_word, word_lanes}
 use Rattle.number.specs.Floats.{float0}
 use Rattle.candidates.specs.Tables.{Rows}
@@ -19,8 +19,6 @@ use Rattle.lent.specs.Numbers.{finite_to}
 use Rattle.model.specs.declared.stored.Model.{Model}
 use Rattle.action.specs.Acts.{list_places}
 use Rattle.action.specs.Counts.{row_lanes}
-use Rattle.action.specs.declared.act.Acted.{Acted}
-use Rattle.action.specs.declared.act.Acted.TheVariants.{Listed, Refused}
 use Rattle.passes.specs.Leaks.{candidates_of, above, words_of, sums_of}
 use Rattle.limits.specs.Defaults.{limit_of, tau_of, limit_tests, tau_tests}
 use Rattle.limits.specs.declared.Limits.{Limits}
@@ -109,11 +107,11 @@ work_tests n len count w =
     ∷ lent len (length w.order)
     ∷ lent (where_any len (len + count)) (length w.heads)
     ∷ lent (where_any len (len + count)) (length w.nexts)
-    ∷ []) Tests.Accepted
+    ∷ []) (Ok tt)
 
 -- 11, 7
 unfoldable pub entry_tests : ℕ → Basis → Answer
-entry_tests n b = inside_to b.len b.lanes n (inside_to (length b.protected / word_lanes) b.protected n (finite_to 0 b.len b.coeffs Tests.Accepted))
+entry_tests n b = inside_to b.len b.lanes n (inside_to (length b.protected / word_lanes) b.protected n (finite_to 0 b.len b.coeffs (Ok tt)))
 
 -- the model, 8, 9, 11, 7
 unfoldable pub leak_tests : Model → ModelTables → Basis → Limits → Work → Answer
@@ -132,17 +130,17 @@ leak_tests m t b l w =
 
 -- ---- the answer, the list, and the lent tables afterwards
 pub record Out : Type 0 where
-  pub answer : Acted
+  pub answer : Result ℕ Refusal
   pub out_words : List ℕ
   pub out_values : List Float
 
 -- those above tau_add, in word order; 13 where there are more than places
 unfoldable pub listing : Float → List ℕ → List Float → Read Rows → Out
-listing tau outWords outValues (refused r) = record { answer = Refused r; out_words = outWords; out_values = outValues }
+listing tau outWords outValues (refused r) = record { answer = Err r; out_words = outWords; out_values = outValues }
 listing tau outWords outValues (got T) =
     cond (ltb (list_places outWords outValues) (length (above tau T)))
-    (record { answer = Refused (TableFull 3 (list_places outWords outValues)); out_words = outWords; out_values = outValues })
-    (record { answer = Listed (length (above tau T)); out_words = laid lay_word 0 (words_of (above tau T)) outWords; out_values = laid set 0 (sums_of (above tau T)) outValues })
+    (record { answer = Err (TableFull 3 (list_places outWords outValues)); out_words = outWords; out_values = outValues })
+    (record { answer = Ok (length (above tau T)); out_words = laid lay_word 0 (words_of (above tau T)) outWords; out_values = laid set 0 (sums_of (above tau T)) outValues })
 
 -- the candidates after the last pass, of so many basis words
 unfoldable pub leak_course : Model → ModelTables → Basis → Limits → Work → Read Rows
@@ -156,8 +154,8 @@ pub record Leaking : Type 0 where
 module _ (outWords : List ℕ) (outValues : List Float) (w : Work) where
   -- a refusal by a test changes nothing; work tables are zero after acceptance, 13 and 14
   abbrev pub tested : Answer → Out → Leaking
-  tested Tests.Accepted out = record { out = out; work = zeroed w }
-  tested (Tests.Refused r) out = record { out = record { answer = Refused r; out_words = outWords; out_values = outValues }; work = w }
+  tested (Ok _) out = record { out = out; work = zeroed w }
+  tested (Err r) out = record { out = record { answer = Err r; out_words = outWords; out_values = outValues }; work = w }
 
   unfoldable pub leak : Model → ModelTables → Basis → Limits → Leaking
   leak m t b l = tested (leak_tests m t b l w) (listing (tau_of l) outWords outValues (leak_course m t b l w))

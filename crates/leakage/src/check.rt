@@ -14,7 +14,7 @@ use lent::words::MAX_WORDS;
 use limits::{Limits, check_limits, check_threshold};
 use model::stored::Model;
 use model::test::test_model;
-use refusal::{Answer, Refusal};
+use refusal::Refusal;
 use truncate::checks::check_entries;
 use word::flat::WORD_LANES;
 
@@ -29,7 +29,7 @@ fn check_work(
     order: usize,
     heads: usize,
     nexts: usize,
-) -> Answer
+) -> Result<(), Refusal>
     requires { (n ≤ max_qubits) × (len ≤ max_words) × (count ≤ max_words) }
     ensures { (w : Work) → (length w.h_index ≡ h_index) → (length w.j_index ≡ j_index) → (length w.mask ≡ mask) → (length w.order ≡ order) → (length w.heads ≡ heads) → (length w.nexts ≡ nexts) → result ≡ work_tests n len count w }
 {
@@ -54,7 +54,7 @@ fn check_work(
     if nexts < slots {
         return mismatch(slots, nexts);
     }
-    Answer::Accepted
+    Ok(())
 }
 
 pub fn check_leakage(
@@ -76,24 +76,18 @@ pub fn check_leakage(
     order: usize,
     heads: usize,
     nexts: usize,
-) -> Answer
+) -> Result<(), Refusal>
     ensures { (w : Work) → (length w.h_index ≡ h_index) → (length w.j_index ≡ j_index) → (length w.mask ≡ mask) → (length w.order ≡ order) → (length w.heads ≡ heads) → (length w.nexts ≡ nexts) → result ≡ leak_tests m (model_tables h_words.now h_coeffs.now jumps.now rates.now t_words.now t_numbers.now) (basis_of words.now coeffs.now len protected.now) limits w }
 {
-    let model = test_model(m, h_words, h_coeffs, jumps, rates, t_words, t_numbers);
-    let Answer::Accepted = model else {
-        return model;
-    };
+    test_model(m, h_words, h_coeffs, jumps, rates, t_words, t_numbers)?;
     if MAX_WORDS < len {
-        return Answer::Refused(Refusal::CountAboveLimit { count: len });
+        return Err(Refusal::CountAboveLimit { count: len });
     }
     let count = protected.len() / WORD_LANES;
     if MAX_WORDS < count {
-        return Answer::Refused(Refusal::CountAboveLimit { count });
+        return Err(Refusal::CountAboveLimit { count });
     }
-    let counts = check_limits(limits);
-    let Answer::Accepted = counts else {
-        return counts;
-    };
+    check_limits(limits)?;
     let places = words.len() / WORD_LANES;
     if places < len {
         return mismatch(len, places);
@@ -106,13 +100,7 @@ pub fn check_leakage(
         return mismatch(lanes, protected.len());
     }
     let n = m.qubits;
-    let work = check_work(n, len, count, h_index, j_index, mask, order, heads, nexts);
-    let Answer::Accepted = work else {
-        return work;
-    };
-    let entries = check_entries(n, words, coeffs, len, protected);
-    let Answer::Accepted = entries else {
-        return entries;
-    };
+    check_work(n, len, count, h_index, j_index, mask, order, heads, nexts)?;
+    check_entries(n, words, coeffs, len, protected)?;
     check_threshold(limits, len)
 }

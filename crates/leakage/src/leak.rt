@@ -11,11 +11,10 @@ use crate::clear::{clear_four, clear_rows, clear_three};
 use crate::lay::lay_basis;
 use crate::listing::list_candidates;
 use crate::run::run_and_clear;
-use action::act::Acted;
 use lent::tests::where_any;
 use limits::{Limits, word_room};
 use model::stored::Model;
-use refusal::Answer;
+use refusal::Refusal;
 use rules_by_index::indexed::index_model;
 use word::flat::WORD_LANES;
 
@@ -46,10 +45,10 @@ pub fn leakage_with_prune(
     place_work: &mut [u64],
     out_words: &mut [u64],
     out_values: &mut [f64],
-) -> Acted
+) -> Result<usize, Refusal>
     ensures { record { out = record { answer = result; out_words = out_words.new; out_values = out_values.new }; work = work_of h_index.new j_index.new mask.new work_words.new work_sums.new order.new heads.new nexts.new cand_words.new cand_sums.new place_order.new place_work.new } ≡ leak out_words.old out_values.old (work_of h_index.old j_index.old mask.old work_words.old work_sums.old order.old heads.old nexts.old cand_words.old cand_sums.old place_order.old place_work.old) m (model_tables h_words.now h_coeffs.now jumps.now rates.now t_words.now t_numbers.now) (basis_of words.now coeffs.now len protected.now) limits }
 {
-    let answer = check_leakage(
+    check_leakage(
         m,
         h_words,
         h_coeffs,
@@ -68,10 +67,7 @@ pub fn leakage_with_prune(
         order.len(),
         heads.len(),
         nexts.len(),
-    );
-    if let Answer::Refused(refusal) = answer {
-        return Acted::Refused(refusal);
-    }
+    )?;
     let room = word_room(limits, len);
     let both = where_any(len, len + protected.len() / WORD_LANES);
     index_model(h_index, j_index, m, h_words, jumps, rates, t_words, len);

@@ -16,7 +16,7 @@ use crate::places::{action_places, row_places};
 use lent::clear::clear_lanes;
 use model::stored::Model;
 use passes::passes::run_passes;
-use passes::taken::Taken;
+use refusal::Refusal;
 
 pub fn run_and_clear(
     m: Model,
@@ -42,7 +42,7 @@ pub fn run_and_clear(
     room: usize,
     place_order: &mut [u64],
     place_work: &mut [u64],
-) -> Taken
+) -> Result<usize, Refusal>
     requires model_ready { 0 < length positions.now → ModelReady m (model_tables h_words.now h_coeffs.now jumps.now rates.now t_words.now t_numbers.now) h_index.now j_index.now mask.old }
     requires basis_ready { 0 < length positions.now → BasisReady m.qubits basis.now coeffs.now heads.now nexts.now protected.now × AllBelow (length coeffs.now) positions.now }
     ensures { Took (row_places (length cand_words.old) (length cand_sums.old) (length place_order.old) (length place_work.old)) (passes (touched_at m (model_tables h_words.now h_coeffs.now jumps.now rates.now t_words.now t_numbers.now) (words_in basis.now) coeffs.now (words_in protected.now)) (leaks_at m (model_tables h_words.now h_coeffs.now jumps.now rates.now t_words.now t_numbers.now) (words_in basis.now) coeffs.now (words_in protected.now)) (action_places (length work_words.old) (length work_sums.old)) (row_places (length cand_words.old) (length cand_sums.old) (length place_order.old) (length place_work.old)) room (pass_count (length positions.now)) positions.now []) cand_words.new cand_sums.new place_order.new result × (mask.new ≡ replicate (length mask.old) 0) × (work_words.new ≡ replicate (length work_words.old) 0) × (work_sums.new ≡ replicate (length work_sums.old) float0) }

@@ -7,7 +7,7 @@ use mathlib.Core.Path.{◌≡◌, refl}
 use Prim.Native.Nat.{ℕ, zero, suc, ◌-◌, ◌*◌}
 use lib.Ieee.{nan}
 use lib.ListN.{get_or, take, drop}
-use Rattle.refusal.specs.declared.Answer.TheVariants.{Accepted}
+use Rattle.std.specs.Prelude.{Ok}
 use Rattle.word.specs.Word.{identity}
 use Rattle.order.specs.Magnitudes.{by_magnitude}
 use Rattle.model.specs.Stored.{ModelTables}
@@ -21,7 +21,7 @@ use Rattle.limits.specs.Defaults.{limit_of, tau_of}
 use Rattle.limits.specs.declared.Limits.{Limits}
 use Rattle.leakage_laws.specs.Calls.{gathered, leaks_of, stay_after, list_of, SameBasis}
 
-module _ (m : Model) (t t' : ModelTables) (same : SameModel m t t') (passes : test_model m t ≡ Accepted) (b b' : Basis) (alike : SameBasis b b') where
+module _ (m : Model) (t t' : ModelTables) (same : SameModel m t t') (passes : test_model m t ≡ Ok tt) (b b' : Basis) (alike : SameBasis b b') where
   leaks_alike : leaks_of m t b ≡ leaks_of m t' b'
   leaks_alike = λ i p.
       leaked

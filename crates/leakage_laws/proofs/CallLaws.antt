@@ -3,6 +3,7 @@
 
 -- Leakage as a call: what an accepted call lists, that its passes keep the largest and tau_add lists the largest of those, that looser
 -- limits lose nobody, and which words are listed. Assumes nothing.
+use Rattle.std.specs.Prelude.{Result}
 use mathlib.Core.Path.{◌≡◌, refl, sym, ap, ap₂, subst, ◌∙◌}
 use mathlib.Core.Bool.{Bool, true, false, cond}
 use mathlib.Core.List.{List}
@@ -16,8 +17,8 @@ use lib.ListN.{length, get_or, set}
 use lib.Seq.{length-take-le}
 use Rattle.refusal.specs.declared.Refusal.{Refusal}
 use Rattle.refusal.specs.declared.Refusal.TheVariants.{TableFull, NumberOutOfRange}
-use Rattle.refusal.specs.declared.Answer.{Answer}
-use Rattle.refusal.specs.declared.Answer.TheVariants as Tests
+use Rattle.std.specs.Prelude.{Ok, Err}
+use Rattle.refusal.specs.Cause.{Answer}
 use Rattle.word.specs.Word.{identity, Sound}
 use Rattle.word.specs.Flat.{words, lay_word, word_lanes}
 use Rattle.word.proofs.FlatLaws.{words_high}
@@ -37,7 +38,6 @@ use Rattle.lent.specs.Words.{max_words}
 use Rattle.lent.specs.Numbers.{finite_threshold}
 use Rattle.in_use.specs.InUse.{SameModel}
 use Rattle.action.specs.Acts.{list_places}
-use Rattle.action.specs.declared.act.Acted.TheVariants.{Listed, Refused}
 use Rattle.lent.specs.Every.{Every}
 use Rattle.truncate.proofs.ThresholdLaws.{finite_number}
 use Rattle.passes.specs.Leaks.{words_of, sums_of, pass_size, pass_count, above}
@@ -55,13 +55,13 @@ use Rattle.leakage_laws.proofs.BelowZero.{negative_below, all_above, above_by_ke
 use Rattle.leakage_laws.proofs.AlikeLaws.{list_alike}
 
 -- ---- an accepted call
-refused_lists : (q : Refusal) (n : ℕ) → Refused q ≡ Listed n → ⊥
+refused_lists : (q : Refusal) (n : ℕ) → ◌≡◌ {A = Result ℕ Refusal} (Err q) (Ok n) → ⊥
 refused_lists q n e = let z : ◌≡◌ {A = ℕ} 0 1 = cc in omega arith
 
 module _ (outWords : List ℕ) (outValues : List Float) (w : Work) (m : Model) (t : ModelTables) (b : Basis) (l : Limits) (n : ℕ) where
   -- the candidates left, and their list in the lent tables
   record Accepts : Type 0 where
-    tests : leak_tests m t b l w ≡ Tests.Accepted
+    tests : leak_tests m t b l w ≡ Ok tt
     rows : Rows
     course : leak_course m t b l w ≡ got rows
     places : length (above (tau_of l) rows) ≤ list_places outWords outValues
@@ -69,18 +69,18 @@ module _ (outWords : List ℕ) (outValues : List Float) (w : Work) (m : Model) (
     words_laid : (leak outWords outValues w m t b l).out.out_words ≡ laid lay_word 0 (words_of (above (tau_of l) rows)) outWords
     values_laid : (leak outWords outValues w m t b l).out.out_values ≡ laid set 0 (sums_of (above (tau_of l) rows)) outValues
 
-  accepts : (leak outWords outValues w m t b l).out.answer ≡ Listed n → Accepts
+  accepts : (leak outWords outValues w m t b l).out.answer ≡ Ok n → Accepts
   unfolding leak listing
   accepts e = go (leak_tests m t b l w) refl (leak_course m t b l w) refl e
     where
-      go : (a : Answer) → leak_tests m t b l w ≡ a → (c : Read Rows) → leak_course m t b l w ≡ c → (tested outWords outValues w a (listing (tau_of l) outWords outValues c)).out.answer ≡ Listed n → Accepts
-      go (Tests.Refused q) f c g h = absurd (refused_lists q n h)
-      go Tests.Accepted f (refused q) g h = absurd (refused_lists q n h)
-      go Tests.Accepted f (got S) g h = lists (ltb (list_places outWords outValues) (length (above (tau_of l) S))) refl h
+      go : (a : Answer) → leak_tests m t b l w ≡ a → (c : Read Rows) → leak_course m t b l w ≡ c → (tested outWords outValues w a (listing (tau_of l) outWords outValues c)).out.answer ≡ Ok n → Accepts
+      go (Err q) f c g h = absurd (refused_lists q n h)
+      go (Ok _) f (refused q) g h = absurd (refused_lists q n h)
+      go (Ok _) f (got S) g h = lists (ltb (list_places outWords outValues) (length (above (tau_of l) S))) refl h
         where
           lists : (c : Bool) → ltb (list_places outWords outValues) (length (above (tau_of l) S)) ≡ c
-              → (cond {A = Out} c (record { answer = Refused (TableFull 3 (list_places outWords outValues)); out_words = outWords; out_values = outValues })
-              (record { answer = Listed (length (above (tau_of l) S)); out_words = laid lay_word 0 (words_of (above (tau_of l) S)) outWords; out_values = laid set 0 (sums_of (above (tau_of l) S)) outValues })).answer ≡ Listed n
+              → (cond {A = Out} c (record { answer = Err (TableFull 3 (list_places outWords outValues)); out_words = outWords; out_values = outValues })
+              (record { answer = Ok (length (above (tau_of l) S)); out_words = laid lay_word 0 (words_of (above (tau_of l) S)) outWords; out_values = laid set 0 (sums_of (above (tau_of l) S)) outValues })).answer ≡ Ok n
               → Accepts
           lists true x y = absurd (refused_lists _ n y)
           lists false x y =
@@ -95,12 +95,12 @@ module _ (outWords : List ℕ) (outValues : List Float) (w : Work) (m : Model) (
               }
 
   -- ---- what it lists, and its passes
-  module _ (answers : (leak outWords outValues w m t b l).out.answer ≡ Listed n) where
+  module _ (answers : (leak outWords outValues w m t b l).out.answer ≡ Ok n) where
     abbrev call : Leaking
     call = leak outWords outValues w m t b l
 
     -- the model passes its test
-    pub leakage_model : test_model m t ≡ Tests.Accepted
+    pub leakage_model : test_model m t ≡ Ok tt
     unfolding leak_tests
     leakage_model = (both (test_model m t) _ (accepts answers).tests).0
 
@@ -167,7 +167,7 @@ module _ (outWords : List ℕ) (outValues : List Float) (w : Work) (m : Model) (
         }
 
 -- ---- the threshold of an accepted call is a number
-tau_tested : (m : Model) (t : ModelTables) (b : Basis) (l : Limits) (w : Work) → leak_tests m t b l w ≡ Tests.Accepted → tau_tests b.len l ≡ Tests.Accepted
+tau_tested : (m : Model) (t : ModelTables) (b : Basis) (l : Limits) (w : Work) → leak_tests m t b l w ≡ Ok tt → tau_tests b.len l ≡ Ok tt
 unfolding leak_tests
 tau_tested m t b l w e =
     let count : ℕ = length b.protected / word_lanes in
@@ -184,20 +184,20 @@ tau_tested m t b l w e =
 absent_number : Number absent_tau
 absent_number = record { fits_f64 = round-fits binary64 false 1 (2 ^ 40); no_nan = unfold is_nan round in tt }
 
-tau_number : (count : ℕ) (l : Limits) → TauFits l → tau_tests count l ≡ Tests.Accepted → Number (tau_of l)
+tau_number : (count : ℕ) (l : Limits) → TauFits l → tau_tests count l ≡ Ok tt → Number (tau_of l)
 unfolding tau_tests tau_of
 tau_number count l f e = go (eqb l.tau_given 0) e
   where
-    given : (a : Bool) → is_finite l.tau_add ≡ a → cond a Tests.Accepted (Tests.Refused (NumberOutOfRange count)) ≡ Tests.Accepted → Number l.tau_add
+    given : (a : Bool) → is_finite l.tau_add ≡ a → ◌≡◌ {A = Answer} (cond a (Ok tt) (Err (NumberOutOfRange count))) (Ok tt) → Number l.tau_add
     given true x y = record { fits_f64 = f; no_nan = finite_number l.tau_add x }
     given false x y = let z : ◌≡◌ {A = ℕ} 0 1 = cc in absurd (omega arith)
 
-    go : (a : Bool) → cond a Tests.Accepted (finite_threshold count l.tau_add Tests.Accepted) ≡ Tests.Accepted → Number (cond a absent_tau l.tau_add)
+    go : (a : Bool) → ◌≡◌ {A = Answer} (cond a (Ok tt) (finite_threshold count l.tau_add (Ok tt))) (Ok tt) → Number (cond a absent_tau l.tau_add)
     go true x = absent_number
     go false x = given (is_finite l.tau_add) refl x
 
 -- ---- tau_add is a threshold: what is listed is larger than what stayed in the last pass and is not
-module _ (m : Model) (t : ModelTables) (b : Basis) (l : Limits) (fit : TauFits l) (outWords : List ℕ) (outValues : List Float) (w : Work) (n : ℕ) (answers : (leak outWords outValues w m t b l).out.answer ≡ Listed n) where
+module _ (m : Model) (t : ModelTables) (b : Basis) (l : Limits) (fit : TauFits l) (outWords : List ℕ) (outValues : List Float) (w : Work) (n : ℕ) (answers : (leak outWords outValues w m t b l).out.answer ≡ Ok n) where
   pub leakage_larger : LargerListed (stay_after m t b l (pass_count b.len)) (listed_by (leak outWords outValues w m t b l) n)
   leakage_larger r s x y not_listed = go (lt tau float0) refl
     where
@@ -252,8 +252,8 @@ module _ (m : Model) (t : ModelTables) (b : Basis) (l l' : Limits) (looser : Loo
       (above_lower (tau_of l) (tau_of l') r.sum n n' looser.lowered (member_fits r R (held_fits m t b l 0) given) (member_finite r R (ended_finite (room_of b l) R (stay_after m t b l 1) (e refl)).1 given) kept.1)
 
 module _ (m : Model) (t t' : ModelTables) (same : SameModel m t t') (b b' : Basis) (alike : SameBasis b b') (few : b.len ≤ pass_size) (l l' : Limits) (looser : Looser l l') (fit : TauFits l) (fit' : TauFits l') where
-  pub leakage_loses_nobody : (outWords : List ℕ) (outValues : List Float) (w : Work) (n : ℕ) → (leak outWords outValues w m t b l).out.answer ≡ Listed n
-      → (outWords' : List ℕ) (outValues' : List Float) (w' : Work) (n' : ℕ) → (leak outWords' outValues' w' m t' b' l').out.answer ≡ Listed n'
+  pub leakage_loses_nobody : (outWords : List ℕ) (outValues : List Float) (w : Work) (n : ℕ) → (leak outWords outValues w m t b l).out.answer ≡ Ok n
+      → (outWords' : List ℕ) (outValues' : List Float) (w' : Work) (n' : ℕ) → (leak outWords' outValues' w' m t' b' l').out.answer ≡ Ok n'
       → LosesNobody (listed_by (leak outWords outValues w m t b l) n) (listed_by (leak outWords' outValues' w' m t' b' l') n')
   leakage_loses_nobody outWords outValues w n e outWords' outValues' w' n' e' r x =
       let P : ℕ = pass_count b.len in

@@ -7,19 +7,19 @@ use mathlib.Core.Bool.{Bool}
 use Prim.Native.Nat.{ℕ, ◌≤◌, ◌<◌}
 use borrow.Author.Tests.{lt-ltb, le-ltb}
 use Rattle.refusal.specs.declared.Refusal.TheVariants.{NumberOutOfRange, CountAboveLimit, LengthMismatch}
-use Rattle.refusal.specs.declared.Answer.{Answer}
-use Rattle.refusal.specs.declared.Answer.TheVariants.{Refused}
+use Rattle.std.specs.Prelude.{Err}
+use Rattle.refusal.specs.Cause.{Answer}
 use Rattle.lent.specs.Tests.{counted, lent, first_to, entries}
 
 module _ (limit count : ℕ) (after : Answer) where
-  pub counted_above : limit < count → Refused (CountAboveLimit count) ≡ counted limit count after
+  pub counted_above : limit < count → Err (CountAboveLimit count) ≡ counted limit count after
   counted_above h = rw (lt-ltb limit count h)
 
   pub counted_within : count ≤ limit → after ≡ counted limit count after
   counted_within h = rw (le-ltb limit count h)
 
 module _ (needed places : ℕ) (after : Answer) where
-  pub lent_short : places < needed → Refused (LengthMismatch needed places) ≡ lent needed places after
+  pub lent_short : places < needed → Err (LengthMismatch needed places) ≡ lent needed places after
   lent_short h = rw (lt-ltb places needed h)
 
   pub lent_enough : needed ≤ places → after ≡ lent needed places after
@@ -27,7 +27,7 @@ module _ (needed places : ℕ) (after : Answer) where
 
 -- r is the first of n places that fails, or n
 module _ (n : ℕ) (f : ℕ → Bool) (after : Answer) {r : ℕ} (e : r ≡ first_to n f) where
-  pub entries_refused : r < n → Refused (NumberOutOfRange r) ≡ entries n f after
+  pub entries_refused : r < n → Err (NumberOutOfRange r) ≡ entries n f after
   unfolding entries
   entries_refused l = rw (sym e, lt-ltb r n l)
 

@@ -2,11 +2,10 @@
 -- SPDX-License-Identifier: Apache-2.0
 
 -- Numbers in lent tables: that they are finite (7).
-use Rattle.std.specs.Prelude.{ℕ, ◌+◌, Bool, not, cond, List, ltb, Float, get_or}
+use Rattle.std.specs.Prelude.{ℕ, ◌+◌, Bool, not, cond, List, ltb, Float, get_or, Err}
 use Rattle.std.specs.Float.{nan}
 use Rattle.refusal.specs.declared.Refusal.TheVariants.{NumberOutOfRange}
-use Rattle.refusal.specs.declared.Answer.{Answer}
-use Rattle.refusal.specs.declared.Answer.TheVariants.{Refused}
+use Rattle.refusal.specs.Cause.{Answer}
 use Rattle.number.specs.Floats.{is_finite}
 use Rattle.lent.specs.Tests.{first_to}
 
@@ -15,8 +14,8 @@ not_finite l k = not (is_finite (get_or l k nan))
 
 -- 7 at the first of so many numbers that is not finite, counted on from those before it
 unfoldable pub finite_to : ℕ → ℕ → List Float → Answer → Answer
-finite_to before count l after = cond (ltb (first_to count (not_finite l)) count) (Refused (NumberOutOfRange (before + first_to count (not_finite l)))) after
+finite_to before count l after = cond (ltb (first_to count (not_finite l)) count) (Err (NumberOutOfRange (before + first_to count (not_finite l)))) after
 
 -- 7 for a threshold: the number of coefficients
 abbrev pub finite_threshold : ℕ → Float → Answer → Answer
-finite_threshold count x after = cond (is_finite x) after (Refused (NumberOutOfRange count))
+finite_threshold count x after = cond (is_finite x) after (Err (NumberOutOfRange count))

@@ -2,10 +2,9 @@
 -- SPDX-License-Identifier: Apache-2.0
 
 -- Words in lent tables: how many there may be, and that they lie in their register (11).
-use Rattle.std.specs.Prelude.{ℕ, Bool, cond, List, ltb, get_or}
+use Rattle.std.specs.Prelude.{ℕ, Bool, cond, List, ltb, get_or, Err}
 use Rattle.refusal.specs.declared.Refusal.TheVariants.{WordOutsideRegister}
-use Rattle.refusal.specs.declared.Answer.{Answer}
-use Rattle.refusal.specs.declared.Answer.TheVariants.{Refused}
+use Rattle.refusal.specs.Cause.{Answer}
 use Rattle.word.specs.Word.{identity}
 use Rattle.word.specs.Flat.{words}
 use Rattle.word.specs.Register.{reaches}
@@ -21,4 +20,4 @@ outside_at lanes n k = reaches (get_or (words lanes) k identity) n
 
 -- 11 at the first of so many words that has a bit at or above n: its place in its own list
 unfoldable pub inside_to : ℕ → List ℕ → ℕ → Answer → Answer
-inside_to count lanes n after = cond (ltb (first_to count (outside_at lanes n)) count) (Refused (WordOutsideRegister (first_to count (outside_at lanes n)))) after
+inside_to count lanes n after = cond (ltb (first_to count (outside_at lanes n)) count) (Err (WordOutsideRegister (first_to count (outside_at lanes n)))) after

@@ -8,19 +8,11 @@ ghost use Rattle.number.specs.Floats.{float0};
 pub fn clear_lanes(t: &mut [u64])
     ensures { t.new ≡ replicate (length t.old) 0 }
 {
-    let mut i = 0;
-    while i < t.len() {
-        t[i] = 0;
-        i += 1;
-    }
+    t.fill(0);
 }
 
 pub fn clear_numbers(t: &mut [f64])
     ensures { t.new ≡ replicate (length t.old) float0 }
 {
-    let mut i = 0;
-    while i < t.len() {
-        t[i] = 0.0;
-        i += 1;
-    }
+    t.fill(0.0);
 }

@@ -13,13 +13,10 @@ pub fn first_not_finite(numbers: &[f64], count: usize) -> usize
     requires { count ≤ length numbers.now }
     ensures { result ≡ first_to count (not_finite numbers.now) }
 {
-    let mut k = 0;
-    while k < count {
-        let finite = is_finite(numbers[k]);
-        if !finite {
+    for k in 0..count {
+        if !is_finite(numbers[k]) {
             return k;
         }
-        k += 1;
     }
     count
 }

@@ -4,16 +4,15 @@
 // The refusal of a length, and the places that a table needs.
 ghost use Rattle.std.specs.Prelude.{◌≡◌};
 ghost use Rattle.refusal.specs.declared.Refusal.TheVariants.{LengthMismatch};
-ghost use Rattle.refusal.specs.declared.Answer.TheVariants.{Refused};
 ghost use Rattle.lent.specs.Tests.{where_any};
 
-use refusal::{Answer, Refusal};
+use refusal::Refusal;
 
 // The refusal of a length.
-pub fn mismatch(needed: usize, given: usize) -> Answer
-    ensures { result ≡ Refused (LengthMismatch needed given) }
+pub fn mismatch(needed: usize, given: usize) -> Result<(), Refusal>
+    ensures { result ≡ Err (LengthMismatch needed given) }
 {
-    Answer::Refused(Refusal::LengthMismatch { needed, given })
+    Err(Refusal::LengthMismatch { needed, given })
 }
 
 // The places that a table needs for so many jumps, operators or words: none where there is none.

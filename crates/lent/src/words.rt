@@ -18,13 +18,10 @@ pub fn first_outside(words: &[u64], count: usize, n: usize) -> usize
     requires { word_lanes * count ≤ length words.now }
     ensures { result ≡ first_to count (outside_at words.now n) }
 {
-    let mut k = 0;
-    while k < count {
-        let w = word_at(words, k);
-        if reaches_beyond(w, n) {
+    for k in 0..count {
+        if reaches_beyond(word_at(words, k), n) {
             return k;
         }
-        k += 1;
     }
     count
 }

@@ -2,11 +2,10 @@
 -- SPDX-License-Identifier: Apache-2.0
 
 -- Word limits and the threshold of a run: what an absent one means, what is above a threshold, and their tests.
-use Rattle.std.specs.Prelude.{ℕ, ◌^◌, max, Bool, false, cond, eqb, Float}
+use Rattle.std.specs.Prelude.{ℕ, ◌^◌, max, Bool, false, cond, eqb, Float, Ok}
 use Rattle.std.specs.Float.{binary64}
 use Rattle.std.specs.Float.Ieee.{round, lt}
-use Rattle.refusal.specs.declared.Answer.{Answer}
-use Rattle.refusal.specs.declared.Answer.TheVariants.{Accepted}
+use Rattle.refusal.specs.Cause.{Answer}
 use Rattle.number.specs.Floats.{magnitude}
 use Rattle.lent.specs.Tests.{counted}
 use Rattle.lent.specs.Words.{max_words}
@@ -31,7 +30,7 @@ is_above tau x = lt tau (magnitude x)
 
 -- 8 for a word limit, and 7 for a threshold, each where it is given
 unfoldable pub limit_tests : Limits → Answer
-limit_tests l = counted max_words l.max_basis (cond (eqb l.admit_given 0) Accepted (counted max_words l.admit_basis Accepted))
+limit_tests l = counted max_words l.max_basis (cond (eqb l.admit_given 0) (Ok tt) (counted max_words l.admit_basis (Ok tt)))
 
 unfoldable pub tau_tests : ℕ → Limits → Answer
-tau_tests count l = cond (eqb l.tau_given 0) Accepted (finite_threshold count l.tau_add Accepted)
+tau_tests count l = cond (eqb l.tau_given 0) (Ok tt) (finite_threshold count l.tau_add (Ok tt))

@@ -11,7 +11,7 @@ ghost use Rattle.limits.specs.Defaults.{limit_of, tau_of, is_above, limit_tests,
 use lent::sizes::{larger, room_left};
 use lent::words::MAX_WORDS;
 use number::scalar::{is_finite, magnitude};
-use refusal::{Answer, Refusal};
+use refusal::Refusal;
 
 // max_basis, and beside it an admit_basis and a tau_add; each of the two counts where the number before
 // it is not 0.
@@ -64,35 +64,35 @@ pub fn is_above(x: f64, tau_add: f64) -> bool
 }
 
 // 8 for a word limit.
-pub fn check_limits(limits: Limits) -> Answer
+pub fn check_limits(limits: Limits) -> Result<(), Refusal>
     ensures { result ≡ limit_tests limits }
 {
     if MAX_WORDS < limits.max_basis {
-        return Answer::Refused(Refusal::CountAboveLimit {
+        return Err(Refusal::CountAboveLimit {
             count: limits.max_basis,
         });
     }
     if limits.admit_given == 0 {
-        return Answer::Accepted;
+        return Ok(());
     }
     if MAX_WORDS < limits.admit_basis {
-        return Answer::Refused(Refusal::CountAboveLimit {
+        return Err(Refusal::CountAboveLimit {
             count: limits.admit_basis,
         });
     }
-    Answer::Accepted
+    Ok(())
 }
 
 // 7 for a threshold, behind so many coefficients.
-pub fn check_threshold(limits: Limits, count: usize) -> Answer
+pub fn check_threshold(limits: Limits, count: usize) -> Result<(), Refusal>
     ensures { result ≡ tau_tests count limits }
 {
     if limits.tau_given == 0 {
-        return Answer::Accepted;
+        return Ok(());
     }
     let finite = is_finite(limits.tau_add);
     if !finite {
-        return Answer::Refused(Refusal::NumberOutOfRange { index: count });
+        return Err(Refusal::NumberOutOfRange { index: count });
     }
-    Answer::Accepted
+    Ok(())
 }

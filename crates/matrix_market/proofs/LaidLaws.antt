@@ -2,10 +2,9 @@
 -- SPDX-License-Identifier: Apache-2.0
 
 -- Bytes laid one after another: a run after a run is their join laid at once. Assumes nothing.
-use Rattle.std.proofs.Common.{◌≡◌, ℕ, suc, ◌+◌, ◌<◌, ◌≤◌, List, [], ◌∷◌, ◌++◌, length, get_or, take, drop, set, refl, ap, ◌∙◌, add-one, arith, length-append, length-set, drop_of_length-le, drop-cons}
+use Rattle.std.proofs.Common.{◌≡◌, ℕ, suc, ◌+◌, ◌≤◌, List, [], ◌∷◌, ◌++◌, length, take, drop, set, refl, sym, ap, ◌∙◌, arith, length-append}
 use lib.Seq.{sets, sets-eq, take-append_seam}
 use Rattle.lent.specs.Laid.{laid}
-use Rattle.lent.proofs.LaidLaws.{laid_length}
 
 module _ {A : Type 0} where
   pub laid_append : (k : ℕ) (a b l : List A) → laid set (k + length a) b (laid set k a l) ≡ laid set k (a ++ b) l
@@ -16,9 +15,6 @@ module _ {A : Type 0} where
   pub laid_one : (k : ℕ) (x : A) (l : List A) → set l k x ≡ laid set k (x ∷ []) l
   unfolding laid
   laid_one k x l = refl
-
-  pub laid_long : (k : ℕ) (a l : List A) → length (laid set k a l) ≡ length l
-  laid_long k a l = laid_length set (λ l k b. length-set l k b) k a l
 
   -- a run, then another from where it ended
   pub laid_then : (k j : ℕ) (a b l m n : List A) → m ≡ laid set k a l → j ≡ k + length a → n ≡ laid set j b m → n ≡ laid set k (a ++ b) l
@@ -41,22 +37,18 @@ module _ {A : Type 0} where
   three_laid k i j e a b c l m n o p q r s t u =
       (laid_then k i a (b ++ c) l m o p q (laid_then i j b c m n o r s t), end_then k i e a (b ++ c) q (end_then i j e b c s u))
 
--- ---- a list copied from the front
-module _ {A : Type 0} (d : A) (source : List A) where
-  pub copy_turn : (l : List A) (i : ℕ) → i < length source → laid set i (drop i source) l ≡ laid set (i + 1) (drop (i + 1) source) (set l i (get_or source i d))
-  unfolding laid
-  copy_turn l i h = rw (add-one i) (ap (λ (r : List A). laid set i r l) (drop-cons source i d h))
-
-  pub copy_end : (l : List A) (i : ℕ) → length source ≤ i → laid set i (drop i source) l ≡ l
-  unfolding laid
-  copy_end l i h = ap (λ (r : List A). laid set i r l) (drop_of_length-le source {i = i} h)
-
 -- ---- what was laid at the front stands there
 module _ {A : Type 0} where
   stored : (k : ℕ) (bs l : List A) → laid set k bs l ≡ sets l k bs
   unfolding laid
   stored k [] l = refl
   stored k (b ∷ bs) l = stored (suc k) bs (set l k b)
+
+  -- laying a list from the front is to write it over the front
+  pub laid_over : (bs l : List A) → length bs ≤ length l → bs ++ drop (length bs) l ≡ laid set 0 bs l
+  laid_over bs l h =
+      let e : 0 + length bs ≡ length bs = omega arith in
+      sym (stored 0 bs l ∙ sets-eq bs l 0 (omega arith) ∙ rw e)
 
   pub laid_front : (bs l : List A) → length bs ≤ length l → take (length bs) (laid set 0 bs l) ≡ bs
   laid_front bs l h =

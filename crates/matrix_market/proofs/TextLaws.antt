@@ -6,45 +6,41 @@
 -- nothing.
 use Rattle.std.proofs.Common.{◌≡◌, ℕ, suc, ◌+◌, ◌*◌, ◌^◌, ◌<◌, ◌≤◌, ltb, List, [], ◌∷◌, ◌++◌, length, take, set, ℤ, pos, negsuc, nat_abs, sym, refl, ◌∙◌, arith, length-append, ltb-false}
 use lib.Ieee.{Float}
-use Rattle.refusal.specs.declared.Refusal.{Refusal}
 use Rattle.refusal.specs.declared.Refusal.TheVariants.{TableFull, WrittenCountTooLarge}
-use Rattle.refusal.specs.declared.Answer.{Answer}
-use Rattle.refusal.specs.declared.Answer.TheVariants.{Accepted, Refused}
+use Rattle.std.specs.Prelude.{Ok, Err}
+use Rattle.refusal.specs.Cause.{Answer}
+use Rattle.refusal.proofs.Told.{refused_not}
 use Rattle.lent.specs.Laid.{laid}
 use Rattle.lent.specs.Tests.{first_to}
 use Rattle.lent.proofs.Passed.{passed}
 use Rattle.matrix_market.specs.Text.{Line, space, newline, whole, field, line_text, lines_text, size_line, header, text_of}
 use Rattle.matrix_market.specs.Writes.{lines_of, large_at, counts_written, text_room, text_after, writes}
-use Rattle.matrix_market.specs.declared.write.Written.TheVariants as Texts
 use Rattle.matrix_market.proofs.NaturalLaws.{natural_short}
 use Rattle.matrix_market.proofs.LaidLaws.{laid_front}
 use Rattle.matrix_market.proofs.LineLaws.{size_long, field_long}
 use Rattle.matrix_market.proofs.ReadingLaws.{text_determines}
 
 -- ---- a text that was written
-refused_not : (q : Refusal) (k : ℕ) → Texts.Refused q ≡ Texts.Text k → ⊥
-refused_not q k e = let z : ◌≡◌ {A = ℕ} 0 1 = cc in omega arith
-
 module _ (n : ℕ) (rows columns : List ℕ) (values : List Float) (text : List ℕ) where
   abbrev bytes : List ℕ
   bytes = text_of n (lines_of rows columns values)
 
-  after_text : (a : Answer) (k : ℕ) → (text_after a bytes text).answer ≡ Texts.Text k → (a ≡ Accepted) × (length bytes ≡ k) × ((text_after a bytes text).text ≡ laid set 0 bytes text)
-  after_text Accepted k e = (refl, cc, refl)
-  after_text (Refused q) k e = absurd (refused_not q k e)
+  after_text : (a : Answer) (k : ℕ) → (text_after a bytes text).answer ≡ Ok k → (a ≡ Ok tt) × (length bytes ≡ k) × ((text_after a bytes text).text ≡ laid set 0 bytes text)
+  after_text (Ok _) k e = (refl, cc, refl)
+  after_text (Err q) k e = absurd (refused_not q k e)
 
   -- the first so many bytes of the table are the text
-  pub text_written : (k : ℕ) → (writes n rows columns values text).answer ≡ Texts.Text k → take k (writes n rows columns values text).text ≡ bytes
+  pub text_written : (k : ℕ) → (writes n rows columns values text).answer ≡ Ok k → take k (writes n rows columns values text).text ≡ bytes
   unfolding writes
   text_written k e =
-      let a = after_text (counts_written values (text_room (length text) (length bytes) Accepted)) k e in
+      let a = after_text (counts_written values (text_room (length text) (length bytes) (Ok tt))) k e in
       let c = passed (ltb (first_to (length values) (large_at values)) (length values)) (WrittenCountTooLarge (suc (first_to (length values) (large_at values)))) _ a.0 in
       let r = passed (ltb (length text) (length bytes)) (TableFull 5 (length text)) _ c.1 in
       rw (a.2, ← a.1) (laid_front bytes text (ltb-false (length text) (length bytes) r.0))
 
 -- two writings with the same text had the same size and the same lines
 pub same_text : (n n' : ℕ) (rs cs rs' cs' : List ℕ) (vs vs' : List Float) (text text' : List ℕ) (k k' : ℕ)
-    → (writes n rs cs vs text).answer ≡ Texts.Text k → (writes n' rs' cs' vs' text').answer ≡ Texts.Text k'
+    → (writes n rs cs vs text).answer ≡ Ok k → (writes n' rs' cs' vs' text').answer ≡ Ok k'
     → take k (writes n rs cs vs text).text ≡ take k' (writes n' rs' cs' vs' text').text
     → (n ≡ n') × (lines_of rs cs vs ≡ lines_of rs' cs' vs')
 same_text n n' rs cs rs' cs' vs vs' text text' k k' e e' s =

@@ -13,7 +13,7 @@ use Rattle.matrix_market.specs.Counts.{too_large}
 use Rattle.matrix_market.specs.Text.{text_of}
 use Rattle.matrix_market.specs.Writes.{lines_of, large_at, Writing, writes}
 use Rattle.matrix_market.specs.Between.{Entries}
-use Rattle.matrix_market.specs.declared.write.Written.TheVariants as Texts
+use Rattle.std.specs.Prelude.{Ok, Err}
 
 module _ (count n : ℕ) (rows columns : List ℕ) (values : List Float) (text : List ℕ) (a : count ≤ length rows) (b : count ≤ length columns) (d : count ≤ length values) where
   abbrev bytes : List ℕ
@@ -33,7 +33,7 @@ module _ (count n : ℕ) (rows columns : List ℕ) (values : List Float) (text :
     found : first_to (length (take count values)) (large_at (take count values)) ≡ first
     found = first_is ∙ sym is
 
-    pub too_large_lem : first < count → record { answer = Texts.Refused (WrittenCountTooLarge (first + 1)); text = text } ≡ asked
+    pub too_large_lem : first < count → record { answer = Err (WrittenCountTooLarge (first + 1)); text = text } ≡ asked
     unfolding writes
     too_large_lem h = rw (found, length-take-le count values d, lt-ltb first count h, add-one first)
 
@@ -42,7 +42,7 @@ module _ (count n : ℕ) (rows columns : List ℕ) (values : List Float) (text :
       entries = record { rows_long = a; columns_long = b; values_long = d; small = λ k l. first_before count (large_at values) k (omega (arith, is)) }
 
       module _ (fits : Bool) (e : fits ≡ not (ltb (length text) (length bytes))) where
-        pub no_room : not fits ≡ true → record { answer = Texts.Refused (TableFull 5 (length text)); text = text } ≡ asked
+        pub no_room : not fits ≡ true → record { answer = Err (TableFull 5 (length text)); text = text } ≡ asked
         unfolding writes
         no_room f =
             let t : ltb (length text) (length bytes) ≡ true = not-false _ (sym e ∙ not-true fits f) in
@@ -51,7 +51,7 @@ module _ (count n : ℕ) (rows columns : List ℕ) (values : List Float) (text :
         pub room : not fits ≡ false → length bytes ≤ length text
         room f = ltb-false (length text) (length bytes) (not-true _ (sym e ∙ not-false fits f))
 
-        pub all_written : not fits ≡ false → (text' : List ℕ) (r : ℕ) → text' ≡ laid set 0 bytes text → r ≡ length bytes → record { answer = Texts.Text r; text = text' } ≡ asked
+        pub all_written : not fits ≡ false → (text' : List ℕ) (r : ℕ) → text' ≡ laid set 0 bytes text → r ≡ length bytes → record { answer = Ok r; text = text' } ≡ asked
         unfolding writes
         all_written f text' r p q =
             let t : ltb (length text) (length bytes) ≡ false = not-true _ (sym e ∙ not-false fits f) in

@@ -15,13 +15,6 @@ use crate::count::{Count, count_of, is_too_large};
 use crate::decimal::{digits_of, write_field};
 use refusal::Refusal;
 
-// The length of a text that was written, or why none was.
-#[derive(Drop)]
-pub enum Written {
-    Text(usize),
-    Refused(Refusal),
-}
-
 const SPACE: u8 = 32;
 
 const NEWLINE: u8 = 10;
@@ -70,14 +63,12 @@ fn text_fits(
         return false;
     }
     let mut left = room - head;
-    let mut i = 0;
-    while i < count {
+    for i in 0..count {
         let line = line_length(rows[i], columns[i], values[i]);
         if left < line {
             return false;
         }
         left -= line;
-        i += 1;
     }
     true
 }
@@ -87,13 +78,10 @@ fn first_too_large(values: &[f64], count: usize) -> usize
     requires { count ≤ length values.now }
     ensures { result ≡ first_to count (large_at values.now) }
 {
-    let mut k = 0;
-    while k < count {
-        let large = is_too_large(values[k]);
-        if large {
+    for k in 0..count {
+        if is_too_large(values[k]) {
             return k;
         }
-        k += 1;
     }
     count
 }
@@ -134,10 +122,8 @@ fn write_lines(
     ensures { (text.new ≡ laid slice_set at (lines_text (lines_of (take count rows.now) (take count columns.now) (take count values.now))) text.old) × (result ≡ at + length (lines_text (lines_of (take count rows.now) (take count columns.now) (take count values.now)))) }
 {
     let mut end = at;
-    let mut i = 0;
-    while i < count {
+    for i in 0..count {
         end = write_line(rows[i], columns[i], values[i], text, end);
-        i += 1;
     }
     end
 }
@@ -153,11 +139,7 @@ fn copy_bytes(from: &[u8], text: &mut [u8])
     requires { length from.now ≤ length text.old }
     ensures { text.new ≡ laid slice_set 0 from.now text.old }
 {
-    let mut i = 0;
-    while i < from.len() {
-        text[i] = from[i];
-        i += 1;
-    }
+    text[..from.len()].copy_from_slice(from);
 }
 
 fn write_size(n: usize, count: usize, text: &mut [u8], at: usize) -> usize
@@ -195,21 +177,21 @@ pub fn write_entries(
     count: usize,
     n: usize,
     text: &mut [u8],
-) -> Written
+) -> Result<usize, Refusal>
     requires { (count ≤ length rows.now) × (count ≤ length columns.now) × (count ≤ length values.now) }
     ensures { record { answer = result; text = text.new } ≡ writes n (take count rows.now) (take count columns.now) (take count values.now) text.old }
 {
     let first = first_too_large(values, count);
     if first < count {
-        return Written::Refused(Refusal::WrittenCountTooLarge { entry: first + 1 });
+        return Err(Refusal::WrittenCountTooLarge { entry: first + 1 });
     }
     let room = text.len();
     let fits = text_fits(rows, columns, values, count, n, room);
     if !fits {
-        return Written::Refused(Refusal::TableFull {
+        return Err(Refusal::TableFull {
             table: 5,
             places: room,
         });
     }
-    Written::Text(write_text(rows, columns, values, count, n, text))
+    Ok(write_text(rows, columns, values, count, n, text))
 }

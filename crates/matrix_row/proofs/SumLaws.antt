@@ -44,7 +44,6 @@ module _ (input : List Float) (cs : List ℕ) (vs : List Float) where
 
   -- ---- a walk that has passed the first k entries
   pub record Passing (sum : Float) (least k : ℕ) : Type 0 where
-    pub room : k ≤ length cs
     pub placed : Placed (length input) cs least k
     pub none : NoneBefore bad k
     pub summed : sum ≡ full_sum input (take k (beside cs vs))
@@ -61,14 +60,13 @@ module _ (input : List Float) (cs : List ℕ) (vs : List Float) where
 
     pub passing_start : Passing float0 0 0
     unfolding add_products
-    passing_start = record { room = omega arith; placed = placed_start (length input) cs; none = none_start bad; summed = refl }
+    passing_start = record { placed = placed_start (length input) cs; none = none_start bad; summed = refl }
 
-    pub all_passed : (sum : Float) (least k : ℕ) → Passing sum least k → length cs ≤ k → RowWalked input cs vs (record { passed = k; sum = sum })
+    pub all_passed : (sum : Float) (least k : ℕ) → Passing sum least k → length cs ≤ k → RowWalked input cs vs (record { passed = length cs; sum = sum })
     all_passed sum least k p h =
         let l = beside_length cs vs same in
-        let e : k ≡ length cs = omega (arith, p.room) in
         record {
-          stopped = e ∙ sym (first_none (length cs) bad (λ i m. p.none i (omega arith)));
+          stopped = sym (first_none (length cs) bad (λ i m. p.none i (omega arith)));
           summed = λ _. p.summed ∙ ap (full_sum input) (take_all k (beside cs vs) (omega arith));
         }
 
@@ -85,7 +83,6 @@ module _ (input : List Float) (cs : List ℕ) (vs : List Float) where
       pub passing_more : found ≡ false → Passing (add binary64 sum (mul binary64 (get_or vs k nan) x)) (column + 1) (k + 1)
       unfolding add_product
       passing_more good = record {
-        room = omega arith;
         placed = placed_next (length input) cs least k column p.placed is tested good;
         none = none_more bad k p.none (sym found_is ∙ good);
         summed = sym (sum_next k h ∙ ap (λ (s : Float). add_product input s (entry_at cs vs k)) (sym p.summed) ∙ ap (λ (c : ℕ). add binary64 sum (mul binary64 (get_or vs k nan) (get_or input c nan))) (sym is));

@@ -36,18 +36,18 @@ pub fn sum_row(columns: &[u32], values: &[f64], input: &[f64]) -> RowSum
 {
     let mut sum = 0.0;
     let mut least = 0;
-    let mut k = 0;
-    while k < columns.len() {
+    for k in 0..columns.len() {
         let column = wide(columns[k]);
-        let bad = is_misplaced(column, least, input.len());
-        if bad {
+        if is_misplaced(column, least, input.len()) {
             return RowSum { passed: k, sum };
         }
         sum = sum + values[k] * input[column];
         least = column + 1;
-        k += 1;
     }
-    RowSum { passed: k, sum }
+    RowSum {
+        passed: columns.len(),
+        sum,
+    }
 }
 
 // What is to be stored where y stands.

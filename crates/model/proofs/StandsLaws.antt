@@ -11,8 +11,8 @@ use lib.Dec.{ltb}
 use lib.Ieee.{nan}
 use lib.ListN.{get_or, length}
 use Rattle.refusal.specs.declared.Refusal.TheVariants.{TooManyQubits, NumberOutOfRange}
-use Rattle.refusal.specs.declared.Answer.{Answer}
-use Rattle.refusal.specs.declared.Answer.TheVariants.{Accepted}
+use Rattle.std.specs.Prelude.{Ok}
+use Rattle.refusal.specs.Cause.{Answer}
 use Rattle.word.specs.Word.{max_qubits, identity}
 use Rattle.word.specs.Register.{reaches}
 use Rattle.word.specs.Flat.{words, word_lanes}
@@ -34,7 +34,7 @@ second : (a b : Bool) → (a && b) ≡ false → a ≡ true → b ≡ false
 second true b h e = h
 second false b h e = absurd (true≢false (sym e))
 
-pub none_bad : (n : ℕ) (f : ℕ → Bool) (after : Answer) → entries n f after ≡ Accepted → NoneBefore f n × (after ≡ Accepted)
+pub none_bad : (n : ℕ) (f : ℕ → Bool) (after : Answer) → entries n f after ≡ Ok tt → NoneBefore f n × (after ≡ Ok tt)
 unfolding entries
 none_bad n f after e =
     let p = passed (ltb (first_to n f) n) (NumberOutOfRange (first_to n f)) after e in
@@ -99,7 +99,7 @@ module _ (m : Model) (t : ModelTables) where
           rw (r.re, r.im)
 
   -- ---- all of them
-  pub tested_stands : test_model m t ≡ Accepted → Stands m t
+  pub tested_stands : test_model m t ≡ Ok tt → Stands m t
   unfolding test_model
   tested_stands e =
       let e0 = passed (ltb max_qubits m.qubits) (TooManyQubits m.qubits max_qubits) _ e in
@@ -131,9 +131,9 @@ module _ (m : Model) (t : ModelTables) where
         givens = λ i l j k h. given_good i (e11.0 i l) j k h;
       }
 
-  pub stands_tested : Stands m t → test_model m t ≡ Accepted
+  pub stands_tested : Stands m t → test_model m t ≡ Ok tt
   stands_tested s =
-      sym (entries_passed m.terms (bad_term m.qubits m.jumps t) Accepted (sym (first_none m.terms _ (λ i l. good_term i (s.terms i l) (s.givens i l)))) (omega arith)
+      sym (entries_passed m.terms (bad_term m.qubits m.jumps t) (Ok tt) (sym (first_none m.terms _ (λ i l. good_term i (s.terms i l) (s.givens i l)))) (omega arith)
       ∙ entries_passed m.jumps (bad_entry m.terms t) (terms_on m t) (sym (first_none m.jumps _ (λ j l. good_entry j (s.kinds j l) (s.fits j l)))) (omega arith)
       ∙ entries_passed m.hamiltonian (bad_real m.qubits t) (jumps_on m t) (sym (first_none m.hamiltonian _ (λ i l. good_real i (s.reals i l)))) (omega arith)
       ∙ lent_enough m.terms (length t.t_numbers / 2) (hamiltonian_on m t) (omega (arith, s.t_numbers_room))

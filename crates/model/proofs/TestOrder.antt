@@ -7,8 +7,8 @@ use Prim.Native.Nat.{◌/◌, ◌≤◌, ◌<◌}
 use borrow.Author.Tests.{lt-ltb, le-ltb}
 use lib.ListN.{length}
 use Rattle.refusal.specs.declared.Refusal.TheVariants.{TooManyQubits}
-use Rattle.refusal.specs.declared.Answer.{Answer}
-use Rattle.refusal.specs.declared.Answer.TheVariants.{Accepted, Refused}
+use Rattle.std.specs.Prelude.{Ok, Err}
+use Rattle.refusal.specs.Cause.{Answer}
 use Rattle.word.specs.Flat.{word_lanes}
 use Rattle.word.specs.Word.{max_qubits}
 use Rattle.model.specs.Stored.{ModelTables}
@@ -19,7 +19,7 @@ use Rattle.lent.specs.Tests.{counted, lent, entries}
 -- ---- the tests from each on
 module _ (m : Model) (t : ModelTables) where
   abbrev pub terms_on : Answer
-  terms_on = entries m.terms (bad_term m.qubits m.jumps t) Accepted
+  terms_on = entries m.terms (bad_term m.qubits m.jumps t) (Ok tt)
 
   abbrev pub jumps_on : Answer
   jumps_on = entries m.jumps (bad_entry m.terms t) terms_on
@@ -51,7 +51,7 @@ module _ (m : Model) (t : ModelTables) where
   abbrev pub count_on : Answer
   count_on = counted max_hamiltonian m.hamiltonian jump_count_on
 
-  pub qubits_above : max_qubits < m.qubits → Refused (TooManyQubits m.qubits max_qubits) ≡ test_model m t
+  pub qubits_above : max_qubits < m.qubits → Err (TooManyQubits m.qubits max_qubits) ≡ test_model m t
   unfolding test_model
   qubits_above h = rw (lt-ltb max_qubits m.qubits h)
 

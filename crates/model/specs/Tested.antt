@@ -2,10 +2,9 @@
 -- SPDX-License-Identifier: Apache-2.0
 
 -- Testing a lent model: 1 and 8, then the tables of Hamiltonian terms, of jumps and pairs, and of terms, entry by entry.
-use Rattle.std.specs.Prelude.{ℕ, ◌+◌, ◌-◌, ◌*◌, ◌/◌, Bool, not, ◌&&◌, ◌||◌, ltb, leb, get_or, length, [], ◌∷◌}
+use Rattle.std.specs.Prelude.{ℕ, ◌+◌, ◌-◌, ◌*◌, ◌/◌, Bool, not, ◌&&◌, ◌||◌, ltb, leb, get_or, length, [], ◌∷◌, Ok}
 use Rattle.std.specs.Float.{nan}
-use Rattle.refusal.specs.declared.Answer.{Answer}
-use Rattle.refusal.specs.declared.Answer.TheVariants.{Accepted}
+use Rattle.refusal.specs.Cause.{Answer}
 use Rattle.word.specs.Count.{any_to}
 use Rattle.word.specs.Word.{identity}
 use Rattle.word.specs.Register.{reaches}
@@ -72,4 +71,4 @@ test_model m t =
     ∷ entries m.hamiltonian (bad_real m.qubits t)
     ∷ entries m.jumps (bad_entry m.terms t)
     ∷ entries m.terms (bad_term m.qubits m.jumps t)
-    ∷ []) Accepted
+    ∷ []) (Ok tt)

@@ -14,7 +14,7 @@ ghost use Rattle.lent.specs.Tests.{first_to};
 use crate::stored::{JUMP_NUMBERS, Jump, Model, Range, jump_at};
 use lent::sizes::smaller;
 use number::scalar::{bounded, in_range};
-use refusal::{Answer, Refusal};
+use refusal::Refusal;
 use word::flat::{WORD_LANES, word_at};
 use word::word::{MAX_QUBITS, Word, reaches_beyond};
 
@@ -38,12 +38,10 @@ fn test_hamiltonian(n: usize, count: usize, words: &[u64], coeffs: &[f64]) -> us
     requires { (word_lanes * count ≤ length words.now) × (count ≤ length coeffs.now) }
     ensures { result ≡ first_to count (real_fails n words.now coeffs.now) }
 {
-    let mut i = 0;
-    while i < count {
+    for i in 0..count {
         if bad_real(word_at(words, i), coeffs[i], n) {
             return i;
         }
-        i += 1;
     }
     count
 }
@@ -149,12 +147,10 @@ fn test_jumps(count: usize, jumps: &[u64], rates: &[f64], places: usize) -> usiz
     requires { (8 * count ≤ length jumps.now) × (count ≤ length rates.now) }
     ensures { result ≡ first_to count (entry_fails places jumps.now rates.now) }
 {
-    let mut j = 0;
-    while j < count {
+    for j in 0..count {
         if bad_entry(jumps, rates, j, places) {
             return j;
         }
-        j += 1;
     }
     count
 }
@@ -177,12 +173,10 @@ fn test_each(n: usize, terms: usize, words: &[u64], numbers: &[f64]) -> usize
     requires { (word_lanes * terms ≤ length words.now) × (2 * terms ≤ length numbers.now) }
     ensures { result ≡ first_to terms (term_fails n words.now numbers.now) }
 {
-    let mut i = 0;
-    while i < terms {
+    for i in 0..terms {
         if bad_term(word_at(words, i), numbers[i * 2], numbers[i * 2 + 1], n) {
             return i;
         }
-        i += 1;
     }
     terms
 }
@@ -204,12 +198,10 @@ pub fn test_range(r: Range, numbers: &[f64], terms: usize) -> usize
     ensures { result ≡ first_to terms (fails_in r numbers.now) }
 {
     let end = smaller(r.end, terms);
-    let mut i = r.start;
-    while i < end {
+    for i in r.start..end {
         if bad_given(numbers[i * 2], numbers[i * 2 + 1]) {
             return i;
         }
-        i += 1;
     }
     terms
 }
@@ -259,10 +251,8 @@ fn test_given(count: usize, jumps: &[u64], rates: &[f64], numbers: &[f64], terms
     ensures { result ≡ first_to terms (given_fails count jumps.now rates.now numbers.now) }
 {
     let mut first = terms;
-    let mut j = 0;
-    while j < count {
+    for j in 0..count {
         first = smaller(first, test_jump(jump_at(jumps, rates, j), numbers, terms));
-        j += 1;
     }
     first
 }
@@ -294,70 +284,70 @@ pub fn test_model(
     rates: &[f64],
     t_words: &[u64],
     t_numbers: &[f64],
-) -> Answer
+) -> Result<(), Refusal>
     ensures { result ≡ test_model m (model_tables h_words.now h_coeffs.now jumps.now rates.now t_words.now t_numbers.now) }
 {
     if MAX_QUBITS < m.qubits {
-        return Answer::Refused(Refusal::TooManyQubits {
+        return Err(Refusal::TooManyQubits {
             got: m.qubits,
             max: MAX_QUBITS,
         });
     }
     if MAX_HAMILTONIAN < m.hamiltonian {
-        return Answer::Refused(Refusal::CountAboveLimit {
+        return Err(Refusal::CountAboveLimit {
             count: m.hamiltonian,
         });
     }
     if MAX_JUMPS < m.jumps {
-        return Answer::Refused(Refusal::CountAboveLimit { count: m.jumps });
+        return Err(Refusal::CountAboveLimit { count: m.jumps });
     }
     if h_words.len() / WORD_LANES < m.hamiltonian {
-        return Answer::Refused(Refusal::LengthMismatch {
+        return Err(Refusal::LengthMismatch {
             needed: m.hamiltonian,
             given: h_words.len() / WORD_LANES,
         });
     }
     if h_coeffs.len() < m.hamiltonian {
-        return Answer::Refused(Refusal::LengthMismatch {
+        return Err(Refusal::LengthMismatch {
             needed: m.hamiltonian,
             given: h_coeffs.len(),
         });
     }
     if jumps.len() / JUMP_NUMBERS < m.jumps {
-        return Answer::Refused(Refusal::LengthMismatch {
+        return Err(Refusal::LengthMismatch {
             needed: m.jumps,
             given: jumps.len() / JUMP_NUMBERS,
         });
     }
     if rates.len() < m.jumps {
-        return Answer::Refused(Refusal::LengthMismatch {
+        return Err(Refusal::LengthMismatch {
             needed: m.jumps,
             given: rates.len(),
         });
     }
     if t_words.len() / WORD_LANES < m.terms {
-        return Answer::Refused(Refusal::LengthMismatch {
+        return Err(Refusal::LengthMismatch {
             needed: m.terms,
             given: t_words.len() / WORD_LANES,
         });
     }
     if t_numbers.len() / 2 < m.terms {
-        return Answer::Refused(Refusal::LengthMismatch {
+        return Err(Refusal::LengthMismatch {
             needed: m.terms,
             given: t_numbers.len() / 2,
         });
     }
     let real = test_hamiltonian(m.qubits, m.hamiltonian, h_words, h_coeffs);
     if real < m.hamiltonian {
-        return Answer::Refused(Refusal::NumberOutOfRange { index: real });
+        return Err(Refusal::NumberOutOfRange { index: real });
     }
     let entry = test_jumps(m.jumps, jumps, rates, m.terms);
     if entry < m.jumps {
-        return Answer::Refused(Refusal::NumberOutOfRange { index: entry });
+        return Err(Refusal::NumberOutOfRange { index: entry });
     }
     let term = test_terms(m.qubits, m.jumps, jumps, rates, m.terms, t_words, t_numbers);
     if term < m.terms {
-        return Answer::Refused(Refusal::NumberOutOfRange { index: term });
+        return Err(Refusal::NumberOutOfRange { index: term });
     }
-    Answer::Accepted
+    Ok(())
 }

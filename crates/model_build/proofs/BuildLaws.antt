@@ -16,14 +16,15 @@ use lib.ListN.{get_or, length, drop, length-drop, get_or-eq_default}
 use lib.Seq.{length-take-le}
 use Rattle.refusal.specs.declared.Refusal.{Refusal}
 use Rattle.refusal.specs.declared.Refusal.TheVariants.{TooManyQubits}
-use Rattle.refusal.specs.declared.Answer.{Answer}
-use Rattle.refusal.specs.declared.Answer.TheVariants.{Accepted, Refused}
+use Rattle.std.specs.Prelude.{Ok, Err}
+use Rattle.refusal.specs.Cause.{Answer}
+use Rattle.refusal.proofs.Told.{refused_not, refused_same}
 use Rattle.word.specs.Flat.{word_lanes}
 use Rattle.word.specs.Word.{max_qubits}
 use Rattle.number.specs.Floats.{floats}
 use Rattle.gksl.specs.Model.{RealTerm, JumpOver}
 use Rattle.gksl.specs.Words.{pauli}
-use Rattle.lent.proofs.Passed.{both, counted_passed, equal_passed, lent_passed, passed, refused_not, refused_same}
+use Rattle.lent.proofs.Passed.{both, counted_passed, equal_passed, lent_passed, passed}
 use Rattle.sums.specs.Numbers.{complexes}
 use Rattle.model.specs.Stored.{ModelTables}
 use Rattle.model.specs.Tested.{max_hamiltonian, max_jumps}
@@ -34,7 +35,6 @@ use Rattle.model_build.specs.Compiled.{compile_jump}
 use Rattle.model_build.specs.Built.{Input, parts, real_items, term_items, jump_items, hamiltonian, jumps_given, parts_fit, work_places, lengths_answer, read_hamiltonian, read_jumps, Building, refusal, tested, when_read, compiled_model, build}
 use Rattle.model_build.specs.Checked.{given_answer, real_lengths, term_lengths, term_texts}
 use Rattle.model_build.specs.Work.{JumpsFit, JumpsWork, jumps_compiled}
-use Rattle.model_build.specs.declared.spec.Built.TheVariants as Answers
 use Rattle.model_build.proofs.Parts.{fit_total, total_split, drop_parts}
 use Rattle.lent.specs.Tests.{counted, where_any, and_then}
 use Rattle.lent.proofs.NeedLaws.{need_some}
@@ -60,7 +60,7 @@ pub record LengthsFit (i : Input) (t : ModelTables) (workWords : List ℕ) (work
   pub work_numbers_room : where_any (length i.rates) work_places ≤ length workNumbers / 2
 
 module _ (i : Input) (t : ModelTables) (workWords : List ℕ) (workNumbers : List Float) where
-  pub lengths_fit : lengths_answer i t workWords workNumbers ≡ Accepted → LengthsFit i t workWords workNumbers
+  pub lengths_fit : lengths_answer i t workWords workNumbers ≡ Ok tt → LengthsFit i t workWords workNumbers
   unfolding lengths_answer
   lengths_fit e =
       let h : ℕ = length i.h_numbers in
@@ -116,41 +116,41 @@ module _ (n : ℕ) (i : Input) (t : ModelTables) (workWords : List ℕ) (workNum
   -- the tests before the items
   abbrev first_tests : Answer
   first_tests =
-      cond (ltb max_qubits n) (Refused (TooManyQubits n max_qubits)) (counted max_hamiltonian (length i.h_numbers) (counted max_jumps (length i.rates) (lengths_answer i t workWords workNumbers)))
+      cond (ltb max_qubits n) (Err (TooManyQubits n max_qubits)) (counted max_hamiltonian (length i.h_numbers) (counted max_jumps (length i.rates) (lengths_answer i t workWords workNumbers)))
 
   module _ {A B : Type 0} where
     -- the first refusal is the answer
-    stops : (a : Answer) (x : Read A) (y : Read B) (f : A → B → Building) (r : Refusal) → and_then a (and_then (answer_of x) (answer_of y)) ≡ Refused r
+    stops : (a : Answer) (x : Read A) (y : Read B) (f : A → B → Building) (r : Refusal) → and_then a (and_then (answer_of x) (answer_of y)) ≡ Err r
         → tested t workWords workNumbers a (when_read t workWords workNumbers x (λ hs. when_read t workWords workNumbers y (λ js. f hs js)))
-        ≡ refusal t workWords workNumbers (Answers.Refused r)
-    stops Accepted (got hs) (got js) f r e = absurd (refused_not r (sym e))
-    stops Accepted (got hs) (refused s) f r e = ap (λ (q : Refusal). refusal t workWords workNumbers (Answers.Refused q)) (refused_same s r e)
-    stops Accepted (refused s) y f r e = ap (λ (q : Refusal). refusal t workWords workNumbers (Answers.Refused q)) (refused_same s r e)
-    stops (Refused s) x y f r e = ap (λ (q : Refusal). refusal t workWords workNumbers (Answers.Refused q)) (refused_same s r e)
+        ≡ refusal t workWords workNumbers (Err r)
+    stops (Ok _) (got hs) (got js) f r e = absurd (refused_not r tt (sym e))
+    stops (Ok _) (got hs) (refused s) f r e = ap (λ (q : Refusal). refusal t workWords workNumbers (Err q)) (refused_same s r e)
+    stops (Ok _) (refused s) y f r e = ap (λ (q : Refusal). refusal t workWords workNumbers (Err q)) (refused_same s r e)
+    stops (Err s) x y f r e = ap (λ (q : Refusal). refusal t workWords workNumbers (Err q)) (refused_same s r e)
 
     -- what was read is what is gone on with
-    goes : (a : Answer) (x : Read A) (y : Read B) (f : A → B → Building) (hs : A) (js : B) → a ≡ Accepted → x ≡ got hs → y ≡ got js
+    goes : (a : Answer) (x : Read A) (y : Read B) (f : A → B → Building) (hs : A) (js : B) → a ≡ Ok tt → x ≡ got hs → y ≡ got js
         → tested t workWords workNumbers a (when_read t workWords workNumbers x (λ hs. when_read t workWords workNumbers y (λ js. f hs js))) ≡ f hs js
     goes a x y f hs js ea ex ey = rw (ea, ex, ey)
 
     -- all were read
-    all_read : (a : Answer) (x : Read A) (y : Read B) → and_then a (and_then (answer_of x) (answer_of y)) ≡ Accepted
-        → (a ≡ Accepted) × (hs : A) × (x ≡ got hs) × (js : B) × (y ≡ got js)
-    all_read Accepted (got hs) (got js) e = (refl, hs, refl, js, refl)
-    all_read Accepted (got hs) (refused s) e = absurd (refused_not s e)
-    all_read Accepted (refused s) y e = absurd (refused_not s e)
-    all_read (Refused s) x y e = absurd (refused_not s e)
+    all_read : (a : Answer) (x : Read A) (y : Read B) → and_then a (and_then (answer_of x) (answer_of y)) ≡ Ok tt
+        → (a ≡ Ok tt) × (hs : A) × (x ≡ got hs) × (js : B) × (y ≡ got js)
+    all_read (Ok _) (got hs) (got js) e = (refl, hs, refl, js, refl)
+    all_read (Ok _) (got hs) (refused s) e = absurd (refused_not s tt e)
+    all_read (Ok _) (refused s) y e = absurd (refused_not s tt e)
+    all_read (Err s) x y e = absurd (refused_not s tt e)
 
-  pub build_refused : (r : Refusal) → given_answer n i t workWords workNumbers ≡ Refused r
-      → build n i t workWords workNumbers ≡ record { answer = Answers.Refused r; tables = t; work_words = workWords; work_numbers = workNumbers }
+  pub build_refused : (r : Refusal) → given_answer n i t workWords workNumbers ≡ Err r
+      → build n i t workWords workNumbers ≡ record { answer = Err r; tables = t; work_words = workWords; work_numbers = workNumbers }
   unfolding given_answer build
   build_refused r e =
       stops first_tests (read_hamiltonian n i) (read_jumps n i)
       (λ (hs : List (RealTerm floats pauli)) (js : List (JumpOver floats pauli)). compiled_model n i t workWords workNumbers hs (map compile_jump js)) r e
 
   -- the same for the answer of the tests: a caller names neither side of an equation
-  pub refused_so : (answer : Answer) (r : Refusal) → answer ≡ given_answer n i t workWords workNumbers → answer ≡ Refused r
-      → record { answer = Answers.Refused r; tables = t; work_words = workWords; work_numbers = workNumbers } ≡ build n i t workWords workNumbers
+  pub refused_so : (answer : Answer) (r : Refusal) → answer ≡ given_answer n i t workWords workNumbers → answer ≡ Err r
+      → record { answer = Err r; tables = t; work_words = workWords; work_numbers = workNumbers } ≡ build n i t workWords workNumbers
   refused_so answer r e told = sym (build_refused r (sym e ∙ told))
 
 -- ---- the count of each jump is that of its terms
@@ -209,7 +209,7 @@ module _ (n : ℕ) (i : Input) (t : ModelTables) (workWords : List ℕ) (workNum
             omega (arith, count, few.1)
         go (no h) = let z = get_or-eq_default i.counts 0 {n = j} (omega arith) in omega (arith, z)
 
-  pub build_accepted : given_answer n i t workWords workNumbers ≡ Accepted → Accepts n i t workWords workNumbers
+  pub build_accepted : given_answer n i t workWords workNumbers ≡ Ok tt → Accepts n i t workWords workNumbers
   unfolding given_answer build
   build_accepted e =
       let a = all_read n i t workWords workNumbers (first_tests n i t workWords workNumbers) (read_hamiltonian n i) (read_jumps n i) e in

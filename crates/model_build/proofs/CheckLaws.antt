@@ -12,8 +12,8 @@ use lib.Ieee.{Float}
 use lib.ListN.{length, take, drop}
 use Rattle.refusal.specs.declared.Refusal.{Refusal}
 use Rattle.refusal.specs.declared.Refusal.TheVariants.{TooManyQubits, CountAboveLimit}
-use Rattle.refusal.specs.declared.Answer.{Answer}
-use Rattle.refusal.specs.declared.Answer.TheVariants.{Accepted, Refused}
+use Rattle.std.specs.Prelude.{Ok, Err}
+use Rattle.refusal.specs.Cause.{Answer}
 use Rattle.word.specs.Word.{max_qubits}
 use Rattle.sums.specs.Numbers.{complexes}
 use Rattle.model.specs.Stored.{ModelTables}
@@ -81,33 +81,33 @@ module _ (i : Input) (t : ModelTables) (workWords : List ℕ) (workNumbers : Lis
 
 -- ---- the tests
 module _ (n : ℕ) (i : Input) (t : ModelTables) (workWords : List ℕ) (workNumbers : List Float) where
-  pub qubits_above : max_qubits < n → Refused (TooManyQubits n max_qubits) ≡ given_answer n i t workWords workNumbers
+  pub qubits_above : max_qubits < n → Err (TooManyQubits n max_qubits) ≡ given_answer n i t workWords workNumbers
   unfolding given_answer
   qubits_above h = rw (lt-ltb max_qubits n h)
 
   module _ (within : n ≤ max_qubits) where
-    pub reals_above : 4096 < length i.h_numbers → Refused (CountAboveLimit (length i.h_numbers)) ≡ given_answer n i t workWords workNumbers
+    pub reals_above : 4096 < length i.h_numbers → Err (CountAboveLimit (length i.h_numbers)) ≡ given_answer n i t workWords workNumbers
     unfolding given_answer
     reals_above h = rw (le-ltb max_qubits n within, lt-ltb 4096 (length i.h_numbers) h)
 
     module _ (few-reals : length i.h_numbers ≤ 4096) where
-      pub jumps_above : 4096 < length i.rates → Refused (CountAboveLimit (length i.rates)) ≡ given_answer n i t workWords workNumbers
+      pub jumps_above : 4096 < length i.rates → Err (CountAboveLimit (length i.rates)) ≡ given_answer n i t workWords workNumbers
       unfolding given_answer
       jumps_above h = rw (le-ltb max_qubits n within, le-ltb 4096 (length i.h_numbers) few-reals, lt-ltb 4096 (length i.rates) h)
 
       module _ (few-jumps : length i.rates ≤ 4096) (agree : Answer) (agree-is : agree ≡ lengths_answer i t workWords workNumbers) where
-        pub lengths_refused : (r : Refusal) → agree ≡ Refused r → agree ≡ given_answer n i t workWords workNumbers
+        pub lengths_refused : (r : Refusal) → agree ≡ Err r → Err r ≡ given_answer n i t workWords workNumbers
         unfolding given_answer
         lengths_refused r h =
             rw (le-ltb max_qubits n within, le-ltb 4096 (length i.h_numbers) few-reals, le-ltb 4096 (length i.rates) few-jumps, sym agree-is, h)
 
-        module _ (agreed : agree ≡ Accepted) (reals : Answer) (reals-are : reals ≡ answer_of (read_hamiltonian n i)) where
-          pub reals_refused : (r : Refusal) → reals ≡ Refused r → reals ≡ given_answer n i t workWords workNumbers
+        module _ (agreed : agree ≡ Ok tt) (reals : Answer) (reals-are : reals ≡ answer_of (read_hamiltonian n i)) where
+          pub reals_refused : (r : Refusal) → reals ≡ Err r → Err r ≡ given_answer n i t workWords workNumbers
           unfolding given_answer
           reals_refused r h =
               rw (le-ltb max_qubits n within, le-ltb 4096 (length i.h_numbers) few-reals, le-ltb 4096 (length i.rates) few-jumps, sym agree-is, agreed, sym reals-are, h)
 
-          pub jumps_last : reals ≡ Accepted → (a : Answer) → a ≡ answer_of (read_jumps n i) → a ≡ given_answer n i t workWords workNumbers
+          pub jumps_last : reals ≡ Ok tt → (a : Answer) → a ≡ answer_of (read_jumps n i) → a ≡ given_answer n i t workWords workNumbers
           unfolding given_answer
           jumps_last h a is =
               rw (le-ltb max_qubits n within, le-ltb 4096 (length i.h_numbers) few-reals, le-ltb 4096 (length i.rates) few-jumps, sym agree-is, agreed, sym reals-are, h) is

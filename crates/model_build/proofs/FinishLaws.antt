@@ -16,7 +16,7 @@ use Rattle.word.specs.Flat.{word_lanes}
 use Rattle.number.specs.Floats.{floats, float0}
 use Rattle.gksl.specs.Model.{RealTerm}
 use Rattle.gksl.specs.Words.{pauli}
-use Rattle.model_build.specs.declared.spec.Built.TheVariants as Answers
+use Rattle.std.specs.Prelude.{Ok, Err}
 use Rattle.model.specs.Stored.{ModelTables}
 use Rattle.model_build.specs.Compiled.{Compiled}
 use Rattle.model_build.specs.Built.{Input, parts, real_items, jump_items, terms_of, term_places, finished, stored, build}
@@ -80,7 +80,7 @@ module _ (n : ℕ) (i : Input) (t : ModelTables) (workWords : List ℕ) (workNum
       module _ (words' : List ℕ) (numbers' : List Float) (cw : words' ≡ replicate (length workWords) 0) (cn : numbers' ≡ replicate (length workNumbers) float0) where
         -- a table that is full stays as it was
         pub built_full : not fit ≡ true
-            → record { answer = Answers.Refused (TableFull 4 places); tables = t; work_words = words'; work_numbers = numbers' } ≡ build n i t workWords workNumbers
+            → record { answer = Err (TableFull 4 places); tables = t; work_words = words'; work_numbers = numbers' } ≡ build n i t workWords workNumbers
         built_full h =
             let full : term_places t < length (terms_of jumps) = rw (← p, ← terms_are) (leb-false (length (terms_of taken)) places (sym fit_is ∙ not-true fit h)) in
             rw (cw, cn, p, a.build_is, lt-ltb (term_places t) (length (terms_of jumps)) full)
@@ -95,7 +95,7 @@ module _ (n : ℕ) (i : Input) (t : ModelTables) (workWords : List ℕ) (workNum
               rw (lays.lanes_are, lays.coeffs_are, s.entries_are, s.rates_are, s.lays.lanes_are, s.lays.numbers_are, own_is i, taken_are) refl
 
           pub built_model : record {
-            answer = Answers.Model (record { qubits = n; hamiltonian = length i.h_numbers; jumps = length i.rates; terms = terms });
+            answer = Ok (record { qubits = n; hamiltonian = length i.h_numbers; jumps = length i.rates; terms = terms });
             tables = record { h_words = hWords'; h_coeffs = hCoeffs'; jumps = jumps'; rates = rates'; t_words = tWords'; t_numbers = tNumbers' };
             work_words = words';
             work_numbers = numbers';
@@ -104,12 +104,12 @@ module _ (n : ℕ) (i : Input) (t : ModelTables) (workWords : List ℕ) (workNum
               let all : terms ≡ length (terms_of jumps) = stores.1 ∙ terms_are in
               let room : length (terms_of jumps) ≤ term_places t = rw (← p, ← terms_are) (hold h) in
               (λ k. record {
-                answer = Answers.Model (record { qubits = n; hamiltonian = (sym reals_are) k; jumps = (sym jumps_number) k; terms = all k });
+                answer = Ok (record { qubits = n; hamiltonian = (sym reals_are) k; jumps = (sym jumps_number) k; terms = all k });
                 tables = tables_are k;
                 work_words = cw k;
                 work_numbers = cn k;
               })
-              ∙ sym (a.build_is ∙ ap (λ (b : Bool). cond b (finished t workWords workNumbers (Answers.Refused (TableFull 4 (term_places t))) t) (finished t workWords workNumbers (Answers.Model (record { qubits = n; hamiltonian = length reals; jumps = length jumps; terms = length (terms_of jumps) })) (stored reals jumps t))) (le-ltb (term_places t) (length (terms_of jumps)) room))
+              ∙ sym (a.build_is ∙ ap (λ (b : Bool). cond b (finished t workWords workNumbers (Err (TableFull 4 (term_places t))) t) (finished t workWords workNumbers (Ok (record { qubits = n; hamiltonian = length reals; jumps = length jumps; terms = length (terms_of jumps) })) (stored reals jumps t))) (le-ltb (term_places t) (length (terms_of jumps)) room))
 
       pub jumps_room : not fit ≡ false → JumpsRoom taken 0 0 t.jumps t.rates t.t_words t.t_numbers
       jumps_room h =

@@ -11,14 +11,12 @@ use lib.Ieee.{Float, lt}
 use lib.ListN.{length}
 use Rattle.refusal.specs.declared.Refusal.{Refusal}
 use Rattle.refusal.specs.declared.Refusal.TheVariants.{NegativeRate, EmptyLincomb, NumberOutOfRange, CountAboveLimit}
-use Rattle.refusal.specs.declared.Answer.{Answer}
-use Rattle.refusal.specs.declared.Answer.TheVariants.{Accepted, Refused}
+use Rattle.std.specs.Prelude.{Result, Ok, Err}
+use Rattle.word.specs.declared.word.Word.{Word}
+use Rattle.refusal.specs.Cause.{Answer}
 use Rattle.notation.specs.Text.{parse}
-use Rattle.word.specs.declared.word.Lanes.{Lanes}
-use Rattle.notation.specs.declared.texts.ParsedWord.{ParsedWord}
-use Rattle.notation.specs.declared.texts.ParsedWord.TheVariants as Texts
 use Rattle.number.specs.Floats.{float0, in_range}
-use Rattle.model_build.specs.Given.{GivenReal, GivenTerm, GivenJump, read_parsed, read_real, read_term, read_operator, read_jump}
+use Rattle.model_build.specs.Given.{GivenReal, GivenTerm, GivenJump, read_real, read_term, read_operator, read_jump}
 use Rattle.model_build.specs.Built.{parts, term_items}
 use Rattle.sums.specs.Numbers.{complexes}
 use Rattle.model_build.specs.Items.{answer_of, read_terms}
@@ -26,37 +24,37 @@ use Rattle.model_build.proofs.Parts.{length_parts, length_complexes, length_term
 use Rattle.lent.specs.Read.{Read, got, refused, onward}
 
 -- ---- an item of a Hamiltonian, whose text was read
-module _ (n i : ℕ) (g : GivenReal) (p : ParsedWord) (is : p ≡ parse n g.text) where
-  pub real_text : (r : Refusal) → p ≡ Texts.Refused r → answer_of (read_parsed p) ≡ answer_of (read_real n i g)
+module _ (n i : ℕ) (g : GivenReal) (p : Result Word Refusal) (is : p ≡ parse n g.text) where
+  pub real_text : (r : Refusal) → p ≡ Err r → Err r ≡ answer_of (read_real n i g)
   unfolding read_real
   real_text r h = rw (← is, h)
 
-  module _ (l : Lanes) (h : p ≡ Texts.Parsed l) (x : Bool) (ranged : x ≡ in_range g.number) where
-    pub real_number : not x ≡ true → Refused (NumberOutOfRange i) ≡ answer_of (read_real n i g)
+  module _ (l : Word) (h : p ≡ Ok l) (x : Bool) (ranged : x ≡ in_range g.number) where
+    pub real_number : not x ≡ true → Err (NumberOutOfRange i) ≡ answer_of (read_real n i g)
     unfolding read_real
     real_number t = rw (← is, h, ← ranged, t)
 
-    pub real_accepted : not x ≡ false → Accepted ≡ answer_of (read_real n i g)
+    pub real_accepted : not x ≡ false → (Ok tt) ≡ answer_of (read_real n i g)
     unfolding read_real
     real_accepted f = rw (← is, h, ← ranged, f)
 
 -- ---- a term, whose text was read
-module _ (n i : ℕ) (g : GivenTerm) (p : ParsedWord) (is : p ≡ parse n g.text) where
-  pub term_text : (r : Refusal) → p ≡ Texts.Refused r → answer_of (read_parsed p) ≡ answer_of (read_term n i g)
+module _ (n i : ℕ) (g : GivenTerm) (p : Result Word Refusal) (is : p ≡ parse n g.text) where
+  pub term_text : (r : Refusal) → p ≡ Err r → Err r ≡ answer_of (read_term n i g)
   unfolding read_term
   term_text r h = rw (← is, h)
 
-  module _ (l : Lanes) (h : p ≡ Texts.Parsed l) (x : Bool) (rangedRe : x ≡ in_range g.number.re) where
-    pub term_re : not x ≡ true → Refused (NumberOutOfRange i) ≡ answer_of (read_term n i g)
+  module _ (l : Word) (h : p ≡ Ok l) (x : Bool) (rangedRe : x ≡ in_range g.number.re) where
+    pub term_re : not x ≡ true → Err (NumberOutOfRange i) ≡ answer_of (read_term n i g)
     unfolding read_term
     term_re t = rw (← is, h, ← rangedRe, t)
 
     module _ (f : not x ≡ false) (y : Bool) (rangedIm : y ≡ in_range g.number.im) where
-      pub term_im : not y ≡ true → Refused (NumberOutOfRange i) ≡ answer_of (read_term n i g)
+      pub term_im : not y ≡ true → Err (NumberOutOfRange i) ≡ answer_of (read_term n i g)
       unfolding read_term
       term_im t = rw (← is, h, ← rangedRe, f, ← rangedIm, t)
 
-      pub term_accepted : not y ≡ false → Accepted ≡ answer_of (read_term n i g)
+      pub term_accepted : not y ≡ false → (Ok tt) ≡ answer_of (read_term n i g)
       unfolding read_term
       term_accepted e = rw (← is, h, ← rangedRe, f, ← rangedIm, e)
 
@@ -67,11 +65,11 @@ terms_count ns l xs h =
     length_terms (parts ns l) (complexes xs) (length_parts ns l ∙ sym (length_complexes (length ns) xs h)) ∙ length_parts ns l
 
 module _ (n i count : ℕ) (terms : List GivenTerm) (is : length terms ≡ count) where
-  pub operator_empty : count ≡ 0 → Refused (EmptyLincomb i) ≡ answer_of (read_operator n i terms)
+  pub operator_empty : count ≡ 0 → Err (EmptyLincomb i) ≡ answer_of (read_operator n i terms)
   unfolding read_operator
   operator_empty h = rw (is, eq-eqb count 0 h)
 
-  pub operator_long : (count ≡ 0 → ⊥) → 16 < count → Refused (CountAboveLimit count) ≡ answer_of (read_operator n i terms)
+  pub operator_long : (count ≡ 0 → ⊥) → 16 < count → Err (CountAboveLimit count) ≡ answer_of (read_operator n i terms)
   unfolding read_operator
   operator_long h l = rw (is, ne_eqb count 0 h, lt-ltb 16 count l)
 
@@ -86,12 +84,12 @@ module _ {A B : Type 0} where
   answer_got (refused r) f = refl
 
 module _ (n i : ℕ) (j : GivenJump) where
-  pub jump_negative : lt j.rate float0 ≡ true → Refused (NegativeRate i) ≡ answer_of (read_jump n i j)
+  pub jump_negative : lt j.rate float0 ≡ true → Err (NegativeRate i) ≡ answer_of (read_jump n i j)
   unfolding read_jump
   jump_negative h = rw h
 
   module _ (h : lt j.rate float0 ≡ false) (x : Bool) (ranged : x ≡ in_range j.rate) where
-    pub jump_range : not x ≡ true → Refused (NumberOutOfRange i) ≡ answer_of (read_jump n i j)
+    pub jump_range : not x ≡ true → Err (NumberOutOfRange i) ≡ answer_of (read_jump n i j)
     unfolding read_jump
     jump_range t = rw (h, ← ranged, t)
 

@@ -58,9 +58,6 @@ pub work_same : (cs lanes lanes' : List ℕ) (numbers numbers' : List Float) →
 work_same cs lanes lanes' numbers numbers' w a b some = record { lanes_long = omega (arith, (w some).lanes_long); numbers_long = omega (arith, (w some).numbers_long); few = omega arith }
 
 module _ (cs ns l : List ℕ) (xs : List Float) (fit : JumpsFit cs ns l xs) where
-  pub stands_start : Stands cs ns l 0 0 0
-  stands_start = record { high = omega arith; terms_left = omega (arith, fit.terms); texts_left = omega (arith, fit.texts.whole) }
-
   module _ (j t p : ℕ) (s : Stands cs ns l j t p) (h : j < length cs) where
     -- its terms, their numbers and their texts are there
     pub own_terms : t + get_or cs j 0 ≤ length ns
@@ -91,10 +88,6 @@ module _ (cs ns l : List ℕ) (xs : List Float) (fit : JumpsFit cs ns l xs) wher
 
     pub own_reads : (lanes : List ℕ) (numbers : List Float) → JumpsWork cs lanes numbers → ReadRoom (length (take (t + get_or cs j 0 - t) (drop t ns))) lanes numbers
     own_reads lanes numbers w = let r = w (omega arith) in record { lanes_long = omega (arith, own_length, fit.few j, r.lanes_long); numbers_long = omega (arith, own_length, fit.few j, r.numbers_long) }
-
-    pub own_counts : (lanes lanes' : List ℕ) (numbers numbers' : List Float) → JumpsWork cs lanes numbers → length lanes' ≡ length lanes → length numbers' ≡ length numbers
-        → WorkRoom (get_or cs j 0) lanes' numbers'
-    own_counts lanes lanes' numbers numbers' w a b = own_work lanes' numbers' (work_same cs lanes lanes' numbers numbers' w a b)
 
     pub stands_next : (sum : ℕ) → sum ≡ total (take (t + get_or cs j 0 - t) (drop t ns)) → Stands cs ns l (j + 1) (t + get_or cs j 0) (p + sum)
     stands_next sum e = record {
@@ -143,16 +136,6 @@ pub record CountState (n : ℕ) (cs ns l : List ℕ) (xs : List Float) (lanes₀
       → kept + length (terms_of (compiled_left n cs ns l xs gs j t p)) ≡ length (terms_of (jumps_compiled n gs cs ns l xs))
 
 module _ (n : ℕ) (cs ns l : List ℕ) (xs : List Float) (lanes₀ : List ℕ) (numbers₀ : List Float) (fit : JumpsFit cs ns l xs) (work₀ : JumpsWork cs lanes₀ numbers₀) where
-  pub count_start : CountState n cs ns l xs lanes₀ numbers₀ lanes₀ numbers₀ 0 0 0 0
-  count_start = record {
-    stands = stands_start cs ns l xs fit;
-    work = work₀;
-    lanes_same = refl;
-    numbers_same = refl;
-    few = omega arith;
-    counted = λ gs e. omega arith;
-  }
-
   module _ (lanes : List ℕ) (numbers : List Float) (kept p t j : ℕ) (s : CountState n cs ns l xs lanes₀ numbers₀ lanes numbers kept p t j) where
     -- jump j is read and counted, whatever its rate
     pub count_next : j < length cs → (lanes₁ lanes₂ : List ℕ) (numbers₁ numbers₂ : List Float)
@@ -215,20 +198,6 @@ unfolding terms_of
 laid_turn store f c rest place l = laid_mapped store f place c.terms (terms_of rest) l
 
 module _ (all : List Compiled) (jumps₀ : List ℕ) (rates₀ : List Float) (tLanes₀ : List ℕ) (tNumbers₀ : List Float) (place₀ j₀ : ℕ) where
-  pub storing_start : Storing all all jumps₀ rates₀ tLanes₀ tNumbers₀ place₀ j₀ jumps₀ rates₀ tLanes₀ tNumbers₀ place₀ j₀
-  storing_start = record {
-    jumps_same = refl;
-    rates_same = refl;
-    lanes_same = refl;
-    numbers_same = refl;
-    many = refl;
-    placed = refl;
-    entries_are = refl;
-    rates_are = refl;
-    lanes_are = refl;
-    numbers_are = refl;
-  }
-
   module _ (left : List Compiled) (jumps : List ℕ) (rates : List Float) (tLanes : List ℕ) (tNumbers : List Float) (place j : ℕ)
       (s : Storing all left jumps₀ rates₀ tLanes₀ tNumbers₀ place₀ j₀ jumps rates tLanes tNumbers place j) where
     module _ (c : Compiled) (rest : List Compiled) (is : left ≡ c ∷ rest) where
@@ -295,15 +264,6 @@ pub record StoreJumpsState (n : ℕ) (cs ns l : List ℕ) (xs gs : List Float) (
 
 module _ (n : ℕ) (cs ns l : List ℕ) (xs gs : List Float) (lanes₀ : List ℕ) (numbers₀ : List Float) (jumps₀ : List ℕ) (rates₀ : List Float) (tLanes₀ : List ℕ) (tNumbers₀ : List Float)
     (fit : JumpsFit cs ns l xs) (same : length gs ≡ length cs) (work₀ : JumpsWork cs lanes₀ numbers₀) (room : JumpsRoom (jumps_compiled n gs cs ns l xs) 0 0 jumps₀ rates₀ tLanes₀ tNumbers₀) where
-  pub store_jumps_start : StoreJumpsState n cs ns l xs gs lanes₀ numbers₀ jumps₀ rates₀ tLanes₀ tNumbers₀ lanes₀ numbers₀ jumps₀ rates₀ tLanes₀ tNumbers₀ 0 0 0 0
-  store_jumps_start = record {
-    stands = stands_start cs ns l xs fit;
-    work = work₀;
-    lanes_same = refl;
-    numbers_same = refl;
-    storing = storing_start (jumps_compiled n gs cs ns l xs) jumps₀ rates₀ tLanes₀ tNumbers₀ 0 0;
-  }
-
   module _ (lanes : List ℕ) (numbers : List Float) (jumps : List ℕ) (rates : List Float) (tLanes : List ℕ) (tNumbers : List Float) (place p t j : ℕ)
       (s : StoreJumpsState n cs ns l xs gs lanes₀ numbers₀ jumps₀ rates₀ tLanes₀ tNumbers₀ lanes numbers jumps rates tLanes tNumbers place p t j) where
     module _ (h : j < length cs) (lanes₁ : List ℕ) (numbers₁ : List Float)

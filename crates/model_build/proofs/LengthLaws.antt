@@ -8,8 +8,8 @@ use Prim.Native.Nat.{ℕ, ◌+◌, ◌*◌, ◌/◌}
 use borrow.Author.Tests.{eq-eqb}
 use lib.Ieee.{Float}
 use lib.ListN.{length}
-use Rattle.refusal.specs.declared.Answer.{Answer}
-use Rattle.refusal.specs.declared.Answer.TheVariants.{Accepted}
+use Rattle.std.specs.Prelude.{Ok}
+use Rattle.refusal.specs.Cause.{Answer}
 use Rattle.word.specs.Flat.{word_lanes}
 use Rattle.model.specs.Stored.{ModelTables}
 use Rattle.lent.specs.Tests.{lent, where_any}
@@ -28,10 +28,10 @@ module _ (i : Input) (t : ModelTables) (workWords : List ℕ) (workNumbers : Lis
       (lent (length i.rates) (length t.rates)
       (lent work (length workWords / word_lanes)
       (lent work (length workNumbers / 2)
-      Accepted)))))
+      (Ok tt))))))
 
   pub own_agree : length i.lengths ≡ length i.h_numbers + terms → length i.counts ≡ length i.rates → length i.numbers ≡ terms * 2
-      → parts_fit i.counts terms ≡ Accepted → parts_fit i.lengths (length i.texts) ≡ Accepted
+      → parts_fit i.counts terms ≡ Ok tt → parts_fit i.lengths (length i.texts) ≡ Ok tt
       → (work : ℕ) → work ≡ where_any (length i.rates) work_places → lengths_answer i t workWords workNumbers ≡ tables_answer work
   unfolding lengths_answer
   own_agree l c x by_counts byLengths work e = rw (e, eq-eqb _ _ l, eq-eqb _ _ c, eq-eqb _ _ x, by_counts, byLengths)

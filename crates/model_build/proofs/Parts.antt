@@ -13,9 +13,9 @@ use borrow.Author.Tests.{lt-ltb, le-ltb, eq-eqb, ne_eqb}
 use lib.Ieee.{Float, nan}
 use lib.ListN.{get_or, length, take, drop, length-drop, drop_of_length-le}
 use lib.Seq.{drop-cons, drop-drop, take_all}
-use Rattle.refusal.specs.declared.Refusal.{Refusal}
 use Rattle.refusal.specs.declared.Refusal.TheVariants.{LengthMismatch}
-use Rattle.refusal.specs.declared.Answer.TheVariants.{Accepted, Refused}
+use Rattle.refusal.proofs.Told.{refused_not}
+use Rattle.std.specs.Prelude.{Ok, Err}
 use Rattle.number.specs.Numbers.{Cx}
 use Rattle.number.specs.Floats.{floats}
 use Rattle.model_build.specs.Given.{GivenTerm}
@@ -43,7 +43,7 @@ total_split (suc k) (n ∷ ns) = omega (arith, total_split k ns)
 
 -- ---- lengths that make up a whole
 pub fit_short : (ns : List ℕ) (i left : ℕ) → i < length ns → left < get_or ns i 0
-    → parts_fit (drop i ns) left ≡ Refused (LengthMismatch (get_or ns i 0) left)
+    → parts_fit (drop i ns) left ≡ Err (LengthMismatch (get_or ns i 0) left)
 unfolding parts_fit
 fit_short ns i left h l = rw (drop-cons ns i 0 h, lt-ltb left (get_or ns i 0) l)
 
@@ -52,26 +52,23 @@ pub fit_turn : (ns : List ℕ) (i left : ℕ) → i < length ns → get_or ns i 
 unfolding parts_fit
 fit_turn ns i left h l = rw (add-one i, drop-cons ns i 0 h, le-ltb left (get_or ns i 0) l)
 
-pub fit_over : (ns : List ℕ) (i left : ℕ) → length ns ≤ i → (left ≡ 0 → ⊥) → parts_fit (drop i ns) left ≡ Refused (LengthMismatch 0 left)
+pub fit_over : (ns : List ℕ) (i left : ℕ) → length ns ≤ i → (left ≡ 0 → ⊥) → parts_fit (drop i ns) left ≡ Err (LengthMismatch 0 left)
 unfolding parts_fit
 fit_over ns i left h l = rw (drop_of_length-le ns h, ne_eqb left 0 l)
 
-pub fit_end : (ns : List ℕ) (i left : ℕ) → length ns ≤ i → left ≡ 0 → parts_fit (drop i ns) left ≡ Accepted
+pub fit_end : (ns : List ℕ) (i left : ℕ) → length ns ≤ i → left ≡ 0 → parts_fit (drop i ns) left ≡ Ok tt
 unfolding parts_fit
 fit_end ns i left h l = rw (drop_of_length-le ns h, eq-eqb left 0 l)
 
-refused_not : (r : Refusal) → Refused r ≡ Accepted → ⊥
-refused_not r e = let z : ◌≡◌ {A = ℕ} 0 1 = cc in omega arith
-
 -- then their total is the whole
-pub fit_total : (ns : List ℕ) (have : ℕ) → parts_fit ns have ≡ Accepted → total ns ≡ have
+pub fit_total : (ns : List ℕ) (have : ℕ) → parts_fit ns have ≡ Ok tt → total ns ≡ have
 unfolding parts_fit total
 fit_total [] zero e = refl
-fit_total [] (suc have) e = absurd (refused_not _ (rw (ne_eqb (suc have) 0 (λ z. omega arith)) at e))
+fit_total [] (suc have) e = absurd (refused_not _ tt (rw (ne_eqb (suc have) 0 (λ z. omega arith)) at e))
 fit_total (n ∷ ns) have e = go (dec_lt have n) (fit_total ns (have - n))
   where
-    go : Dec (have < n) → (parts_fit ns (have - n) ≡ Accepted → total ns ≡ have - n) → n + total ns ≡ have
-    go (yes h) rest = absurd (refused_not _ (rw (lt-ltb have n h) at e))
+    go : Dec (have < n) → (parts_fit ns (have - n) ≡ Ok tt → total ns ≡ have - n) → n + total ns ≡ have
+    go (yes h) rest = absurd (refused_not _ tt (rw (lt-ltb have n h) at e))
     go (no h) rest = omega (arith, rest (rw (le-ltb have n (omega arith)) at e))
 
 -- ---- consecutive parts

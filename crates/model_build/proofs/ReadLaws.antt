@@ -26,7 +26,7 @@ use Rattle.model_build.specs.Taken.{word_taken, term_taken}
 use Rattle.model_build.specs.Work.{operator_in, ReadRoom, TextsFit, operator_taken}
 use Rattle.model_build.proofs.Parts.{total_turn, part_is, term_turn, term_end}
 use Rattle.model.specs.Terms.{Term}
-use Rattle.model.proofs.TermLaws.{onto_eq, rows_length, terms_none}
+use Rattle.model.proofs.TermLaws.{onto_eq, rows_length}
 use Rattle.word.specs.Between.{LaysWord}
 use Rattle.sums.specs.Between.{LaysNumber}
 
@@ -67,15 +67,6 @@ module _ (n : ℕ) (ns l : List ℕ) (xs : List Float) where
     pub reads : operator_in i lanes numbers ++ left i p ≡ operator_taken n ns l xs
 
   module _ (lanes₀ : List ℕ) (numbers₀ : List Float) (fit : TextsFit ns l xs) (room : ReadRoom (length ns) lanes₀ numbers₀) where
-    pub read_start : ReadState lanes₀ numbers₀ lanes₀ numbers₀ 0 0
-    read_start = record {
-      lanes_same = refl;
-      numbers_same = refl;
-      high = omega arith;
-      texts_left = omega (arith, fit.whole);
-      reads = ap (λ (t : List Term). t ++ left 0 0) (terms_none lanes₀ numbers₀ 256);
-    }
-
     module _ (lanes lanes' : List ℕ) (numbers numbers' : List Float) (p i : ℕ) (s : ReadState lanes₀ numbers₀ lanes numbers p i) (inside : i < length ns) where
       pub text_inside : p + get_or ns i 0 ≤ length l
       text_inside = omega (arith, s.texts_left, total_turn ns i inside)

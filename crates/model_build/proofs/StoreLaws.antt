@@ -2,7 +2,7 @@
 -- SPDX-License-Identifier: Apache-2.0
 
 -- Terms laid one after another, and thinning row by row. Assumes nothing.
-use mathlib.Core.Path.{◌≡◌, refl, sym, ap, ◌∙◌, subst, subst⁻¹}
+use mathlib.Core.Path.{◌≡◌, refl, sym, ap, ◌∙◌, subst⁻¹}
 use mathlib.Core.Bool.{Bool, true, false, cond}
 use mathlib.Core.List.{List, [], ◌∷◌, ◌++◌, map, map-append, append-nil}
 use Prim.Native.Nat.{ℕ, suc, ◌+◌, ◌-◌, ◌*◌, ◌≤◌, ◌<◌}
@@ -68,48 +68,39 @@ terms_length lanes numbers s j h hl hn =
     let lr : j ≤ length R = rows_length (words lanes) (complexes numbers) j (omega (arith, words_high lanes)) (omega (arith, complexes_high numbers)) in
     length-take-le (j - s) (drop s R) (omega (arith, length-drop s R))
 
-pub record StoreState (from to at : ℕ) (lanes : List ℕ) (numbers : List Float) (tLanes₀ : List ℕ) (tNumbers₀ : List Float) (tLanes : List ℕ) (tNumbers : List Float) (i place : ℕ) : Type 0 where
+pub record StoreState (from to at : ℕ) (lanes : List ℕ) (numbers : List Float) (tLanes₀ : List ℕ) (tNumbers₀ : List Float) (tLanes : List ℕ) (tNumbers : List Float) (i : ℕ) : Type 0 where
   pub low : from ≤ i
   pub high : i ≤ to
-  pub here : place ≡ at + (i - from)
   pub lanes_same : length tLanes ≡ length tLanes₀
   pub numbers_same : length tNumbers ≡ length tNumbers₀
   pub lays : LaysTerms (terms_in lanes numbers from i) at tLanes₀ tNumbers₀ tLanes tNumbers
 
 module _ (from to at : ℕ) (lanes : List ℕ) (numbers : List Float) (tLanes₀ : List ℕ) (tNumbers₀ : List Float) (room : StoreRoom from to lanes numbers at tLanes₀ tNumbers₀) where
-  pub store_start : StoreState from to at lanes numbers tLanes₀ tNumbers₀ tLanes₀ tNumbers₀ from at
+  pub store_start : StoreState from to at lanes numbers tLanes₀ tNumbers₀ tLanes₀ tNumbers₀ from
   store_start = record {
     low = omega arith;
     high = room.order;
-    here = omega arith;
     lanes_same = refl;
     numbers_same = refl;
     lays = subst⁻¹ (λ (T : List (Onto floats pauli)). LaysTerms T at tLanes₀ tNumbers₀ tLanes₀ tNumbers₀) (terms_none lanes numbers from) (lays_none at tLanes₀ tNumbers₀);
   }
 
-  pub store_next : (tLanes tLanes' : List ℕ) (tNumbers tNumbers' : List Float) (i place : ℕ) (t : Onto floats pauli)
-      → StoreState from to at lanes numbers tLanes₀ tNumbers₀ tLanes tNumbers i place → i < to → t ≡ term_at lanes numbers i
-      → LaysTerms (t ∷ []) place tLanes tNumbers tLanes' tNumbers' → length tLanes' ≡ length tLanes → length tNumbers' ≡ length tNumbers
-      → StoreState from to at lanes numbers tLanes₀ tNumbers₀ tLanes' tNumbers' (i + 1) (place + 1)
-  store_next tLanes tLanes' tNumbers tNumbers' i place t s h e g hl hn =
+  pub store_next : (tLanes tLanes' : List ℕ) (tNumbers tNumbers' : List Float) (i : ℕ) (t : Onto floats pauli)
+      → StoreState from to at lanes numbers tLanes₀ tNumbers₀ tLanes tNumbers i → i < to → t ≡ term_at lanes numbers i
+      → LaysTerms (t ∷ []) (at + (i - from)) tLanes tNumbers tLanes' tNumbers' → length tLanes' ≡ length tLanes → length tNumbers' ≡ length tNumbers
+      → StoreState from to at lanes numbers tLanes₀ tNumbers₀ tLanes' tNumbers' (i + 1)
+  store_next tLanes tLanes' tNumbers tNumbers' i t s h e g hl hn =
       let n = terms_length lanes numbers from i s.low (omega (arith, room.lanes_long)) (omega (arith, room.numbers_long)) in
       let more : terms_in lanes numbers from (i + 1) ≡ terms_in lanes numbers from i ++ (t ∷ []) =
       terms_more lanes numbers from i s.low (omega (arith, room.lanes_long)) (omega (arith, room.numbers_long)) ∙ ap (λ (u : Onto floats pauli). terms_in lanes numbers from i ++ (u ∷ [])) (sym e) in
       record {
         low = omega (arith, s.low);
         high = omega arith;
-        here = omega (arith, s.here, s.low);
         lanes_same = hl ∙ s.lanes_same;
         numbers_same = hn ∙ s.numbers_same;
         lays = subst⁻¹ (λ (T : List (Onto floats pauli)). LaysTerms T at tLanes₀ tNumbers₀ tLanes' tNumbers') more
-            (lays_append (terms_in lanes numbers from i) (t ∷ []) at place tLanes₀ tLanes tLanes' tNumbers₀ tNumbers tNumbers' (omega (arith, s.here, n)) s.lays g);
+            (lays_append (terms_in lanes numbers from i) (t ∷ []) at (at + (i - from)) tLanes₀ tLanes tLanes' tNumbers₀ tNumbers tNumbers' (omega (arith, n)) s.lays g);
       }
-
-  pub store_done : (tLanes : List ℕ) (tNumbers : List Float) (i place : ℕ) → StoreState from to at lanes numbers tLanes₀ tNumbers₀ tLanes tNumbers i place → to ≤ i
-      → LaysTerms (terms_in lanes numbers from to) at tLanes₀ tNumbers₀ tLanes tNumbers
-  store_done tLanes tNumbers i place s h =
-      let e : i ≡ to = omega (arith, s.high) in
-      subst (λ (k : ℕ). LaysTerms (terms_in lanes numbers from k) at tLanes₀ tNumbers₀ tLanes tNumbers) e s.lays
 
 -- ---- thinning, row by row
 thinned_last : (T : List (Onto floats pauli)) (t : Onto floats pauli) → thinned (T ++ (t ∷ [])) ≡ thinned T ++ cond (floats.small (square floats t.num)) [] (t ∷ [])
@@ -206,12 +197,6 @@ module _ (len at : ℕ) (lanes : List ℕ) (numbers : List Float) (tLanes₀ : L
                   lays = lays_append (thinned (sum_rows i lanes numbers)) (t ∷ []) at place tLanes₀ tLanes tLanes' tNumbers₀ tNumbers tNumbers' s.keeps.end s.keeps.lays g;
                 });
           }
-
-  pub keep_done : (tLanes : List ℕ) (tNumbers : List Float) (place i : ℕ) → KeepState len at lanes numbers tLanes₀ tNumbers₀ tLanes tNumbers place i → len ≤ i
-      → Keeps (thinned (sum_rows len lanes numbers)) at tLanes₀ tNumbers₀ place tLanes tNumbers
-  keep_done tLanes tNumbers place i s h =
-      let e : i ≡ len = omega (arith, s.high) in
-      subst (λ (k : ℕ). Keeps (thinned (sum_rows k lanes numbers)) at tLanes₀ tNumbers₀ place tLanes tNumbers) e s.keeps
 
 -- ---- counting them
 pub count_drops : (lanes : List ℕ) (numbers : List Float) (i kept : ℕ) (t : Onto floats pauli) → word_lanes * (i + 1) ≤ length lanes → 2 * (i + 1) ≤ length numbers → t ≡ term_at lanes numbers i

@@ -18,8 +18,7 @@ use Rattle.refusal.specs.declared.Refusal.TheVariants.{NegativeRate, EmptyLincom
 use Rattle.word.specs.Flat.{lay_word}
 use Rattle.notation.specs.Text.{parse}
 use Rattle.word.specs.declared.word.Word.{Word}
-use Rattle.notation.specs.declared.texts.ParsedWord.{ParsedWord}
-use Rattle.notation.specs.declared.texts.ParsedWord.TheVariants as Texts
+use Rattle.std.specs.Prelude.{Result, Ok, Err}
 use Rattle.number.specs.Floats.{floats, float0, in_range}
 use Rattle.gksl.specs.Model.{RealTerm, JumpOver}
 use Rattle.gksl.specs.Words.{pauli}
@@ -77,10 +76,10 @@ module _ {A B : Type 0} where
 
 -- ---- a word, then a test of numbers
 module _ {A : Type 0} where
-  word_taken_lem : (p : ParsedWord) (t : Bool) (r : Refusal) (make : Word → A) (a : A)
+  word_taken_lem : (p : Result Word Refusal) (t : Bool) (r : Refusal) (make : Word → A) (a : A)
       → onward (read_parsed p) (λ w. refuse_if t r (got (make w))) ≡ got a → a ≡ make (word_in p)
-  word_taken_lem (Texts.Parsed lanes) t r make a e = got_is _ a (refuse_got t r _ a e).1
-  word_taken_lem (Texts.Refused s) t r make a e = absurd (refused_not s a e)
+  word_taken_lem (Ok lanes) t r make a e = got_is _ a (refuse_got t r _ a e).1
+  word_taken_lem (Err s) t r make a e = absurd (refused_not s a e)
 
 real_taken_lem : (n i : ℕ) (g : GivenReal) (h : RealTerm floats pauli) → read_real n i g ≡ got h → h ≡ real_taken n g
 unfolding read_real
@@ -165,9 +164,6 @@ module _ (n : ℕ) (ns l : List ℕ) (xs : List Float) where
     pub coeffs_left : laid set 0 (numbers_from 0 0) coeffs₀ ≡ laid set i (numbers_from i p) coeffs
 
   module _ (lanes₀ : List ℕ) (coeffs₀ : List Float) (room : RealsRoom l ns xs lanes₀ coeffs₀) where
-    pub lay_start : LayState lanes₀ coeffs₀ lanes₀ coeffs₀ 0 0
-    lay_start = record { high = omega arith; texts_left = omega (arith, room.texts_hold); lanes_same = refl; coeffs_same = refl; lanes_left = refl; coeffs_left = refl }
-
     module _ (lanes : List ℕ) (coeffs : List Float) (i p : ℕ) (s : LayState lanes₀ coeffs₀ lanes coeffs i p) where
       pub lay_next : i < length ns → (w : Word) → w ≡ word_taken n (take (p + get_or ns i 0 - p) (drop p l))
           → (lanes' : List ℕ) → lanes' ≡ lay_word lanes i w → length lanes' ≡ length lanes

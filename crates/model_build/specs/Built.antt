@@ -2,10 +2,11 @@
 -- SPDX-License-Identifier: Apache-2.0
 
 -- Building a model: 1, 8, 9, then items in order; 13 last. The tables afterwards.
-use Rattle.std.specs.Prelude.{ℕ, ◌+◌, ◌-◌, ◌*◌, ◌/◌, min, cond, List, [], ◌∷◌, ◌++◌, map, eqb, ltb, Float, length, take, drop, set, replicate}
+use Rattle.std.specs.Prelude.{ℕ, ◌+◌, ◌-◌, ◌*◌, ◌/◌, min, cond, List, [], ◌∷◌, ◌++◌, map, eqb, ltb, Float, length, take, drop, set, replicate, Result, Ok, Err}
 use Rattle.refusal.specs.declared.Refusal.TheVariants.{LengthMismatch, TableFull}
-use Rattle.refusal.specs.declared.Answer.{Answer}
-use Rattle.refusal.specs.declared.Answer.TheVariants.{Accepted, Refused}
+use Rattle.refusal.specs.declared.Refusal.{Refusal}
+use Rattle.model.specs.declared.stored.Model.{Model}
+use Rattle.refusal.specs.Cause.{Answer}
 use Rattle.number.specs.Numbers.{Cx}
 use Rattle.number.specs.Floats.{floats, float0}
 use Rattle.gksl.specs.Model.{RealTerm, JumpOver}
@@ -19,8 +20,6 @@ use Rattle.sums.specs.Numbers.{complexes, lay_number}
 use Rattle.lent.specs.Read.{Read, got, refused, each}
 use Rattle.model.specs.Terms.{Term}
 use Rattle.lent.specs.Laid.{laid}
-use Rattle.model_build.specs.declared.spec.Built.{Built}
-use Rattle.model_build.specs.declared.spec.Built.TheVariants as Answers
 use Rattle.lent.specs.Tests.{counted, lent, where_any, in_turn, and_then, registered, Test, equal}
 
 -- ---- what is given, from flat slices: texts by their lengths, terms by the count of each jump
@@ -69,8 +68,8 @@ size_tests n i = registered n ∷ counted max_hamiltonian (length i.h_numbers) �
 -- ---- 9: lengths that disagree
 -- parts of given lengths make up the whole: the first part that is longer than what is left, or what is left over
 unfoldable pub parts_fit : List ℕ → ℕ → Answer
-parts_fit [] left = cond (eqb left 0) Accepted (Refused (LengthMismatch 0 left))
-parts_fit (n ∷ ns) left = cond (ltb left n) (Refused (LengthMismatch n left)) (parts_fit ns (left - n))
+parts_fit [] left = cond (eqb left 0) (Ok tt) (Err (LengthMismatch 0 left))
+parts_fit (n ∷ ns) left = cond (ltb left n) (Err (LengthMismatch n left)) (parts_fit ns (left - n))
 
 -- the places of the terms table, and the work places of the largest operator and its product
 abbrev pub term_places : ModelTables → ℕ
@@ -97,7 +96,7 @@ lengths_answer i t workWords workNumbers =
     ∷ lent (length i.rates) (length t.rates)
     ∷ lent work (length workWords / word_lanes)
     ∷ lent work (length workNumbers / 2)
-    ∷ []) Accepted
+    ∷ []) (Ok tt)
 
 -- ---- the items, read
 abbrev pub read_hamiltonian : ℕ → Input → Read (List (RealTerm floats pauli))
@@ -131,35 +130,35 @@ stored hs cs t = record {
 
 -- ---- what building answers, and the lent tables afterwards
 pub record Building : Type 0 where
-  pub answer : Built
+  pub answer : Result Model Refusal
   pub tables : ModelTables
   pub work_words : List ℕ
   pub work_numbers : List Float
 
 module _ (t : ModelTables) (workWords : List ℕ) (workNumbers : List Float) where
   -- a refusal changes nothing
-  abbrev pub refusal : Built → Building
+  abbrev pub refusal : Result Model Refusal → Building
   refusal r = record { answer = r; tables = t; work_words = workWords; work_numbers = workNumbers }
 
   -- work tables are zero after acceptance and 13
-  abbrev pub finished : Built → ModelTables → Building
+  abbrev pub finished : Result Model Refusal → ModelTables → Building
   finished r after = record { answer = r; tables = after; work_words = replicate (length workWords) 0; work_numbers = replicate (length workNumbers) float0 }
 
   abbrev pub tested : Answer → Building → Building
-  tested Accepted after = after
-  tested (Refused r) after = refusal (Answers.Refused r)
+  tested (Ok _) after = after
+  tested (Err r) after = refusal (Err r)
 
   module _ {A : Type 0} where
     abbrev pub when_read : Read A → (A → Building) → Building
     when_read (got a) f = f a
-    when_read (refused r) f = refusal (Answers.Refused r)
+    when_read (refused r) f = refusal (Err r)
 
 module _ (n : ℕ) (i : Input) (t : ModelTables) (workWords : List ℕ) (workNumbers : List Float) where
   abbrev pub compiled_model : List (RealTerm floats pauli) → List Compiled → Building
   compiled_model hs cs =
       cond (ltb (term_places t) (length (terms_of cs)))
-      (finished t workWords workNumbers (Answers.Refused (TableFull 4 (term_places t))) t)
-      (finished t workWords workNumbers (Answers.Model (record { qubits = n; hamiltonian = length hs; jumps = length cs; terms = length (terms_of cs) })) (stored hs cs t))
+      (finished t workWords workNumbers (Err (TableFull 4 (term_places t))) t)
+      (finished t workWords workNumbers (Ok (record { qubits = n; hamiltonian = length hs; jumps = length cs; terms = length (terms_of cs) })) (stored hs cs t))
 
   unfoldable pub build : Building
   build =

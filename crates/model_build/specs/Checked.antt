@@ -3,7 +3,7 @@
 
 -- Contracts between functions: whether what a model is built from is accepted, and the slices of its two parts.
 use Rattle.std.specs.Prelude.{ℕ, List, Float, length, take, drop}
-use Rattle.refusal.specs.declared.Answer.{Answer}
+use Rattle.refusal.specs.Cause.{Answer}
 use Rattle.model.specs.Stored.{ModelTables}
 use Rattle.model_build.specs.Built.{Input, lengths_answer, read_hamiltonian, read_jumps, size_tests}
 use Rattle.model_build.specs.Items.{answer_of}

@@ -2,14 +2,12 @@
 -- SPDX-License-Identifier: Apache-2.0
 
 -- The items a model is built from, as they are given, and how each is tested and read.
-use Rattle.std.specs.Prelude.{ℕ, not, ◌||◌, List, eqb, ltb, Float, length}
+use Rattle.std.specs.Prelude.{ℕ, not, ◌||◌, List, eqb, ltb, Float, length, Result, Ok, Err}
 use Rattle.std.specs.Float.Ieee.{lt}
 use Rattle.refusal.specs.declared.Refusal.TheVariants.{NegativeRate, EmptyLincomb, NumberOutOfRange, CountAboveLimit}
-use Rattle.word.specs.Word.{unpack}
 use Rattle.notation.specs.Text.{parse}
 use Rattle.word.specs.declared.word.Word.{Word}
-use Rattle.notation.specs.declared.texts.ParsedWord.{ParsedWord}
-use Rattle.notation.specs.declared.texts.ParsedWord.TheVariants.{Parsed, Refused}
+use Rattle.refusal.specs.declared.Refusal.{Refusal}
 use Rattle.number.specs.Numbers.{Cx}
 use Rattle.number.specs.Floats.{floats, float0, in_range}
 use Rattle.gksl.specs.Model.{RealTerm, JumpOver}
@@ -30,9 +28,9 @@ pub record GivenJump : Type 0 where
   pub rate : Float
   pub terms : List GivenTerm
 
-abbrev pub read_parsed : ParsedWord → Read Word
-read_parsed (Parsed lanes) = got (unpack lanes)
-read_parsed (Refused r) = refused r
+abbrev pub read_parsed : Result Word Refusal → Read Word
+read_parsed (Ok lanes) = got lanes
+read_parsed (Err r) = refused r
 
 abbrev pub read_word : ℕ → List ℕ → Read Word
 read_word n text = read_parsed (parse n text)

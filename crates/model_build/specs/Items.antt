@@ -2,9 +2,8 @@
 -- SPDX-License-Identifier: Apache-2.0
 
 -- Contracts between functions: what testing items answers.
-use Rattle.std.specs.Prelude.{ℕ, List}
-use Rattle.refusal.specs.declared.Answer.{Answer}
-use Rattle.refusal.specs.declared.Answer.TheVariants.{Accepted, Refused}
+use Rattle.std.specs.Prelude.{ℕ, List, Ok, Err}
+use Rattle.refusal.specs.Cause.{Answer}
 use Rattle.model_build.specs.Given.{GivenTerm, read_term}
 use Rattle.lent.specs.Read.{Read, got, refused, each}
 use Rattle.model.specs.Terms.{Term}
@@ -12,8 +11,8 @@ use Rattle.model.specs.Terms.{Term}
 module _ {A : Type 0} where
   -- whether there is a value
   abbrev pub answer_of : Read A → Answer
-  answer_of (got a) = Accepted
-  answer_of (refused r) = Refused r
+  answer_of (got a) = (Ok tt)
+  answer_of (refused r) = Err r
 
 -- the terms of jump or operator i
 abbrev pub read_terms : ℕ → ℕ → List GivenTerm → Read (List Term)

@@ -2,13 +2,12 @@
 -- SPDX-License-Identifier: Apache-2.0
 
 -- Contracts between functions: items as they are stored once they are tested, the word of a text, and the identity where there is none.
-use Rattle.std.specs.Prelude.{ℕ, ◌*◌, ◌≤◌, ◌≡◌, List, map, Float, length, set}
-use Rattle.word.specs.Word.{identity, unpack}
+use Rattle.std.specs.Prelude.{ℕ, ◌*◌, ◌≤◌, ◌≡◌, List, map, Float, length, set, Result, Ok, Err}
+use Rattle.word.specs.Word.{identity}
 use Rattle.notation.specs.Text.{parse}
 use Rattle.word.specs.Flat.{lay_word, word_lanes}
 use Rattle.word.specs.declared.word.Word.{Word}
-use Rattle.notation.specs.declared.texts.ParsedWord.{ParsedWord}
-use Rattle.notation.specs.declared.texts.ParsedWord.TheVariants.{Parsed, Refused}
+use Rattle.refusal.specs.declared.Refusal.{Refusal}
 use Rattle.number.specs.Floats.{floats}
 use Rattle.gksl.specs.Model.{RealTerm, JumpOver}
 use Rattle.gksl.specs.Words.{pauli}
@@ -16,9 +15,9 @@ use Rattle.model_build.specs.Given.{GivenReal, GivenTerm, GivenJump}
 use Rattle.model.specs.Terms.{Term}
 use Rattle.lent.specs.Laid.{laid, total}
 
-abbrev pub word_in : ParsedWord → Word
-word_in (Parsed lanes) = unpack lanes
-word_in (Refused r) = identity
+abbrev pub word_in : Result Word Refusal → Word
+word_in (Ok lanes) = lanes
+word_in (Err r) = identity
 
 abbrev pub word_taken : ℕ → List ℕ → Word
 word_taken n text = word_in (parse n text)

@@ -9,7 +9,7 @@ ghost use Rattle.model_build.specs.Checked.{given_answer};
 use crate::items::{check_hamiltonian, check_jumps, sum_of};
 use crate::lengths::lengths_agree;
 use model::test::{MAX_HAMILTONIAN, MAX_JUMPS};
-use refusal::{Answer, Refusal};
+use refusal::Refusal;
 use word::word::MAX_QUBITS;
 
 pub fn check_given(
@@ -26,23 +26,23 @@ pub fn check_given(
     rate_places: &[f64],
     work_words: &[u64],
     work_numbers: &[f64],
-) -> Answer
+) -> Result<(), Refusal>
     ensures { (tWords : List ℕ) → (tNumbers : List Float) → result ≡ given_answer n_qubits (record { texts = texts.entry.now; lengths = lengths.now; h_numbers = h_numbers.now; rates = rates.now; counts = counts.now; numbers = numbers.now }) (record { h_words = h_words.now; h_coeffs = h_coeffs.now; jumps = jumps.now; rates = rate_places.now; t_words = tWords; t_numbers = tNumbers }) work_words.now work_numbers.now }
 {
     if MAX_QUBITS < n_qubits {
-        return Answer::Refused(Refusal::TooManyQubits {
+        return Err(Refusal::TooManyQubits {
             got: n_qubits,
             max: MAX_QUBITS,
         });
     }
     let h = h_numbers.len();
     if MAX_HAMILTONIAN < h {
-        return Answer::Refused(Refusal::CountAboveLimit { count: h });
+        return Err(Refusal::CountAboveLimit { count: h });
     }
     if MAX_JUMPS < rates.len() {
-        return Answer::Refused(Refusal::CountAboveLimit { count: rates.len() });
+        return Err(Refusal::CountAboveLimit { count: rates.len() });
     }
-    let agree = lengths_agree(
+    lengths_agree(
         texts,
         lengths,
         h_numbers,
@@ -55,15 +55,9 @@ pub fn check_given(
         rate_places,
         work_words,
         work_numbers,
-    );
-    let Answer::Accepted = agree else {
-        return agree;
-    };
+    )?;
     let own = &lengths[0..h];
-    let reals = check_hamiltonian(texts, own, h_numbers, n_qubits);
-    let Answer::Accepted = reals else {
-        return reals;
-    };
+    check_hamiltonian(texts, own, h_numbers, n_qubits)?;
     check_jumps(
         &texts[sum_of(own)..],
         &lengths[h..],

@@ -16,11 +16,9 @@ fn most_places(counts: &[u64]) -> usize
     ensures { result ≡ places_for counts.now }
 {
     let mut most: usize = 0;
-    let mut j = 0;
-    while j < counts.len() {
-        let k = counts[j] as usize;
+    for count in counts {
+        let k = *count as usize;
         most += k + k * k;
-        j += 1;
     }
     most
 }
@@ -41,9 +39,8 @@ fn count_jumps(
     let mut kept = 0;
     let mut at = 0;
     let mut t = 0;
-    let mut j = 0;
-    while j < counts.len() {
-        let k = counts[j] as usize;
+    for count in counts {
+        let k = *count as usize;
         let own = &lengths[t..t + k];
         read_operator(
             &texts[at..],
@@ -56,7 +53,6 @@ fn count_jumps(
         kept += count_operator(words, sums, k);
         at += sum_of(own);
         t += k;
-        j += 1;
     }
     kept
 }
@@ -103,9 +99,8 @@ pub fn store_jumps(
     let mut place = 0;
     let mut at = 0;
     let mut t = 0;
-    let mut j = 0;
-    while j < counts.len() {
-        let k = counts[j] as usize;
+    for (j, count) in counts.iter().enumerate() {
+        let k = *count as usize;
         let own = &lengths[t..t + k];
         read_operator(
             &texts[at..],
@@ -120,7 +115,6 @@ pub fn store_jumps(
         );
         at += sum_of(own);
         t += k;
-        j += 1;
     }
     place
 }

@@ -12,37 +12,35 @@ ghost use Rattle.model_build.specs.Items.{answer_of, read_terms};
 ghost use Rattle.lent.specs.Read.{each};
 ghost use Rattle.lent.specs.Laid.{total};
 
-use notation::texts::{ParsedWord, parse_pauli_string};
+use notation::texts::parse_pauli_string;
 use number::scalar::in_range;
-use refusal::{Answer, Refusal};
+use refusal::Refusal;
 
 // The terms that an operator may have.
 pub const MAX_TERMS: usize = 16;
 
 // Whether parts of these lengths make up a whole of length `have`.
-pub fn parts_fit(lengths: &[u64], have: usize) -> Answer
+pub fn parts_fit(lengths: &[u64], have: usize) -> Result<(), Refusal>
     ensures { result ≡ parts_fit lengths.now have }
 {
     let mut left = have;
-    let mut i = 0;
-    while i < lengths.len() {
-        let n = lengths[i] as usize;
+    for length in lengths {
+        let n = *length as usize;
         if left < n {
-            return Answer::Refused(Refusal::LengthMismatch {
+            return Err(Refusal::LengthMismatch {
                 needed: n,
                 given: left,
             });
         }
         left -= n;
-        i += 1;
     }
     if left != 0 {
-        return Answer::Refused(Refusal::LengthMismatch {
+        return Err(Refusal::LengthMismatch {
             needed: 0,
             given: left,
         });
     }
-    Answer::Accepted
+    Ok(())
 }
 
 // The room that texts or terms of these lengths take together.
@@ -51,72 +49,60 @@ pub fn sum_of(lengths: &[u64]) -> usize
     ensures { result ≡ total lengths.now }
 {
     let mut sum: usize = 0;
-    let mut i = 0;
-    while i < lengths.len() {
-        sum += lengths[i] as usize;
-        i += 1;
+    for length in lengths {
+        sum += *length as usize;
     }
     sum
 }
 
-// What the reader of a text answers.
-fn word_answer(parsed: ParsedWord) -> Answer
-    ensures { result ≡ answer_of (read_parsed parsed) }
-{
-    match parsed {
-        ParsedWord::Parsed(_lanes) => Answer::Accepted,
-        ParsedWord::Refused(refusal) => Answer::Refused(refusal),
-    }
-}
-
 // Hamiltonian item `index`: its text, then its number.
-pub fn check_real(text: &[u8], n_qubits: usize, index: usize, x: f64) -> Answer
+pub fn check_real(text: &[u8], n_qubits: usize, index: usize, x: f64) -> Result<(), Refusal>
     ensures { result ≡ answer_of (read_real n_qubits index (record { text = text.entry.now; number = x })) }
 {
-    let parsed = parse_pauli_string(text, n_qubits);
-    let ParsedWord::Parsed(_lanes) = parsed else {
-        return word_answer(parsed);
-    };
+    parse_pauli_string(text, n_qubits)?;
     if !in_range(x) {
-        return Answer::Refused(Refusal::NumberOutOfRange { index });
+        return Err(Refusal::NumberOutOfRange { index });
     }
-    Answer::Accepted
+    Ok(())
 }
 
 // A term of jump or operator `index`: its text, then its number.
-pub fn check_term(text: &[u8], n_qubits: usize, index: usize, re: f64, im: f64) -> Answer
+pub fn check_term(
+    text: &[u8],
+    n_qubits: usize,
+    index: usize,
+    re: f64,
+    im: f64,
+) -> Result<(), Refusal>
     ensures { result ≡ answer_of (read_term n_qubits index (record { text = text.entry.now; number = record { re = re; im = im } })) }
 {
-    let parsed = parse_pauli_string(text, n_qubits);
-    let ParsedWord::Parsed(_lanes) = parsed else {
-        return word_answer(parsed);
-    };
+    parse_pauli_string(text, n_qubits)?;
     if !in_range(re) {
-        return Answer::Refused(Refusal::NumberOutOfRange { index });
+        return Err(Refusal::NumberOutOfRange { index });
     }
     if !in_range(im) {
-        return Answer::Refused(Refusal::NumberOutOfRange { index });
+        return Err(Refusal::NumberOutOfRange { index });
     }
-    Answer::Accepted
+    Ok(())
 }
 
 // The items of a Hamiltonian: a text and a number for each.
-pub fn check_hamiltonian(texts: &[u8], lengths: &[u64], numbers: &[f64], n_qubits: usize) -> Answer
+pub fn check_hamiltonian(
+    texts: &[u8],
+    lengths: &[u64],
+    numbers: &[f64],
+    n_qubits: usize,
+) -> Result<(), Refusal>
     requires { (length lengths.now ≡ length numbers.now) × (total lengths.now ≤ length texts.now) }
     ensures { result ≡ answer_of (each (read_real n_qubits) 0 (real_items (parts lengths.now texts.now) numbers.now)) }
 {
     let mut at = 0;
-    let mut i = 0;
-    while i < lengths.len() {
-        let k = lengths[i] as usize;
-        let answer = check_real(&texts[at..at + k], n_qubits, i, numbers[i]);
-        let Answer::Accepted = answer else {
-            return answer;
-        };
+    for (i, length) in lengths.iter().enumerate() {
+        let k = *length as usize;
+        check_real(&texts[at..at + k], n_qubits, i, numbers[i])?;
         at += k;
-        i += 1;
     }
-    Answer::Accepted
+    Ok(())
 }
 
 // The terms of jump or operator `index`: a text and two numbers for each.
@@ -126,28 +112,23 @@ fn check_terms(
     numbers: &[f64],
     n_qubits: usize,
     index: usize,
-) -> Answer
+) -> Result<(), Refusal>
     requires { (length numbers.now ≡ 2 * length lengths.now) × (total lengths.now ≤ length texts.now) }
     ensures { result ≡ answer_of (read_terms n_qubits index (term_items (parts lengths.now texts.now) (complexes numbers.now))) }
 {
     let mut at = 0;
-    let mut i = 0;
-    while i < lengths.len() {
-        let k = lengths[i] as usize;
-        let answer = check_term(
+    for (i, length) in lengths.iter().enumerate() {
+        let k = *length as usize;
+        check_term(
             &texts[at..at + k],
             n_qubits,
             index,
             numbers[2 * i],
             numbers[2 * i + 1],
-        );
-        let Answer::Accepted = answer else {
-            return answer;
-        };
+        )?;
         at += k;
-        i += 1;
     }
-    Answer::Accepted
+    Ok(())
 }
 
 // Jump or operator `index`: from 1 to 16 terms, and each of them.
@@ -157,16 +138,16 @@ pub fn check_operator(
     numbers: &[f64],
     n_qubits: usize,
     index: usize,
-) -> Answer
+) -> Result<(), Refusal>
     requires { (length numbers.now ≡ 2 * length lengths.now) × (total lengths.now ≤ length texts.now) }
     ensures { result ≡ answer_of (read_operator n_qubits index (term_items (parts lengths.now texts.now) (complexes numbers.now))) }
 {
     let count = lengths.len();
     if count == 0 {
-        return Answer::Refused(Refusal::EmptyLincomb { index });
+        return Err(Refusal::EmptyLincomb { index });
     }
     if MAX_TERMS < count {
-        return Answer::Refused(Refusal::CountAboveLimit { count });
+        return Err(Refusal::CountAboveLimit { count });
     }
     check_terms(texts, lengths, numbers, n_qubits, index)
 }
@@ -179,15 +160,15 @@ fn check_jump(
     n_qubits: usize,
     index: usize,
     rate: f64,
-) -> Answer
+) -> Result<(), Refusal>
     requires { (length numbers.now ≡ 2 * length lengths.now) × (total lengths.now ≤ length texts.now) }
     ensures { result ≡ answer_of (read_jump n_qubits index (record { rate = rate; terms = term_items (parts lengths.now texts.now) (complexes numbers.now) })) }
 {
     if rate < 0.0 {
-        return Answer::Refused(Refusal::NegativeRate { index });
+        return Err(Refusal::NegativeRate { index });
     }
     if !in_range(rate) {
-        return Answer::Refused(Refusal::NumberOutOfRange { index });
+        return Err(Refusal::NumberOutOfRange { index });
     }
     check_operator(texts, lengths, numbers, n_qubits, index)
 }
@@ -200,30 +181,25 @@ pub fn check_jumps(
     counts: &[u64],
     numbers: &[f64],
     n_qubits: usize,
-) -> Answer
+) -> Result<(), Refusal>
     requires { (length counts.now ≡ length rates.now) × (total counts.now ≡ length lengths.now) × (length numbers.now ≡ 2 * length lengths.now) × (total lengths.now ≤ length texts.now) }
     ensures { result ≡ answer_of (each (read_jump n_qubits) 0 (jump_items rates.now (parts counts.now (term_items (parts lengths.now texts.now) (complexes numbers.now))))) }
 {
     let mut at = 0;
     let mut t = 0;
-    let mut j = 0;
-    while j < counts.len() {
-        let k = counts[j] as usize;
+    for (j, count) in counts.iter().enumerate() {
+        let k = *count as usize;
         let own = &lengths[t..t + k];
-        let answer = check_jump(
+        check_jump(
             &texts[at..],
             own,
             &numbers[2 * t..2 * t + 2 * k],
             n_qubits,
             j,
             rates[j],
-        );
-        let Answer::Accepted = answer else {
-            return answer;
-        };
+        )?;
         at += sum_of(own);
         t += k;
-        j += 1;
     }
-    Answer::Accepted
+    Ok(())
 }

@@ -28,15 +28,13 @@ pub fn read_operator(
     ensures { operator_in (length lengths.now) words.new sums.new ≡ operator_taken n_qubits lengths.now texts.now numbers.now }
 {
     let mut at = 0;
-    let mut i = 0;
-    while i < lengths.len() {
-        let k = lengths[i] as usize;
+    for (i, length) in lengths.iter().enumerate() {
+        let k = *length as usize;
         let w = take_word(&texts[at..at + k], n_qubits);
         let z = complex_at(numbers, i);
         set_word(words, SUM_PLACES + i, w);
         set_complex(sums, SUM_PLACES + i, z);
         at += k;
-        i += 1;
     }
 }
 

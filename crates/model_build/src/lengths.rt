@@ -4,14 +4,13 @@
 // Whether the lengths of what a model is built from agree, and whether the lent tables have room:
 // the input's own lengths first, then the tables in their order. The first refusal is the answer.
 ghost use Rattle.std.specs.Prelude.{◌≡◌, List, ℕ, Float};
-ghost use Rattle.refusal.specs.declared.Answer.TheVariants.{Accepted};
 ghost use Rattle.lent.specs.Tests.{lent};
 ghost use Rattle.model_build.specs.Built.{lengths_answer};
 
 use crate::items::parts_fit;
 use lent::tests::{mismatch, where_any};
 use model::stored::JUMP_NUMBERS;
-use refusal::Answer;
+use refusal::Refusal;
 use word::flat::WORD_LANES;
 
 // The work places of the largest operator and its product: 16 terms and 256 sums.
@@ -29,8 +28,8 @@ fn tables_fit(
     rates: usize,
     words: usize,
     numbers: usize,
-) -> Answer
-    ensures { result ≡ lent items h_words (lent items h_coeffs (lent n_jumps jumps (lent n_jumps rates (lent work words (lent work numbers Accepted))))) }
+) -> Result<(), Refusal>
+    ensures { result ≡ lent items h_words (lent items h_coeffs (lent n_jumps jumps (lent n_jumps rates (lent work words (lent work numbers (Ok tt)))))) }
 {
     if h_words < items {
         return mismatch(items, h_words);
@@ -50,7 +49,7 @@ fn tables_fit(
     if numbers < work {
         return mismatch(work, numbers);
     }
-    Answer::Accepted
+    Ok(())
 }
 
 // Whether there is a text for each item, a count for each jump and two numbers for each term, and a
@@ -69,7 +68,7 @@ pub fn lengths_agree(
     rate_places: &[f64],
     work_words: &[u64],
     work_numbers: &[f64],
-) -> Answer
+) -> Result<(), Refusal>
     ensures { (tWords : List ℕ) → (tNumbers : List Float) → result ≡ lengths_answer (record { texts = texts.entry.now; lengths = lengths.now; h_numbers = h_numbers.now; rates = rates.now; counts = counts.now; numbers = numbers.now }) (record { h_words = h_words.now; h_coeffs = h_coeffs.now; jumps = jumps.now; rates = rate_places.now; t_words = tWords; t_numbers = tNumbers }) work_words.now work_numbers.now }
 {
     let h = h_numbers.len();
@@ -84,14 +83,8 @@ pub fn lengths_agree(
     if numbers.len() != terms * 2 {
         return mismatch(terms * 2, numbers.len());
     }
-    let by_counts = parts_fit(counts, terms);
-    let Answer::Accepted = by_counts else {
-        return by_counts;
-    };
-    let by_lengths = parts_fit(lengths, texts.len());
-    let Answer::Accepted = by_lengths else {
-        return by_lengths;
-    };
+    parts_fit(counts, terms)?;
+    parts_fit(lengths, texts.len())?;
     let work = where_any(n_jumps, WORK_PLACES);
     tables_fit(
         h,

@@ -7,7 +7,6 @@
 // are read to test them and again to store them, and in between to count the compiled terms where
 // the terms table may be too short.
 ghost use Rattle.std.specs.Prelude.{◌≡◌};
-ghost use Rattle.refusal.specs.declared.Answer.TheVariants.{Accepted};
 ghost use Rattle.model_build.specs.Built.{build};
 ghost use Rattle.model_build.specs.Checked.{given_answer};
 
@@ -18,15 +17,8 @@ use crate::take::store_hamiltonian;
 use lent::clear::{clear_lanes, clear_numbers};
 use lent::sizes::smaller;
 use model::stored::Model;
-use refusal::{Answer, Refusal};
+use refusal::Refusal;
 use word::flat::WORD_LANES;
-
-// The answer of a builder.
-#[derive(Drop)]
-pub enum Built {
-    Model(Model),
-    Refused(Refusal),
-}
 
 // The terms table, as 13 names it.
 pub const TERMS_TABLE: usize = 4;
@@ -48,8 +40,8 @@ fn compile_given(
     t_numbers: &mut [f64],
     work_words: &mut [u64],
     work_numbers: &mut [f64],
-) -> Built
-    requires { given_answer n_qubits (record { texts = texts.now; lengths = lengths.now; h_numbers = h_numbers.now; rates = given.now; counts = counts.now; numbers = numbers.now }) (record { h_words = h_words.old; h_coeffs = h_coeffs.old; jumps = jumps.old; rates = rates.old; t_words = t_words.old; t_numbers = t_numbers.old }) work_words.old work_numbers.old ≡ Accepted }
+) -> Result<Model, Refusal>
+    requires { given_answer n_qubits (record { texts = texts.now; lengths = lengths.now; h_numbers = h_numbers.now; rates = given.now; counts = counts.now; numbers = numbers.now }) (record { h_words = h_words.old; h_coeffs = h_coeffs.old; jumps = jumps.old; rates = rates.old; t_words = t_words.old; t_numbers = t_numbers.old }) work_words.old work_numbers.old ≡ Ok tt }
     ensures { record { answer = result; tables = record { h_words = h_words.new; h_coeffs = h_coeffs.new; jumps = jumps.new; rates = rates.new; t_words = t_words.new; t_numbers = t_numbers.new }; work_words = work_words.new; work_numbers = work_numbers.new } ≡ build n_qubits (record { texts = texts.entry.now; lengths = lengths.now; h_numbers = h_numbers.now; rates = given.now; counts = counts.now; numbers = numbers.now }) (record { h_words = h_words.old; h_coeffs = h_coeffs.old; jumps = jumps.old; rates = rates.old; t_words = t_words.old; t_numbers = t_numbers.old }) work_words.old work_numbers.old }
 {
     let h = h_numbers.len();
@@ -70,7 +62,7 @@ fn compile_given(
     ) {
         clear_lanes(work_words);
         clear_numbers(work_numbers);
-        return Built::Refused(Refusal::TableFull {
+        return Err(Refusal::TableFull {
             table: TERMS_TABLE,
             places,
         });
@@ -92,7 +84,7 @@ fn compile_given(
     );
     clear_lanes(work_words);
     clear_numbers(work_numbers);
-    Built::Model(Model {
+    Ok(Model {
         qubits: n_qubits,
         hamiltonian: h,
         jumps: given.len(),
@@ -118,10 +110,10 @@ pub fn build_model(
     t_numbers: &mut [f64],
     work_words: &mut [u64],
     work_numbers: &mut [f64],
-) -> Built
+) -> Result<Model, Refusal>
     ensures { record { answer = result; tables = record { h_words = h_words.new; h_coeffs = h_coeffs.new; jumps = jumps.new; rates = rates.new; t_words = t_words.new; t_numbers = t_numbers.new }; work_words = work_words.new; work_numbers = work_numbers.new } ≡ build n_qubits (record { texts = texts.entry.now; lengths = lengths.now; h_numbers = h_numbers.now; rates = given.now; counts = counts.now; numbers = numbers.now }) (record { h_words = h_words.old; h_coeffs = h_coeffs.old; jumps = jumps.old; rates = rates.old; t_words = t_words.old; t_numbers = t_numbers.old }) work_words.old work_numbers.old }
 {
-    let answer = check_given(
+    check_given(
         texts,
         lengths,
         h_numbers,
@@ -135,25 +127,22 @@ pub fn build_model(
         rates,
         work_words,
         work_numbers,
-    );
-    let Answer::Refused(refusal) = answer else {
-        return compile_given(
-            texts,
-            lengths,
-            h_numbers,
-            given,
-            counts,
-            numbers,
-            n_qubits,
-            h_words,
-            h_coeffs,
-            jumps,
-            rates,
-            t_words,
-            t_numbers,
-            work_words,
-            work_numbers,
-        );
-    };
-    Built::Refused(refusal)
+    )?;
+    compile_given(
+        texts,
+        lengths,
+        h_numbers,
+        given,
+        counts,
+        numbers,
+        n_qubits,
+        h_words,
+        h_coeffs,
+        jumps,
+        rates,
+        t_words,
+        t_numbers,
+        work_words,
+        work_numbers,
+    )
 }

@@ -38,13 +38,9 @@ pub fn store_terms(
     requires { StoreRoom from to words.now numbers.now at t_words.old t_numbers.old }
     ensures { LaysTerms (terms_in words.now numbers.now from to) at t_words.old t_numbers.old t_words.new t_numbers.new }
 {
-    let mut i = from;
-    let mut place = at;
-    while i < to {
+    for i in from..to {
         let t = term_at(words, numbers, i);
-        lay_term(t_words, t_numbers, place, t);
-        i += 1;
-        place += 1;
+        lay_term(t_words, t_numbers, at + (i - from), t);
     }
 }
 
@@ -54,14 +50,10 @@ pub fn count_kept(words: &[u64], numbers: &[f64], len: usize) -> usize
     ensures { result ≡ length (thinned (sum_rows len words.now numbers.now)) }
 {
     let mut kept = 0;
-    let mut i = 0;
-    while i < len {
+    for i in 0..len {
         let t = term_at(words, numbers, i);
-        if negligible(norm_sqr(t.number)) {
-            i += 1;
-        } else {
+        if !negligible(norm_sqr(t.number)) {
             kept += 1;
-            i += 1;
         }
     }
     kept
@@ -81,16 +73,13 @@ pub fn store_kept(
     ensures { Keeps (thinned (sum_rows len words.now numbers.now)) at t_words.old t_numbers.old result t_words.new t_numbers.new }
 {
     let mut place = at;
-    let mut i = 0;
-    while i < len {
+    for i in 0..len {
         let t = term_at(words, numbers, i);
         if negligible(norm_sqr(t.number)) {
-            i += 1;
-        } else {
-            lay_term(t_words, t_numbers, place, t);
-            place += 1;
-            i += 1;
+            continue;
         }
+        lay_term(t_words, t_numbers, place, t);
+        place += 1;
     }
     place
 }

@@ -6,19 +6,18 @@ ghost use Rattle.std.specs.Prelude.{◌≡◌, map};
 ghost use Rattle.model_build.specs.Built.{parts, real_items};
 ghost use Rattle.model_build.specs.Taken.{word_taken, real_taken, RealsRoom, LaysReals};
 
-use notation::texts::{ParsedWord, parse_pauli_string};
+use notation::texts::parse_pauli_string;
 use word::flat::set_word;
-use word::word::{Word, identity_word, unpacked};
+use word::word::{Word, identity_word};
 
 // The word of a text that was tested.
 pub fn take_word(text: &[u8], n_qubits: usize) -> Word
     ensures { result ≡ word_taken n_qubits text.now }
 {
-    let parsed = parse_pauli_string(text, n_qubits);
-    let ParsedWord::Parsed(lanes) = parsed else {
+    let Ok(w) = parse_pauli_string(text, n_qubits) else {
         return identity_word();
     };
-    unpacked(lanes)
+    w
 }
 
 // Lays the items of a tested Hamiltonian: the word and the number of each at its place.
@@ -34,13 +33,11 @@ pub fn store_hamiltonian(
     ensures { LaysReals (map (real_taken n_qubits) (real_items (parts lengths.now texts.now) numbers.now)) h_words.old h_coeffs.old h_words.new h_coeffs.new }
 {
     let mut at = 0;
-    let mut i = 0;
-    while i < lengths.len() {
-        let k = lengths[i] as usize;
+    for (i, length) in lengths.iter().enumerate() {
+        let k = *length as usize;
         let w = take_word(&texts[at..at + k], n_qubits);
         set_word(h_words, i, w);
         h_coeffs[i] = numbers[i];
         at += k;
-        i += 1;
     }
 }

@@ -10,7 +10,7 @@ use native.Mathlib.Omega.{arith}
 use borrow.Author.Tests.{not-false}
 use lib.Ieee.{Float, nan}
 use lib.ListN.{length, get_or, length-map, length-append}
-use Rattle.refusal.specs.declared.Answer.TheVariants as Tests
+use Rattle.std.specs.Prelude.{Ok}
 use Rattle.word.proofs.Sums.{or_left, or_right}
 use Rattle.number.specs.Numbers.{Cx}
 use Rattle.number.specs.Floats.{floats, in_range}
@@ -32,7 +32,6 @@ use Rattle.lent.specs.Every.{Every}
 use Rattle.lent.proofs.Lists.{every_at, every_weaken, every_append, every_map}
 use Rattle.model_build.specs.Work.{operator_taken}
 use Rattle.model.specs.declared.stored.Model.{Model}
-use Rattle.model_build.specs.declared.spec.Built.TheVariants as Answers
 use Rattle.lent.proofs.Passed.{both, counted_passed}
 use Rattle.lent.proofs.Firsts.{NoneBefore}
 use Rattle.model_build.proofs.Parts.{length_parts, length_complexes}
@@ -58,7 +57,7 @@ all_every P [] h = tt
 all_every P (A ∷ As) h = every_append P A (all_terms As) h.0 (all_every P As h.1)
 
 module _ (m : Model) (i : Input) (t : ModelTables) (workWords : List ℕ) (workNumbers : List Float) where
-  module _ (modelled : test_model m t ≡ Tests.Accepted) (fit : LengthsFit m i t workWords workNumbers) (numbers : NoneBefore (number_fails i.k) (operators i * operators i))
+  module _ (modelled : test_model m t ≡ Ok tt) (fit : LengthsFit m i t workWords workNumbers) (numbers : NoneBefore (number_fails i.k) (operators i * operators i))
       (As : List (List Term)) (read : read_operators m.qubits i ≡ got As) (few-pairs : m.jumps + length (pair_places floats (operators i) (matrix i)) ≤ max_jumps) where
     abbrev n : ℕ
     n = m.qubits
@@ -192,13 +191,13 @@ module _ (m : Model) (i : Input) (t : ModelTables) (workWords : List ℕ) (workN
         let j : m.jumps + length (entries_from (m.terms + length own) cs) ≡ m.jumps + length cs = omega (arith, entries_length (m.terms + length own) cs) in
         λ k. record { qubits = n; hamiltonian = h k; jumps = j k; terms = m.terms + length (own ++ terms_of cs) }
 
-    made_passes : m.terms + length (own ++ terms_of cs) ≤ term_places t → test_model made (stored m i t workWords workNumbers As cs) ≡ Tests.Accepted
+    made_passes : m.terms + length (own ++ terms_of cs) ≤ term_places t → test_model made (stored m i t workWords workNumbers As cs) ≡ Ok tt
     unfolding extended stored laid
-    made_passes room = subst (λ (m' : Model). test_model m' (stored m i t workWords workNumbers As cs) ≡ Tests.Accepted) made_is (extended_passes m t added modelled (extends room))
+    made_passes room = subst (λ (m' : Model). test_model m' (stored m i t workWords workNumbers As cs) ≡ Ok tt) made_is (extended_passes m t added modelled (extends room))
 
   -- what the tests before the operators settle
-  tests_settle : matrix_tests m i t workWords workNumbers ≡ Tests.Accepted
-      → (test_model m t ≡ Tests.Accepted) × LengthsFit m i t workWords workNumbers × NoneBefore (number_fails i.k) (operators i * operators i)
+  tests_settle : matrix_tests m i t workWords workNumbers ≡ Ok tt
+      → (test_model m t ≡ Ok tt) × LengthsFit m i t workWords workNumbers × NoneBefore (number_fails i.k) (operators i * operators i)
   unfolding matrix_tests
   tests_settle e =
       let e1 = both (test_model m t) _ e in
@@ -208,7 +207,7 @@ module _ (m : Model) (i : Input) (t : ModelTables) (workWords : List ℕ) (workN
       (e1.0, lengths_fit m i t workWords workNumbers e3.0, e4.0)
 
   -- a model to which a matrix was added passes the test
-  pub added_passes : (m' : Model) → (add m i t workWords workNumbers).answer ≡ Answers.Model m' → test_model m' (add m i t workWords workNumbers).tables ≡ Tests.Accepted
+  pub added_passes : (m' : Model) → (add m i t workWords workNumbers).answer ≡ Ok m' → test_model m' (add m i t workWords workNumbers).tables ≡ Ok tt
   unfolding add
   added_passes =
       by_test t workWords workNumbers (matrix_tests m i t workWords workNumbers) _ (λ first.
@@ -216,7 +215,7 @@ module _ (m : Model) (i : Input) (t : ModelTables) (workWords : List ℕ) (workN
       by_read t workWords workNumbers (read_operators m.qubits i) _ (λ As read.
       by_test t workWords workNumbers (pairs_test m i t workWords workNumbers) (compiled_matrix m i t workWords workNumbers As) (λ second.
       let cs : List Compiled = pairs_of m.terms i.counts (matrix i) As in
-      let few = counted_passed max_jumps (m.jumps + length (pair_places floats (operators i) (matrix i))) Tests.Accepted second in
+      let few = counted_passed max_jumps (m.jumps + length (pair_places floats (operators i) (matrix i))) (Ok tt) second in
       by_room t workWords workNumbers (term_places t) (m.terms + length (all_terms As ++ terms_of cs))
       (record { qubits = m.qubits; hamiltonian = m.hamiltonian; jumps = m.jumps + length cs; terms = m.terms + length (all_terms As ++ terms_of cs) }) (stored m i t workWords workNumbers As cs)
       (made_passes s.0 s.1 s.2 As read few.0))))

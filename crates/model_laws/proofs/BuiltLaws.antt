@@ -11,7 +11,7 @@ use lib.Dec.{ltb}
 use lib.Ieee.{Float}
 use lib.ListN.{length, take, drop, length-map}
 use Rattle.refusal.specs.declared.Refusal.TheVariants.{TooManyQubits}
-use Rattle.refusal.specs.declared.Answer.TheVariants as Tests
+use Rattle.std.specs.Prelude.{Ok}
 use Rattle.word.specs.Word.{max_qubits}
 use Rattle.number.specs.Floats.{floats}
 use Rattle.gksl.specs.Model.{RealTerm, JumpOver}
@@ -24,7 +24,6 @@ use Rattle.model_build.specs.Compiled.{Compiled, compile_jump}
 use Rattle.model_build.specs.Taken.{real_taken, jump_taken}
 use Rattle.model_build.specs.Built.{Input, hamiltonian, jumps_given, real_items, term_items, jump_items, parts, read_hamiltonian, read_jumps, entries_from, terms_of, rates_of, stored, term_places, build}
 use Rattle.model.specs.declared.stored.Model.{Model}
-use Rattle.model_build.specs.declared.spec.Built.TheVariants as Answers
 use Rattle.model_build.proofs.BuildLaws.{LengthsFit, lengths_fit}
 use Rattle.model_build.proofs.TakenLaws.{reals_taken, jumps_taken}
 use Rattle.lent.specs.Every.{Every}
@@ -123,14 +122,14 @@ module _ (n : ℕ) (i : Input) (t : ModelTables) (workWords : List ℕ) (workNum
         let z : 0 + length (terms_of cs) ≡ length (terms_of cs) = omega arith in
         λ k. record { qubits = n; hamiltonian = h k; jumps = j k; terms = z k }
 
-    made_passes : length (terms_of cs) ≤ term_places t → test_model made (stored hs cs t) ≡ Tests.Accepted
+    made_passes : length (terms_of cs) ≤ term_places t → test_model made (stored hs cs t) ≡ Ok tt
     unfolding extended stored
     made_passes room =
-        subst (λ (m : Model). test_model m (stored hs cs t) ≡ Tests.Accepted) made_is
+        subst (λ (m : Model). test_model m (stored hs cs t) ≡ Ok tt) made_is
         (stands_tested (larger (empty n) added) (extended (empty n) t added) (extended_stands (empty n) t added (empty_stands n t within) (extends room)))
 
   -- a model that was built passes the test
-  pub built_passes : (m : Model) → (build n i t workWords workNumbers).answer ≡ Answers.Model m → test_model m (build n i t workWords workNumbers).tables ≡ Tests.Accepted
+  pub built_passes : (m : Model) → (build n i t workWords workNumbers).answer ≡ Ok m → test_model m (build n i t workWords workNumbers).tables ≡ Ok tt
   unfolding build
   built_passes =
       by_test t workWords workNumbers _ _ (λ first.

@@ -10,7 +10,7 @@ use native.Mathlib.Omega.{arith}
 use native.Mathlib.Decide.{dec_lt}
 use lib.Ieee.{Float, nan}
 use lib.ListN.{length, get_or, set, length-set, length-map, get_or-map}
-use Rattle.refusal.specs.declared.Answer.TheVariants.{Accepted}
+use Rattle.std.specs.Prelude.{Ok}
 use Rattle.word.specs.Word.{identity, Sound}
 use Rattle.word.specs.Register.{reaches}
 use Rattle.word.specs.Flat.{words, lay_word, word_lanes}
@@ -219,5 +219,5 @@ module _ (m : Model) (t : ModelTables) (a : Additions) (s : Stands m t) (x : Ext
   }
 
 -- a tested model, with more laid after it that passes, passes the test
-pub extended_passes : (m : Model) (t : ModelTables) (a : Additions) → test_model m t ≡ Accepted → Extends m t a → test_model (larger m a) (extended m t a) ≡ Accepted
+pub extended_passes : (m : Model) (t : ModelTables) (a : Additions) → test_model m t ≡ Ok tt → Extends m t a → test_model (larger m a) (extended m t a) ≡ Ok tt
 extended_passes m t a e x = stands_tested (larger m a) (extended m t a) (extended_stands m t a (tested_stands m t e) x)

@@ -13,10 +13,10 @@ use lib.ListN.{length, length-map}
 use Rattle.refusal.specs.declared.Refusal.TheVariants.{NegativeRate, NumberOutOfRange}
 use Rattle.word.specs.Register.{reaches}
 use Rattle.notation.specs.Text.{parse}
-use Rattle.word.specs.Word.{Sound, unpack}
+use Rattle.word.specs.Word.{Sound}
 use Rattle.word.specs.declared.word.Word.{Word}
-use Rattle.notation.specs.declared.texts.ParsedWord.{ParsedWord}
-use Rattle.notation.specs.declared.texts.ParsedWord.TheVariants as Texts
+use Rattle.std.specs.Prelude.{Result, Ok, Err}
+use Rattle.refusal.specs.declared.Refusal.{Refusal}
 use Rattle.notation.proofs.RoundTrips.{text_read}
 use Rattle.word.proofs.Sums.{or_left, or_right}
 use Rattle.number.specs.Floats.{floats, float0, in_range}
@@ -50,11 +50,11 @@ pub record JumpGood (n : ℕ) (j : JumpOver floats pauli) : Type 0 where
 pub word_read : (n : ℕ) (text : List ℕ) (w : Word) → read_word n text ≡ got w → Inside n w
 word_read n text w e = go (parse n text) refl e
   where
-    go : (p : ParsedWord) → parse n text ≡ p → read_parsed p ≡ got w → Inside n w
-    go (Texts.Parsed lanes) f g =
+    go : (p : Result Word Refusal) → parse n text ≡ p → read_parsed p ≡ got w → Inside n w
+    go (Ok lanes) f g =
         let r = text_read n text lanes f in
-        subst⁻¹ (Inside n) (got_is (unpack lanes) w g) (record { sound = r.sound; below = none_reaches (unpack lanes) n (λ q _ k. r.above q k) })
-    go (Texts.Refused s) f g = let z : ◌≡◌ {A = ℕ} 0 1 = cc in absurd (omega arith)
+        subst⁻¹ (Inside n) (got_is lanes w g) (record { sound = r.sound; below = none_reaches lanes n (λ q _ k. r.above q k) })
+    go (Err s) f g = let z : ◌≡◌ {A = ℕ} 0 1 = cc in absurd (omega arith)
 
 pub real_read : (n i : ℕ) (g : GivenReal) (h : RealTerm floats pauli) → read_real n i g ≡ got h → Sound h.word × GoodReal n h.word h.num
 unfolding read_real

@@ -15,8 +15,9 @@ use lib.Dec.{eqb, ltb}
 use lib.Ieee.{Float}
 use lib.ListN.{length, get_or, drop, length-map}
 use Rattle.refusal.specs.declared.Refusal.TheVariants.{TooManyQubits, CountAboveLimit, LengthMismatch, TableFull}
-use Rattle.refusal.specs.declared.Answer.{Answer}
-use Rattle.refusal.specs.declared.Answer.TheVariants.{Accepted, Refused}
+use Rattle.std.specs.Prelude.{Result, Ok, Err}
+use Rattle.refusal.specs.declared.Refusal.{Refusal}
+use Rattle.refusal.specs.Cause.{Answer}
 use Rattle.word.specs.Flat.{word_lanes}
 use Rattle.word.specs.Word.{max_qubits}
 use Rattle.number.specs.Floats.{floats}
@@ -33,8 +34,6 @@ use Rattle.model_build.specs.Built.{parts, term_items, jump_items, parts_fit, te
 use Rattle.model_build.specs.Built as Compiling
 use Rattle.model_build.specs.Work.{operator_taken}
 use Rattle.model.specs.declared.stored.Model.{Model}
-use Rattle.model_build.specs.declared.spec.Built.{Built}
-use Rattle.model_build.specs.declared.spec.Built.TheVariants as Answers
 use Rattle.lent.specs.Tests.{counted, lent, where_any, entries, and_then, equal}
 use Rattle.lent.proofs.Passed.{passed, both, counted_passed}
 use Rattle.lent.proofs.NeedLaws.{need_mono}
@@ -64,32 +63,32 @@ use Rattle.model.specs.Terms.{Term}
 equal_same : (needed have : ℕ) (a b : Answer) → (have ≡ needed → a ≡ b) → equal needed have a ≡ equal needed have b
 equal_same needed have a b h = go (eqb have needed) refl
   where
-    go : (x : Bool) → eqb have needed ≡ x → cond x a (Refused (LengthMismatch needed have)) ≡ cond x b (Refused (LengthMismatch needed have))
+    go : (x : Bool) → eqb have needed ≡ x → cond x a (Err (LengthMismatch needed have)) ≡ cond x b (Err (LengthMismatch needed have))
     go true e = h (eqb-true have needed e)
     go false e = refl
 
-then_same : (x a b : Answer) → (x ≡ Accepted → a ≡ b) → and_then x a ≡ and_then x b
-then_same Accepted a b h = h refl
-then_same (Refused r) a b h = refl
+then_same : (x a b : Answer) → (x ≡ Ok tt → a ≡ b) → and_then x a ≡ and_then x b
+then_same (Ok _) a b h = h refl
+then_same (Err r) a b h = refl
 
 counted_same : (limit count : ℕ) (a b : Answer) → (count ≤ limit → a ≡ b) → counted limit count a ≡ counted limit count b
 counted_same limit count a b h = go (ltb limit count) refl
   where
-    go : (x : Bool) → ltb limit count ≡ x → cond x (Refused (CountAboveLimit count)) a ≡ cond x (Refused (CountAboveLimit count)) b
+    go : (x : Bool) → ltb limit count ≡ x → cond x (Err (CountAboveLimit count)) a ≡ cond x (Err (CountAboveLimit count)) b
     go true e = refl
     go false e = h (ltb-false limit count e)
 
 module _ (t : ModelTables) (workWords : List ℕ) (workNumbers : List Float) where
-  tested_answer : (x : Answer) (after : Building) (b : Built) → (x ≡ Accepted → after.answer ≡ b) → (tested t workWords workNumbers x after).answer ≡ answered x b
-  tested_answer Accepted after b h = h refl
-  tested_answer (Refused r) after b h = refl
+  tested_answer : (x : Answer) (after : Building) (b : Result Model Refusal) → (x ≡ Ok tt → after.answer ≡ b) → (tested t workWords workNumbers x after).answer ≡ answered x b
+  tested_answer (Ok _) after b h = h refl
+  tested_answer (Err r) after b h = refl
 
-  read_answer : {A : Type 0} (x : Read A) (f : A → Building) (g : A → Built) → ((a : A) → x ≡ got a → (f a).answer ≡ g a) → (when_read t workWords workNumbers x f).answer ≡ answered_read x g
+  read_answer : {A : Type 0} (x : Read A) (f : A → Building) (g : A → Result Model Refusal) → ((a : A) → x ≡ got a → (f a).answer ≡ g a) → (when_read t workWords workNumbers x f).answer ≡ answered_read x g
   read_answer (got a) f g h = h a refl
   read_answer (refused r) f g h = refl
 
   room_answer : (places terms : ℕ) (made : Model) (after : ModelTables) → terms ≤ places
-      → (cond (ltb places terms) (finished t workWords workNumbers (Answers.Refused (TableFull 4 places)) t) (finished t workWords workNumbers (Answers.Model made) after)).answer ≡ Answers.Model made
+      → (cond (ltb places terms) (finished t workWords workNumbers (Err (TableFull 4 places)) t) (finished t workWords workNumbers (Ok made) after)).answer ≡ Ok made
   room_answer places terms made after h = rw (le-ltb places terms h)
 
 -- ---- building
@@ -142,17 +141,17 @@ module _ (n h j c : ℕ) (i : Compiling.Input) (few : ModelCounts h j c i) (t : 
   made hs cs = record { qubits = n; hamiltonian = length hs; jumps = length cs; terms = length (terms_of cs) }
 
   abbrev limits : Answer → Answer
-  limits a = cond (ltb max_qubits n) (Refused (TooManyQubits n max_qubits)) (counted max_hamiltonian (length i.h_numbers) (counted max_jumps (length i.rates) a))
+  limits a = cond (ltb max_qubits n) (Err (TooManyQubits n max_qubits)) (counted max_hamiltonian (length i.h_numbers) (counted max_jumps (length i.rates) a))
 
   limits_same : limits (Compiling.lengths_answer i t workWords workNumbers) ≡ limits (BuiltFrom.own_lengths i)
   limits_same =
-      ap (cond (ltb max_qubits n) (Refused (TooManyQubits n max_qubits)))
+      ap (cond (ltb max_qubits n) (Err (TooManyQubits n max_qubits)))
       (counted_same max_hamiltonian (length i.h_numbers) _ _ (λ p. counted_same max_jumps (length i.rates) _ _ (λ q. lengths_built p q)))
 
   pub build_answer : (Compiling.build n i t workWords workNumbers).answer ≡ built_from n i
   unfolding Compiling.build built_from
   build_answer =
-      let after : Built = answered_read (Compiling.read_hamiltonian n i) (λ hs. answered_read (Compiling.read_jumps n i) (λ js. Answers.Model (made hs (map compile_jump js)))) in
+      let after : Result Model Refusal = answered_read (Compiling.read_hamiltonian n i) (λ hs. answered_read (Compiling.read_jumps n i) (λ js. Ok (made hs (map compile_jump js)))) in
       tested_answer t workWords workNumbers (limits (Compiling.lengths_answer i t workWords workNumbers))
       (when_read t workWords workNumbers (Compiling.read_hamiltonian n i) (λ hs. when_read t workWords workNumbers (Compiling.read_jumps n i) (λ js. Compiling.compiled_model n i t workWords workNumbers hs (map compile_jump js)))) after
       (λ first.
@@ -160,9 +159,9 @@ module _ (n h j c : ℕ) (i : Compiling.Input) (few : ModelCounts h j c i) (t : 
       let e2 = counted_passed max_hamiltonian (length i.h_numbers) _ e1.1 in
       let e3 = counted_passed max_jumps (length i.rates) _ e2.1 in
       read_answer t workWords workNumbers (Compiling.read_hamiltonian n i) (λ hs. when_read t workWords workNumbers (Compiling.read_jumps n i) (λ js. Compiling.compiled_model n i t workWords workNumbers hs (map compile_jump js)))
-      (λ hs. answered_read (Compiling.read_jumps n i) (λ js. Answers.Model (made hs (map compile_jump js))))
+      (λ hs. answered_read (Compiling.read_jumps n i) (λ js. Ok (made hs (map compile_jump js))))
       (λ hs _.
-      read_answer t workWords workNumbers (Compiling.read_jumps n i) (λ js. Compiling.compiled_model n i t workWords workNumbers hs (map compile_jump js)) (λ js. Answers.Model (made hs (map compile_jump js)))
+      read_answer t workWords workNumbers (Compiling.read_jumps n i) (λ js. Compiling.compiled_model n i t workWords workNumbers hs (map compile_jump js)) (λ js. Ok (made hs (map compile_jump js)))
       (λ js read.
       room_answer t workWords workNumbers (term_places t) (length (terms_of (map compile_jump js))) (made hs (map compile_jump js)) (Compiling.stored hs (map compile_jump js) t) (terms_room e3.0 js read))))
       ∙ ap (λ (a : Answer). answered a after) limits_same
@@ -177,7 +176,7 @@ module _ (k c : ℕ) (m : Model) (i : Adding.Input) (few : MatrixCounts k c i) (
     terms_given = length i.numbers / 2
 
     -- up to the limit of each operator
-    terms_few : parts_fit i.counts terms_given ≡ Accepted → min terms_given (max_terms * operators i) ≤ k * c
+    terms_few : parts_fit i.counts terms_given ≡ Ok tt → min terms_given (max_terms * operators i) ≤ k * c
     terms_few e = go (dec_le max_terms c)
       where
         go : Dec (max_terms ≤ c) → min terms_given (max_terms * operators i) ≤ k * c
@@ -186,12 +185,12 @@ module _ (k c : ℕ) (m : Model) (i : Adding.Input) (few : MatrixCounts k c i) (
             let counts : (j : ℕ) → get_or i.counts j 0 ≤ c = λ j. omega (arith, few.terms j, h) in
             omega (arith, fit_total i.counts terms_given e, le_trans (total_most c i.counts counts) (mul-le-mul_right c ops_few))
 
-    work_few : parts_fit i.counts terms_given ≡ Accepted → work_needed (operators i) terms_given ≤ work_needed k (k * c)
+    work_few : parts_fit i.counts terms_given ≡ Ok tt → work_needed (operators i) terms_given ≤ work_needed k (k * c)
     work_few e = need_mono (operators i) k _ _ ops_few (omega (arith, terms_few e, ops_few))
 
-    lent_same : parts_fit i.counts terms_given ≡ Accepted
+    lent_same : parts_fit i.counts terms_given ≡ Ok tt
         → lent (entries_needed m (operators i)) (length t.jumps / 8) (lent (entries_needed m (operators i)) (length t.rates)
-        (lent (work_needed (operators i) terms_given) (length workWords / word_lanes) (lent (work_needed (operators i) terms_given) (length workNumbers / 2) Accepted))) ≡ Accepted
+        (lent (work_needed (operators i) terms_given) (length workWords / word_lanes) (lent (work_needed (operators i) terms_given) (length workNumbers / 2) (Ok tt)))) ≡ Ok tt
     lent_same e =
         let up = pairs_up (operators i) k ops_few in
         let w = work_few e in
@@ -239,15 +238,15 @@ module _ (k c : ℕ) (m : Model) (i : Adding.Input) (few : MatrixCounts k c i) (
       (counted max_operators (operators i)
       (and_then (AddedFrom.own_lengths i)
       (entries (operators i * operators i) (number_fails i.k)
-      (hermitian (operators i) (matrix i) Accepted))))
+      (hermitian (operators i) (matrix i) (Ok tt)))))
 
   tests_same : matrix_tests m i t workWords workNumbers ≡ own_tests
   unfolding matrix_tests
   tests_same =
       then_same (test_model m t) _ _ (λ _. counted_same max_operators (operators i) _ _ (λ p.
-      ap (λ (a : Answer). and_then a (entries (operators i * operators i) (number_fails i.k) (hermitian (operators i) (matrix i) Accepted))) (lengths_added p)))
+      ap (λ (a : Answer). and_then a (entries (operators i * operators i) (number_fails i.k) (hermitian (operators i) (matrix i) (Ok tt)))) (lengths_added p)))
 
-  tests_few : matrix_tests m i t workWords workNumbers ≡ Accepted → operators i ≤ max_operators
+  tests_few : matrix_tests m i t workWords workNumbers ≡ Ok tt → operators i ≤ max_operators
   unfolding matrix_tests
   tests_few e = (counted_passed max_operators (operators i) _ (both (test_model m t) _ e).1).0
 
@@ -259,20 +258,20 @@ module _ (k c : ℕ) (m : Model) (i : Adding.Input) (few : MatrixCounts k c i) (
   pub add_answer : (Adding.add m i t workWords workNumbers).answer ≡ added_from m i t
   unfolding Adding.add added_from
   add_answer =
-      let pairs : Answer = counted max_jumps (m.jumps + length (pair_places floats (operators i) (matrix i))) Accepted in
-      let after : Built = answered_read (read_operators m.qubits i) (λ As. answered pairs (Answers.Model (larger As))) in
+      let pairs : Answer = counted max_jumps (m.jumps + length (pair_places floats (operators i) (matrix i))) (Ok tt) in
+      let after : Result Model Refusal = answered_read (read_operators m.qubits i) (λ As. answered pairs (Ok (larger As))) in
       tested_answer t workWords workNumbers (matrix_tests m i t workWords workNumbers)
       (when_read t workWords workNumbers (read_operators m.qubits i) (λ As. tested t workWords workNumbers pairs (compiled_matrix m i t workWords workNumbers As))) after
       (λ first.
-      read_answer t workWords workNumbers (read_operators m.qubits i) (λ As. tested t workWords workNumbers pairs (compiled_matrix m i t workWords workNumbers As)) (λ As. answered pairs (Answers.Model (larger As)))
+      read_answer t workWords workNumbers (read_operators m.qubits i) (λ As. tested t workWords workNumbers pairs (compiled_matrix m i t workWords workNumbers As)) (λ As. answered pairs (Ok (larger As)))
       (λ As read.
-      tested_answer t workWords workNumbers pairs (compiled_matrix m i t workWords workNumbers As) (Answers.Model (larger As))
+      tested_answer t workWords workNumbers pairs (compiled_matrix m i t workWords workNumbers As) (Ok (larger As))
       (λ _.
       room_answer t workWords workNumbers (term_places t) (larger As).terms (larger As) (Adding.stored m i t workWords workNumbers As (pairs_of m.terms i.counts (matrix i) As)) (pairs_room (tests_few first) As read))))
       ∙ ap (λ (a : Answer). answered a after) tests_same
 
   -- what passes every test but 13 is added
-  pub added_model : matrix_answer m i t workWords workNumbers ≡ Accepted → (m' : Model) × ((Adding.add m i t workWords workNumbers).answer ≡ Answers.Model m')
+  pub added_model : matrix_answer m i t workWords workNumbers ≡ Ok tt → (m' : Model) × ((Adding.add m i t workWords workNumbers).answer ≡ Ok m')
   added_model e =
       let a = matrix_accepted m i t workWords workNumbers e in (
         larger a.As,

@@ -3,9 +3,9 @@
 
 -- What adding a matrix answers where the lent tables have room for all: a refusal of the model or of what is given, or the
 -- model. How much room that is, in places that the model's counts and the numbers of operators and terms fix.
-use Rattle.std.specs.Prelude.{ℕ, ◌+◌, ◌*◌, ◌/◌, ◌≤◌, min, List, ◌++◌, [], ◌∷◌, Float, length, get_or}
-use Rattle.refusal.specs.declared.Answer.{Answer}
-use Rattle.refusal.specs.declared.Answer.TheVariants.{Accepted}
+use Rattle.std.specs.Prelude.{ℕ, ◌+◌, ◌*◌, ◌/◌, ◌≤◌, min, List, ◌++◌, [], ◌∷◌, Float, length, get_or, Result, Ok}
+use Rattle.refusal.specs.declared.Refusal.{Refusal}
+use Rattle.refusal.specs.Cause.{Answer}
 use Rattle.word.specs.Flat.{word_lanes}
 use Rattle.number.specs.Floats.{floats}
 use Rattle.model.specs.Stored.{ModelTables}
@@ -15,8 +15,6 @@ use Rattle.model_build.specs.Given.{max_terms}
 use Rattle.model_build.specs.Compiled.{Compiled}
 use Rattle.model_build.specs.Built.{parts_fit, terms_of}
 use Rattle.model.specs.declared.stored.Model.{Model}
-use Rattle.model_build.specs.declared.spec.Built.{Built}
-use Rattle.model_build.specs.declared.spec.Built.TheVariants as Answers
 use Rattle.k_matrix.specs.Matrix.{hermitian, pair_places}
 use Rattle.k_matrix.specs.Pairs.{pairs_of}
 use Rattle.k_matrix.specs.Added.{Input, operators, matrix, max_operators, work_needed, read_operators, all_terms}
@@ -35,21 +33,21 @@ own_lengths i =
     ∷ equal (terms * 2) (length i.numbers)
     ∷ and_then (parts_fit i.counts terms)
     ∷ and_then (parts_fit i.lengths (length i.texts))
-    ∷ []) Accepted
+    ∷ []) (Ok tt)
 
 -- as `add` without the tests of the tables lent for more; those of the model are tested
-unfoldable pub added_from : Model → Input → ModelTables → Built
+unfoldable pub added_from : Model → Input → ModelTables → Result Model Refusal
 added_from m i t =
     answered
     (and_then (test_model m t)
     (counted max_operators (operators i)
     (and_then (own_lengths i)
     (entries (operators i * operators i) (number_fails i.k)
-    (hermitian (operators i) (matrix i) Accepted)))))
+    (hermitian (operators i) (matrix i) (Ok tt))))))
     (answered_read (read_operators m.qubits i) (λ As.
-    answered (counted max_jumps (m.jumps + length (pair_places floats (operators i) (matrix i))) Accepted)
+    answered (counted max_jumps (m.jumps + length (pair_places floats (operators i) (matrix i))) (Ok tt))
     (let cs : List Compiled = pairs_of m.terms i.counts (matrix i) As in
-    Answers.Model (record { qubits = m.qubits; hamiltonian = m.hamiltonian; jumps = m.jumps + length cs; terms = m.terms + length (all_terms As ++ terms_of cs) }))))
+    Ok (record { qubits = m.qubits; hamiltonian = m.hamiltonian; jumps = m.jumps + length cs; terms = m.terms + length (all_terms As ++ terms_of cs) }))))
 
 -- the pairs of k operators in which the first is not above the second
 abbrev pub pairs_up_to : ℕ → ℕ

@@ -3,29 +3,28 @@
 
 -- What building answers where the lent tables have room for all: a refusal of what is given, or the model. How much room that
 -- is, in places that the numbers of items alone fix.
-use Rattle.std.specs.Prelude.{ℕ, ◌+◌, ◌*◌, ◌/◌, ◌≤◌, min, List, map, [], ◌∷◌, Float, length, get_or}
-use Rattle.refusal.specs.declared.Answer.{Answer}
-use Rattle.refusal.specs.declared.Answer.TheVariants.{Accepted, Refused}
+use Rattle.std.specs.Prelude.{ℕ, ◌+◌, ◌*◌, ◌/◌, ◌≤◌, min, List, map, [], ◌∷◌, Float, length, get_or, Result, Ok, Err}
+use Rattle.refusal.specs.declared.Refusal.{Refusal}
+use Rattle.model.specs.declared.stored.Model.{Model}
+use Rattle.refusal.specs.Cause.{Answer}
 use Rattle.word.specs.Flat.{word_lanes}
 use Rattle.model.specs.Stored.{ModelTables}
 use Rattle.model.specs.Tested.{max_hamiltonian, max_jumps}
 use Rattle.model_build.specs.Given.{max_terms}
 use Rattle.model_build.specs.Compiled.{Compiled, compile_jump}
 use Rattle.model_build.specs.Built.{Input, parts_fit, work_places, read_hamiltonian, read_jumps, terms_of, size_tests}
-use Rattle.model_build.specs.declared.spec.Built.{Built}
-use Rattle.model_build.specs.declared.spec.Built.TheVariants as Answers
 use Rattle.lent.specs.Tests.{where_any, and_then, equal, in_turn}
 use Rattle.lent.specs.Read.{Read, got, refused}
 
 -- the refusal of a test or of an item, or what comes after
-abbrev pub answered : Answer → Built → Built
-answered Accepted after = after
-answered (Refused r) after = Answers.Refused r
+abbrev pub answered : Answer → Result Model Refusal → Result Model Refusal
+answered (Ok _) after = after
+answered (Err r) after = Err r
 
 module _ {A : Type 0} where
-  abbrev pub answered_read : Read A → (A → Built) → Built
+  abbrev pub answered_read : Read A → (A → Result Model Refusal) → Result Model Refusal
   answered_read (got a) f = f a
-  answered_read (refused r) f = Answers.Refused r
+  answered_read (refused r) f = Err r
 
 -- 9 for the input's own lengths
 unfoldable pub own_lengths : Input → Answer
@@ -37,15 +36,15 @@ own_lengths i =
     ∷ equal (terms * 2) (length i.numbers)
     ∷ and_then (parts_fit i.counts terms)
     ∷ and_then (parts_fit i.lengths (length i.texts))
-    ∷ []) Accepted
+    ∷ []) (Ok tt)
 
 -- as `build` without the tests of lent tables
-unfoldable pub built_from : ℕ → Input → Built
+unfoldable pub built_from : ℕ → Input → Result Model Refusal
 built_from n i =
     answered (in_turn (size_tests n i) (own_lengths i))
     (answered_read (read_hamiltonian n i) (λ hs. answered_read (read_jumps n i) (λ js.
     let cs : List Compiled = map compile_jump js in
-    Answers.Model (record { qubits = n; hamiltonian = length hs; jumps = length cs; terms = length (terms_of cs) }))))
+    Ok (record { qubits = n; hamiltonian = length hs; jumps = length cs; terms = length (terms_of cs) }))))
 
 -- at most h Hamiltonian items and j jumps of at most c terms, each count up to its limit
 pub record ModelCounts (h j c : ℕ) (i : Input) : Type 0 where

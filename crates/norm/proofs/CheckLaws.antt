@@ -13,13 +13,13 @@ use lib.Ieee.{Float}
 use lib.ListN.{length}
 use Rattle.refusal.specs.declared.Refusal.{Refusal}
 use Rattle.refusal.specs.declared.Refusal.TheVariants.{CountAboveLimit, LengthMismatch, NumberOutOfRange, WordOutsideRegister}
-use Rattle.refusal.specs.declared.Answer.{Answer}
-use Rattle.refusal.specs.declared.Answer.TheVariants.{Accepted, Refused}
+use Rattle.std.specs.Prelude.{Ok, Err}
+use Rattle.refusal.specs.Cause.{Answer}
 use Rattle.word.specs.Flat.{word_lanes}
 use Rattle.number.specs.Floats.{is_finite}
 use Rattle.model.specs.Stored.{ModelTables}
 use Rattle.model.specs.Tested.{test_model}
-use Rattle.lent.specs.Tests.{where_any, first_to, and_then}
+use Rattle.lent.specs.Tests.{where_any, first_to}
 use Rattle.lent.proofs.NeedLaws.{need_some}
 use Rattle.lent.proofs.Firsts.{first_before}
 use Rattle.lent.proofs.Passed.{passed, both, lent_passed, counted_passed}
@@ -32,93 +32,86 @@ module _ (m : Model) (t : ModelTables) (lanes : List ℕ) (len h j k a b r d : �
   abbrev tests : Answer
   tests = norm_tests m t lanes len h j k a b r d
 
-  pub model_refused : (q : Refusal) → test_model m t ≡ Refused q → Refused q ≡ tests
+  pub model_refused : (q : Refusal) → test_model m t ≡ Err q → Err q ≡ tests
   unfolding norm_tests
   model_refused q e = rw e
 
-  module _ (ok : test_model m t ≡ Accepted) where
-    pub words_many : max_words < len → Refused (CountAboveLimit len) ≡ tests
+  module _ (ok : test_model m t ≡ Ok tt) where
+    pub words_many : max_words < len → Err (CountAboveLimit len) ≡ tests
     unfolding norm_tests
     words_many l = rw (ok, lt-ltb max_words len l)
 
     module _ (few : len ≤ max_words) where
-      pub words_short : length lanes / word_lanes < len → Refused (LengthMismatch len (length lanes / word_lanes)) ≡ tests
+      pub words_short : length lanes / word_lanes < len → Err (LengthMismatch len (length lanes / word_lanes)) ≡ tests
       unfolding norm_tests
       words_short l = rw (ok, le-ltb max_words len few, lt-ltb (length lanes / word_lanes) len l)
 
       module _ (words_long : len ≤ length lanes / word_lanes) {rows row : ℕ} (rows_are : rows ≡ where_any len (row_lanes * m.qubits)) (row_is : row ≡ where_any len row_lanes) where
-        pub h_index_short : h < rows → Refused (LengthMismatch rows h) ≡ tests
+        pub h_index_short : h < rows → Err (LengthMismatch rows h) ≡ tests
         unfolding norm_tests
         h_index_short l = rw (ok, le-ltb max_words len few, le-ltb (length lanes / word_lanes) len words_long, ← rows_are, lt-ltb h rows l)
 
         module _ (h-long : rows ≤ h) where
-          pub j_index_short : j < rows → Refused (LengthMismatch rows j) ≡ tests
+          pub j_index_short : j < rows → Err (LengthMismatch rows j) ≡ tests
           unfolding norm_tests
           j_index_short l = rw (ok, le-ltb max_words len few, le-ltb (length lanes / word_lanes) len words_long, ← rows_are, le-ltb h rows h-long, lt-ltb j rows l)
 
           module _ (j-long : rows ≤ j) where
-            pub mask_short : k < row → Refused (LengthMismatch row k) ≡ tests
+            pub mask_short : k < row → Err (LengthMismatch row k) ≡ tests
             unfolding norm_tests
             mask_short l = rw (ok, le-ltb max_words len few, le-ltb (length lanes / word_lanes) len words_long, ← rows_are, le-ltb h rows h-long, le-ltb j rows j-long, ← row_is, lt-ltb k row l)
 
             module _ (mask-long : row ≤ k) where
-              pub heads_short : a < len → Refused (LengthMismatch len a) ≡ tests
+              pub heads_short : a < len → Err (LengthMismatch len a) ≡ tests
               unfolding norm_tests
               heads_short l = rw (ok, le-ltb max_words len few, le-ltb (length lanes / word_lanes) len words_long, ← rows_are, le-ltb h rows h-long, le-ltb j rows j-long, ← row_is, le-ltb k row mask-long, lt-ltb a len l)
 
               module _ (heads-long : len ≤ a) where
-                pub nexts_short : b < len → Refused (LengthMismatch len b) ≡ tests
+                pub nexts_short : b < len → Err (LengthMismatch len b) ≡ tests
                 unfolding norm_tests
                 nexts_short l = rw (ok, le-ltb max_words len few, le-ltb (length lanes / word_lanes) len words_long, ← rows_are, le-ltb h rows h-long, le-ltb j rows j-long, ← row_is, le-ltb k row mask-long, le-ltb a len heads-long, lt-ltb b len l)
 
                 module _ (nexts-long : len ≤ b) where
-                  pub raws_short : r < len → Refused (LengthMismatch len r) ≡ tests
+                  pub raws_short : r < len → Err (LengthMismatch len r) ≡ tests
                   unfolding norm_tests
                   raws_short l = rw (ok, le-ltb max_words len few, le-ltb (length lanes / word_lanes) len words_long, ← rows_are, le-ltb h rows h-long, le-ltb j rows j-long, ← row_is, le-ltb k row mask-long, le-ltb a len heads-long, le-ltb b len nexts-long, lt-ltb r len l)
 
                   module _ (raws-long : len ≤ r) where
-                    pub diags_short : d < len → Refused (LengthMismatch len d) ≡ tests
+                    pub diags_short : d < len → Err (LengthMismatch len d) ≡ tests
                     unfolding norm_tests
                     diags_short l = rw (ok, le-ltb max_words len few, le-ltb (length lanes / word_lanes) len words_long, ← rows_are, le-ltb h rows h-long, le-ltb j rows j-long, ← row_is, le-ltb k row mask-long, le-ltb a len heads-long, le-ltb b len nexts-long, le-ltb r len raws-long, lt-ltb d len l)
 
                     module _ (diags-long : len ≤ d) (first : ℕ) (is : first ≡ first_to len (outside_at lanes m.qubits)) where
-                      reached : inside_to len lanes m.qubits Accepted ≡ tests
+                      reached : inside_to len lanes m.qubits (Ok tt) ≡ tests
                       unfolding norm_tests
                       reached = rw (ok, le-ltb max_words len few, le-ltb (length lanes / word_lanes) len words_long, ← rows_are, le-ltb h rows h-long, le-ltb j rows j-long, ← row_is, le-ltb k row mask-long, le-ltb a len heads-long, le-ltb b len nexts-long, le-ltb r len raws-long, le-ltb d len diags-long)
 
-                      pub word_outside : first < len → Refused (WordOutsideRegister first) ≡ tests
+                      pub word_outside : first < len → Err (WordOutsideRegister first) ≡ tests
                       unfolding inside_to
                       word_outside l = (rw (sym is, lt-ltb first len l)) ∙ reached
 
-                      pub norm_accepted : len ≤ first → Accepted ≡ tests
+                      pub norm_accepted : len ≤ first → (Ok tt) ≡ tests
                       unfolding inside_to
                       norm_accepted l = (rw (sym is, le-ltb first len l)) ∙ reached
 
 -- ---- the numbers of a degree
 module _ (dt dropTol : Float) (step : Bool) (is : step ≡ is_finite dt) where
-  pub step_bad : not step ≡ true → Refused (NumberOutOfRange 0) ≡ finite_tests dt dropTol
+  pub step_bad : not step ≡ true → Err (NumberOutOfRange 0) ≡ finite_tests dt dropTol
   unfolding finite_tests
   step_bad f = rw (← is, not-true step f)
 
   module _ (f : not step ≡ false) (threshold : Bool) (it : threshold ≡ is_finite dropTol) where
-    pub threshold_bad : not threshold ≡ true → Refused (NumberOutOfRange 0) ≡ finite_tests dt dropTol
+    pub threshold_bad : not threshold ≡ true → Err (NumberOutOfRange 0) ≡ finite_tests dt dropTol
     unfolding finite_tests
     threshold_bad g = rw (← is, not-false step f, ← it, not-true threshold g)
 
-    pub finite_both : not threshold ≡ false → Accepted ≡ finite_tests dt dropTol
+    pub finite_both : not threshold ≡ false → (Ok tt) ≡ finite_tests dt dropTol
     unfolding finite_tests
     finite_both g = rw (← is, not-false step f, ← it, not-false threshold g)
 
--- one test after another
-pub first_refused : (a b : Answer) (q : Refusal) → a ≡ Refused q → Refused q ≡ and_then a b
-first_refused a b q e = rw e
-
-pub first_accepted : (a b : Answer) → a ≡ Accepted → b ≡ and_then a b
-first_accepted a b e = rw e
-
 -- ---- what is known where the tests are passed
 pub record Passed (m : Model) (t : ModelTables) (lanes : List ℕ) (len h j k a b r d : ℕ) : Type 0 where
-  pub model : test_model m t ≡ Accepted
+  pub model : test_model m t ≡ Ok tt
   pub few : len ≤ max_words
   pub words_long : len ≤ length lanes / word_lanes
   pub h_long : 0 < len → row_lanes * m.qubits ≤ h
@@ -130,7 +123,7 @@ pub record Passed (m : Model) (t : ModelTables) (lanes : List ℕ) (len h j k a 
   pub diags_long : len ≤ d
   pub inside : (i : ℕ) → i < len → outside_at lanes m.qubits i ≡ false
 
-pub norm_passed : (m : Model) (t : ModelTables) (lanes : List ℕ) (len h j k a b r d : ℕ) → norm_tests m t lanes len h j k a b r d ≡ Accepted → Passed m t lanes len h j k a b r d
+pub norm_passed : (m : Model) (t : ModelTables) (lanes : List ℕ) (len h j k a b r d : ℕ) → norm_tests m t lanes len h j k a b r d ≡ Ok tt → Passed m t lanes len h j k a b r d
 unfolding norm_tests inside_to
 norm_passed m t lanes len h j k a b r d e =
     let first : ℕ = first_to len (outside_at lanes m.qubits) in
@@ -162,5 +155,5 @@ norm_passed m t lanes len h j k a b r d e =
     }
 
 -- other slots of the same lengths
-pub slots_lent : (m : Model) (t : ModelTables) (lanes : List ℕ) (len h j k a b r d a' b' : ℕ) → a' ≡ a → b' ≡ b → norm_tests m t lanes len h j k a b r d ≡ Accepted → norm_tests m t lanes len h j k a' b' r d ≡ Accepted
+pub slots_lent : (m : Model) (t : ModelTables) (lanes : List ℕ) (len h j k a b r d a' b' : ℕ) → a' ≡ a → b' ≡ b → norm_tests m t lanes len h j k a b r d ≡ Ok tt → norm_tests m t lanes len h j k a' b' r d ≡ Ok tt
 slots_lent m t lanes len h j k a b r d a' b' ea eb e = rw (ea, eb) e

@@ -2,7 +2,7 @@
 -- SPDX-License-Identifier: Apache-2.0
 
 -- Raws and diagonals of a basis, word by word; and what filling them answers. Assumes nothing.
-use mathlib.Core.Path.{◌≡◌, refl, sym, ap, ap₂, ◌∙◌, subst}
+use mathlib.Core.Path.{◌≡◌, sym, ap, ap₂, ◌∙◌, subst}
 use mathlib.Core.Bool.{false}
 use mathlib.Core.List.{List, [], ◌∷◌, ◌++◌, map, map-append}
 use Prim.Native.Nat.{ℕ, zero, suc, ◌+◌, ◌*◌, ◌≤◌, ◌<◌, max}
@@ -14,8 +14,8 @@ use lib.Ieee.{Float}
 use lib.ListN.{length, get_or, take, drop, set, drop_of_length-le}
 use lib.Seq.{drop-cons, take-suc, take-suc-set, take_all, get_or-take, length-take-le}
 use Rattle.refusal.specs.declared.Refusal.TheVariants.{TableFull}
-use Rattle.refusal.specs.declared.Answer.{Answer}
-use Rattle.refusal.specs.declared.Answer.TheVariants.{Accepted, Refused}
+use Rattle.std.specs.Prelude.{Ok, Err}
+use Rattle.refusal.specs.Cause.{Answer}
 use Rattle.word.specs.Word.{identity}
 use Rattle.word.specs.Flat.{words, word_lanes}
 use Rattle.word.specs.Register.{reaches}
@@ -67,13 +67,9 @@ place_more f ps l k x s h hl e =
 -- ---- word by word
 module _ (touch : Word → ℕ) (raw diag : Word → Float) (ps : List Word) (room : ℕ) where
   pub record FillState (raws diags : List Float) (k : ℕ) : Type 0 where
-    pub high : k ≤ length ps
     pub fits : most touch ps ≤ max room (most touch (drop k ps))
     pub raws_so_far : take k raws ≡ map raw (take k ps)
     pub diags_so_far : take k diags ≡ map diag (take k ps)
-
-  pub fill_start : (raws diags : List Float) → FillState raws diags 0
-  fill_start raws diags = record { high = omega arith; fits = omega arith; raws_so_far = refl; diags_so_far = refl }
 
   pub fill_more : (raws diags : List Float) (k : ℕ) → FillState raws diags k → (p : Word) → k < length ps → p ≡ get_or ps k identity → touch p ≤ room → (x y : Float) → x ≡ raw p → y ≡ diag p → k < length raws → k < length diags
       → FillState (set raws k x) (set diags k y) (k + 1)
@@ -81,7 +77,6 @@ module _ (touch : Word → ℕ) (raw diag : Word → Float) (ps : List Word) (ro
       let n = most_next touch ps k h in
       let g : touch (get_or ps k identity) ≤ room = rw e at f in
       record {
-        high = omega arith;
         fits = rw (add-one k) (omega (arith, n, g, s.fits));
         raws_so_far = place_more raw ps raws k x s.raws_so_far h hr (ex ∙ ap raw e);
         diags_so_far = place_more diag ps diags k y s.diags_so_far h hd (ey ∙ ap diag e);
@@ -92,7 +87,7 @@ pub fills_places : (m : Model) (t : ModelTables) (ps : List Word) (len : ℕ) (r
 fills_places m t ps len raws diags r e f = subst (λ (n : ℕ). Fills n m t ps len raws diags r) e f
 
 module _ (m : Model) (t : ModelTables) (ps : List Word) (room len : ℕ) (raws diags : List Float) (k : ℕ) where
-  pub fill_full : (p : Word) → k < length ps → p ≡ get_or ps k identity → room < touched_by m t p → Fills room m t ps len raws diags (Refused (TableFull 1 room))
+  pub fill_full : (p : Word) → k < length ps → p ≡ get_or ps k identity → room < touched_by m t p → Fills room m t ps len raws diags (Err (TableFull 1 room))
   fill_full p h e l =
       let a = most_at (touched_by m t) ps k h in
       let g : room < touched_by m t (get_or ps k identity) = rw e at l in
@@ -102,11 +97,10 @@ module _ (m : Model) (t : ModelTables) (ps : List Word) (room len : ℕ) (raws d
         diags_are = λ z. absurd (refused_not (TableFull 1 room) z);
       }
 
-  pub fill_done : FillState (touched_by m t) (raw_by m t ps) (diag_by m t) ps room raws diags k → length ps ≡ len → length ps ≤ k → Fills room m t ps len raws diags Accepted
-  fill_done s n h =
-      let z = most_none (touched_by m t) ps k h in
-      let i : k ≡ len = omega (arith, s.high) in
-      let all : take k ps ≡ ps = take_all k ps h in
+  pub fill_done : FillState (touched_by m t) (raw_by m t ps) (diag_by m t) ps room raws diags k → length ps ≡ len → k ≡ len → Fills room m t ps len raws diags (Ok tt)
+  fill_done s n i =
+      let z = most_none (touched_by m t) ps k (omega arith) in
+      let all : take k ps ≡ ps = take_all k ps (omega arith) in
       record {
         answers = rw (le-ltb room (most (touched_by m t) ps) (omega (arith, z, s.fits)));
         raws_are = λ e. ap (λ (j : ℕ). take j raws) (sym i) ∙ s.raws_so_far ∙ ap (map (raw_by m t ps)) all;

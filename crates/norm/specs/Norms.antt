@@ -2,16 +2,17 @@
 -- SPDX-License-Identifier: Apache-2.0
 
 -- Norm and degree over a lent model and basis: refusals in their order, the answer, and every lent table afterwards.
-use Rattle.std.specs.Prelude.{ℕ, ◌*◌, ◌/◌, cond, List, [], ◌∷◌, ltb, Float, length, take, replicate}
+use Rattle.std.specs.Prelude.{ℕ, ◌*◌, ◌/◌, cond, List, [], ◌∷◌, ltb, Float, length, take, replicate, Result, Ok, Err}
 use Rattle.refusal.specs.declared.Refusal.TheVariants.{TableFull}
-use Rattle.refusal.specs.declared.Answer.{Answer}
-use Rattle.refusal.specs.declared.Answer.TheVariants as Tests
+use Rattle.refusal.specs.declared.Refusal.{Refusal}
+use Rattle.expm.specs.declared.Degree.{Degree}
+use Rattle.norm.specs.declared.norm.Normed.{Normed}
+use Rattle.norm.specs.declared.degree.Selected.{Selected}
+use Rattle.refusal.specs.Cause.{Answer}
 use Rattle.word.specs.Flat.{words, word_lanes}
 use Rattle.word.specs.declared.word.Word.{Word}
 use Rattle.number.specs.Floats.{floats, float0, magnitude}
 use Rattle.expm.specs.Selects.{chosen}
-use Rattle.expm.specs.declared.Chosen.{Chosen}
-use Rattle.expm.specs.declared.Chosen.TheVariants as Chooses
 use Rattle.model.specs.Stored.{ModelTables}
 use Rattle.model.specs.Tested.{test_model}
 use Rattle.lent.specs.Tests.{counted, lent, where_any, and_then, in_turn}
@@ -21,10 +22,6 @@ use Rattle.model.specs.declared.stored.Model.{Model}
 use Rattle.action.specs.Acts.{sum_places}
 use Rattle.action.specs.Counts.{row_lanes, most, touched_by}
 use Rattle.column_norm.specs.Columns.{mu_of, norm_of}
-use Rattle.norm.specs.declared.norm.Normed.{Normed}
-use Rattle.norm.specs.declared.norm.Normed.TheVariants.{Norm, Refused}
-use Rattle.norm.specs.declared.degree.Selected.{Selected}
-use Rattle.norm.specs.declared.degree.Selected.TheVariants as Choice
 
 -- ---- what is lent
 pub record Work : Type 0 where
@@ -71,59 +68,59 @@ norm_tests m t lanes len hIndex jIndex mask heads nexts raws diags =
     ∷ lent len raws
     ∷ lent len diags
     ∷ inside_to len lanes m.qubits
-    ∷ []) Tests.Accepted
+    ∷ []) (Ok tt)
 
 abbrev pub norm_tested : Model → ModelTables → List ℕ → ℕ → Work → Answer
 norm_tested m t lanes len w = norm_tests m t lanes len (length w.h_index) (length w.j_index) (length w.mask) (length w.heads) (length w.nexts) (length w.raws) (length w.diags)
 
 -- then 7 for dt, and 7 for drop_tol: no coefficients are lent, so a threshold's index is 0
 unfoldable pub finite_tests : Float → Float → Answer
-finite_tests dt dropTol = finite_threshold 0 dt (finite_threshold 0 dropTol Tests.Accepted)
+finite_tests dt dropTol = finite_threshold 0 dt (finite_threshold 0 dropTol (Ok tt))
 
 abbrev pub degree_tested : Model → ModelTables → List ℕ → ℕ → Float → Float → Work → Answer
 degree_tested m t lanes len dt dropTol w = and_then (norm_tested m t lanes len w) (finite_tests dt dropTol)
 
 -- ---- the answers
 -- 13 where one action touches more words than there is room for
-unfoldable pub norm_answer : ℕ → Model → ModelTables → List Word → Normed
-norm_answer room m t ps = cond (ltb room (most (touched_by m t) ps)) (Refused (TableFull 1 room)) (Norm (mu_of m t ps) (norm_of m t ps))
+unfoldable pub norm_answer : ℕ → Model → ModelTables → List Word → Result Normed Refusal
+norm_answer room m t ps = cond (ltb room (most (touched_by m t) ps)) (Err (TableFull 1 room)) (Ok (record { mu = mu_of m t ps; norm = norm_of m t ps }))
 
 -- the pair that was chosen, or 16
-abbrev pub partition : Float → Float → Chosen → Selected
-partition mu norm (Chooses.Pair d) = Choice.Partition mu norm d.m d.s
-partition mu norm (Chooses.Refused r) = Choice.Refused r
+abbrev pub partition : Float → Float → Result Degree Refusal → Result Selected Refusal
+partition mu norm (Ok d) = Ok (record { mu = mu; norm = norm; m = d.m; s = d.s })
+partition mu norm (Err r) = Err r
 
 -- the degree for t = |dt| × norm
-unfoldable pub degree_answer : Float → Float → Normed → Selected
-degree_answer dt dropTol (Refused r) = Choice.Refused r
-degree_answer dt dropTol (Norm mu norm) = partition mu norm (chosen dropTol (floats.times (magnitude dt) norm))
+unfoldable pub degree_answer : Float → Float → Result Normed Refusal → Result Selected Refusal
+degree_answer dt dropTol (Err r) = Err r
+degree_answer dt dropTol (Ok normed) = partition normed.mu normed.norm (chosen dropTol (floats.times (magnitude dt) normed.norm))
 
 -- ---- what the calls answer, and the lent tables afterwards
 pub record Norming : Type 0 where
-  pub answer : Normed
+  pub answer : Result Normed Refusal
   pub work : Work
 
 pub record Selecting : Type 0 where
-  pub answer : Selected
+  pub answer : Result Selected Refusal
   pub work : Work
 
 module _ (w : Work) where
   -- the norm of the first len words
-  abbrev pub norm_course : Model → ModelTables → List ℕ → ℕ → Normed
+  abbrev pub norm_course : Model → ModelTables → List ℕ → ℕ → Result Normed Refusal
   norm_course m t lanes len = norm_answer (sum_places w.work_words w.work_sums) m t (take len (words lanes))
 
   -- a refusal by a test changes nothing; work tables are zero after acceptance and 13
-  abbrev pub norm_after : Answer → Normed → Norming
-  norm_after Tests.Accepted answer = record { answer = answer; work = zeroed w }
-  norm_after (Tests.Refused r) answer = record { answer = Refused r; work = w }
+  abbrev pub norm_after : Answer → Result Normed Refusal → Norming
+  norm_after (Ok _) answer = record { answer = answer; work = zeroed w }
+  norm_after (Err r) answer = record { answer = Err r; work = w }
 
   unfoldable pub norming : Model → ModelTables → List ℕ → ℕ → Norming
   norming m t lanes len = norm_after (norm_tested m t lanes len w) (norm_course m t lanes len)
 
   -- the same, and zero after 16 too
-  abbrev pub degree_after : Answer → Selected → Selecting
-  degree_after Tests.Accepted answer = record { answer = answer; work = zeroed w }
-  degree_after (Tests.Refused r) answer = record { answer = Choice.Refused r; work = w }
+  abbrev pub degree_after : Answer → Result Selected Refusal → Selecting
+  degree_after (Ok _) answer = record { answer = answer; work = zeroed w }
+  degree_after (Err r) answer = record { answer = Err r; work = w }
 
   unfoldable pub selecting : Model → ModelTables → List ℕ → ℕ → Float → Float → Selecting
   selecting m t lanes len dt dropTol = degree_after (degree_tested m t lanes len dt dropTol w) (degree_answer dt dropTol (norm_course m t lanes len))

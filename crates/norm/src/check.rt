@@ -14,7 +14,7 @@ use lent::words::{MAX_WORDS, first_outside};
 use model::stored::Model;
 use model::test::test_model;
 use number::scalar::is_finite;
-use refusal::{Answer, Refusal};
+use refusal::Refusal;
 use word::flat::WORD_LANES;
 
 pub fn check_norm(
@@ -34,15 +34,12 @@ pub fn check_norm(
     nexts: usize,
     raws: usize,
     diags: usize,
-) -> Answer
+) -> Result<(), Refusal>
     ensures { result ≡ norm_tests m (model_tables h_words.now h_coeffs.now jumps.now rates.now t_words.now t_numbers.now) words.now len h_index j_index mask heads nexts raws diags }
 {
-    let model = test_model(m, h_words, h_coeffs, jumps, rates, t_words, t_numbers);
-    let Answer::Accepted = model else {
-        return model;
-    };
+    test_model(m, h_words, h_coeffs, jumps, rates, t_words, t_numbers)?;
     if MAX_WORDS < len {
-        return Answer::Refused(Refusal::CountAboveLimit { count: len });
+        return Err(Refusal::CountAboveLimit { count: len });
     }
     let places = words.len() / WORD_LANES;
     if places < len {
@@ -71,26 +68,23 @@ pub fn check_norm(
     if diags < len {
         return mismatch(len, diags);
     }
-    let n = m.qubits;
-    let first = first_outside(words, len, n);
+    let first = first_outside(words, len, m.qubits);
     if first < len {
-        return Answer::Refused(Refusal::WordOutsideRegister { position: first });
+        return Err(Refusal::WordOutsideRegister { position: first });
     }
-    Answer::Accepted
+    Ok(())
 }
 
-fn check_finite(dt: f64, drop_tol: f64) -> Answer
+fn check_finite(dt: f64, drop_tol: f64) -> Result<(), Refusal>
     ensures { result ≡ finite_tests dt drop_tol }
 {
-    let step = is_finite(dt);
-    if !step {
-        return Answer::Refused(Refusal::NumberOutOfRange { index: 0 });
+    if !is_finite(dt) {
+        return Err(Refusal::NumberOutOfRange { index: 0 });
     }
-    let threshold = is_finite(drop_tol);
-    if !threshold {
-        return Answer::Refused(Refusal::NumberOutOfRange { index: 0 });
+    if !is_finite(drop_tol) {
+        return Err(Refusal::NumberOutOfRange { index: 0 });
     }
-    Answer::Accepted
+    Ok(())
 }
 
 pub fn check_degree(
@@ -112,15 +106,12 @@ pub fn check_degree(
     nexts: usize,
     raws: usize,
     diags: usize,
-) -> Answer
+) -> Result<(), Refusal>
     ensures { result ≡ and_then (norm_tests m (model_tables h_words.now h_coeffs.now jumps.now rates.now t_words.now t_numbers.now) words.now len h_index j_index mask heads nexts raws diags) (finite_tests dt drop_tol) }
 {
-    let lent = check_norm(
+    check_norm(
         m, h_words, h_coeffs, jumps, rates, t_words, t_numbers, words, len, h_index, j_index, mask,
         heads, nexts, raws, diags,
-    );
-    let Answer::Accepted = lent else {
-        return lent;
-    };
+    )?;
     check_finite(dt, drop_tol)
 }

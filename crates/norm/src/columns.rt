@@ -11,9 +11,8 @@ ghost use Rattle.norm.specs.Between.{ColumnRoom, Fills};
 use column_norm::column::{diagonal_of, raw_of};
 use lent::sizes::SUMS_TABLE;
 use model::stored::Model;
-use refusal::{Answer, Refusal};
+use refusal::Refusal;
 use rules_by_index::near::put_rules_near;
-use sums::sums::Added;
 use word::flat::word_at;
 
 pub fn fill_columns(
@@ -36,19 +35,18 @@ pub fn fill_columns(
     room: usize,
     raws: &mut [f64],
     diags: &mut [f64],
-) -> Answer
+) -> Result<(), Refusal>
     requires { ColumnRoom m (model_tables h_words.now h_coeffs.now jumps.now rates.now t_words.now t_numbers.now) h_index.now j_index.now mask.old work_words.old work_sums.old room words.now len heads.now nexts.now raws.old diags.old }
     ensures { Fills room m (model_tables h_words.now h_coeffs.now jumps.now rates.now t_words.now t_numbers.now) (take len (words_in words.now)) len raws.new diags.new result }
 {
-    let mut k = 0;
-    while k < len {
+    for k in 0..len {
         let p = word_at(words, k);
         let added = put_rules_near(
             work_words, work_sums, room, m, h_words, h_coeffs, jumps, rates, t_words, t_numbers,
             h_index, j_index, mask, p,
         );
-        let Added::Held(count) = added else {
-            return Answer::Refused(Refusal::TableFull {
+        let Some(count) = added else {
+            return Err(Refusal::TableFull {
                 table: SUMS_TABLE,
                 places: room,
             });
@@ -57,7 +55,6 @@ pub fn fill_columns(
         let diag = diagonal_of(work_words, work_sums, count, p);
         raws[k] = raw;
         diags[k] = diag;
-        k += 1;
     }
-    Answer::Accepted
+    Ok(())
 }

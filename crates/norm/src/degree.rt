@@ -5,46 +5,35 @@
 // its diagonal shifted by mu.
 ghost use Rattle.std.specs.Prelude.{◌≡◌};
 ghost use Rattle.model.specs.Between.{model_tables};
-ghost use Rattle.norm.specs.Norms.{work_of, partition, degree_answer, selecting};
+ghost use Rattle.norm.specs.Norms.{work_of, degree_answer, selecting};
 
 use crate::check::check_degree;
 use crate::norm::{Normed, norm_tested};
-use expm::{Chosen, select_degree};
+use expm::{Degree, select_degree};
 use model::stored::Model;
 use number::scalar::magnitude;
-use refusal::{Answer, Refusal};
+use refusal::Refusal;
 
 // The norm with its mean diagonal, and the pair (m, s) that was chosen for it.
-#[derive(Drop)]
-pub enum Selected {
-    Partition { mu: f64, norm: f64, m: u32, s: u32 },
-    Refused(Refusal),
+#[derive(Clone, Copy)]
+pub struct Selected {
+    pub mu: f64,
+    pub norm: f64,
+    pub m: u32,
+    pub s: u32,
 }
 
-fn with_pair(mu: f64, norm: f64, chosen: Chosen) -> Selected
-    ensures { result ≡ partition mu norm chosen }
-{
-    match chosen {
-        Chosen::Pair(d) => Selected::Partition {
-            mu,
-            norm,
-            m: d.m,
-            s: d.s,
-        },
-        Chosen::Refused(refusal) => Selected::Refused(refusal),
-    }
-}
-
-fn degree_of(normed: Normed, dt: f64, drop_tol: f64) -> Selected
+fn degree_of(normed: Result<Normed, Refusal>, dt: f64, drop_tol: f64) -> Result<Selected, Refusal>
     ensures { result ≡ degree_answer dt drop_tol normed }
 {
-    match normed {
-        Normed::Norm { mu, norm } => {
-            let chosen = select_degree(magnitude(dt) * norm, drop_tol);
-            with_pair(mu, norm, chosen)
-        }
-        Normed::Refused(refusal) => Selected::Refused(refusal),
-    }
+    let Normed { mu, norm } = normed?;
+    let d = select_degree(magnitude(dt) * norm, drop_tol)?;
+    Ok(Selected {
+        mu,
+        norm,
+        m: d.m,
+        s: d.s,
+    })
 }
 
 pub fn expm_degree(
@@ -68,10 +57,10 @@ pub fn expm_degree(
     work_sums: &mut [f64],
     raws: &mut [f64],
     diags: &mut [f64],
-) -> Selected
+) -> Result<Selected, Refusal>
     ensures { record { answer = result; work = work_of h_index.new j_index.new mask.new heads.new nexts.new work_words.new work_sums.new raws.new diags.new } ≡ selecting (work_of h_index.old j_index.old mask.old heads.old nexts.old work_words.old work_sums.old raws.old diags.old) m (model_tables h_words.now h_coeffs.now jumps.now rates.now t_words.now t_numbers.now) words.now len dt drop_tol }
 {
-    let answer = check_degree(
+    check_degree(
         m,
         h_words,
         h_coeffs,
@@ -90,13 +79,10 @@ pub fn expm_degree(
         nexts.len(),
         raws.len(),
         diags.len(),
+    )?;
+    let normed = norm_tested(
+        m, h_words, h_coeffs, jumps, rates, t_words, t_numbers, words, len, h_index, j_index, mask,
+        heads, nexts, work_words, work_sums, raws, diags,
     );
-    let Answer::Refused(refusal) = answer else {
-        let normed = norm_tested(
-            m, h_words, h_coeffs, jumps, rates, t_words, t_numbers, words, len, h_index, j_index,
-            mask, heads, nexts, work_words, work_sums, raws, diags,
-        );
-        return degree_of(normed, dt, drop_tol);
-    };
-    Selected::Refused(refusal)
+    degree_of(normed, dt, drop_tol)
 }

@@ -3,7 +3,6 @@
 
 // The largest column norm of the generator over a lent basis, its diagonal shifted by the mean mu.
 ghost use Rattle.std.specs.Prelude.{◌≡◌, ◌≤◌, length, take, replicate};
-ghost use Rattle.refusal.specs.declared.Answer.TheVariants.{Accepted};
 ghost use Rattle.word.specs.Flat.{words as words_in};
 ghost use Rattle.number.specs.Floats.{float0};
 ghost use Rattle.model.specs.Between.{model_tables};
@@ -19,28 +18,31 @@ use column_norm::norms::{largest_column, mean};
 use lent::clear::{clear_lanes, clear_numbers};
 use lent::sizes::smaller;
 use model::stored::Model;
-use refusal::{Answer, Refusal};
+use refusal::Refusal;
 use rules_by_index::indexed::index_model;
 use word::flat::WORD_LANES;
 
 // The mean diagonal and the largest column norm.
-#[derive(Drop)]
-pub enum Normed {
-    Norm { mu: f64, norm: f64 },
-    Refused(Refusal),
+#[derive(Clone, Copy)]
+pub struct Normed {
+    pub mu: f64,
+    pub norm: f64,
 }
 
 // The mean diagonal and the largest norm of the first `len` columns, where they were filled.
-fn norm_of(filled: Answer, raws: &[f64], diags: &[f64], len: usize) -> Normed
+fn norm_of(
+    filled: Result<(), Refusal>,
+    raws: &[f64],
+    diags: &[f64],
+    len: usize,
+) -> Result<Normed, Refusal>
     requires { (len ≤ length raws.now) × (len ≤ length diags.now) × (len ≤ 65536) }
     ensures { result ≡ norm_from filled (take len raws.now) (take len diags.now) }
 {
-    let Answer::Refused(refusal) = filled else {
-        let mu = mean(diags, len);
-        let norm = largest_column(raws, diags, len, mu);
-        return Normed::Norm { mu, norm };
-    };
-    Normed::Refused(refusal)
+    filled?;
+    let mu = mean(diags, len);
+    let norm = largest_column(raws, diags, len, mu);
+    Ok(Normed { mu, norm })
 }
 
 // Raw and diagonal of each column, and then zero in what only they use.
@@ -63,8 +65,8 @@ fn fill_and_clear(
     work_sums: &mut [f64],
     raws: &mut [f64],
     diags: &mut [f64],
-) -> Answer
-    requires { (norm_tests m (model_tables h_words.now h_coeffs.now jumps.now rates.now t_words.now t_numbers.now) words.now len (length h_index.old) (length j_index.old) (length mask.old) (length heads.now) (length nexts.now) (length raws.old) (length diags.old) ≡ Accepted) × BasisSlots words.now len heads.now nexts.now }
+) -> Result<(), Refusal>
+    requires { (norm_tests m (model_tables h_words.now h_coeffs.now jumps.now rates.now t_words.now t_numbers.now) words.now len (length h_index.old) (length j_index.old) (length mask.old) (length heads.now) (length nexts.now) (length raws.old) (length diags.old) ≡ (Ok tt)) × BasisSlots words.now len heads.now nexts.now }
     ensures { Fills (sum_places work_words.old work_sums.old) m (model_tables h_words.now h_coeffs.now jumps.now rates.now t_words.now t_numbers.now) (take len (words_in words.now)) len raws.new diags.new result × (h_index.new ≡ replicate (length h_index.old) 0) × (j_index.new ≡ replicate (length j_index.old) 0) × (mask.new ≡ replicate (length mask.old) 0) × (work_words.new ≡ replicate (length work_words.old) 0) × (work_sums.new ≡ replicate (length work_sums.old) float0) }
 {
     index_model(h_index, j_index, m, h_words, jumps, rates, t_words, len);
@@ -101,8 +103,8 @@ fn fill_slotted(
     work_sums: &mut [f64],
     raws: &mut [f64],
     diags: &mut [f64],
-) -> Answer
-    requires { norm_tests m (model_tables h_words.now h_coeffs.now jumps.now rates.now t_words.now t_numbers.now) words.now len (length h_index.old) (length j_index.old) (length mask.old) (length heads.old) (length nexts.old) (length raws.old) (length diags.old) ≡ Accepted }
+) -> Result<(), Refusal>
+    requires { norm_tests m (model_tables h_words.now h_coeffs.now jumps.now rates.now t_words.now t_numbers.now) words.now len (length h_index.old) (length j_index.old) (length mask.old) (length heads.old) (length nexts.old) (length raws.old) (length diags.old) ≡ Ok tt }
     ensures { Fills (sum_places work_words.old work_sums.old) m (model_tables h_words.now h_coeffs.now jumps.now rates.now t_words.now t_numbers.now) (take len (words_in words.now)) len raws.new diags.new result × (h_index.new ≡ replicate (length h_index.old) 0) × (j_index.new ≡ replicate (length j_index.old) 0) × (mask.new ≡ replicate (length mask.old) 0) × (heads.new ≡ replicate (length heads.old) 0) × (nexts.new ≡ replicate (length nexts.old) 0) × (work_words.new ≡ replicate (length work_words.old) 0) × (work_sums.new ≡ replicate (length work_sums.old) float0) }
 {
     lay_basis(words, len, heads, nexts);
@@ -135,8 +137,8 @@ pub fn norm_tested(
     work_sums: &mut [f64],
     raws: &mut [f64],
     diags: &mut [f64],
-) -> Normed
-    requires { norm_tests m (model_tables h_words.now h_coeffs.now jumps.now rates.now t_words.now t_numbers.now) words.now len (length h_index.old) (length j_index.old) (length mask.old) (length heads.old) (length nexts.old) (length raws.old) (length diags.old) ≡ Accepted }
+) -> Result<Normed, Refusal>
+    requires { norm_tests m (model_tables h_words.now h_coeffs.now jumps.now rates.now t_words.now t_numbers.now) words.now len (length h_index.old) (length j_index.old) (length mask.old) (length heads.old) (length nexts.old) (length raws.old) (length diags.old) ≡ Ok tt }
     ensures { (result ≡ norm_course (work_of h_index.old j_index.old mask.old heads.old nexts.old work_words.old work_sums.old raws.old diags.old) m (model_tables h_words.now h_coeffs.now jumps.now rates.now t_words.now t_numbers.now) words.now len) × (work_of h_index.new j_index.new mask.new heads.new nexts.new work_words.new work_sums.new raws.new diags.new ≡ zeroed (work_of h_index.old j_index.old mask.old heads.old nexts.old work_words.old work_sums.old raws.old diags.old)) }
 {
     let filled = fill_slotted(
@@ -168,10 +170,10 @@ pub fn norm(
     work_sums: &mut [f64],
     raws: &mut [f64],
     diags: &mut [f64],
-) -> Normed
+) -> Result<Normed, Refusal>
     ensures { record { answer = result; work = work_of h_index.new j_index.new mask.new heads.new nexts.new work_words.new work_sums.new raws.new diags.new } ≡ norming (work_of h_index.old j_index.old mask.old heads.old nexts.old work_words.old work_sums.old raws.old diags.old) m (model_tables h_words.now h_coeffs.now jumps.now rates.now t_words.now t_numbers.now) words.now len }
 {
-    let answer = check_norm(
+    check_norm(
         m,
         h_words,
         h_coeffs,
@@ -188,12 +190,9 @@ pub fn norm(
         nexts.len(),
         raws.len(),
         diags.len(),
-    );
-    let Answer::Refused(refusal) = answer else {
-        return norm_tested(
-            m, h_words, h_coeffs, jumps, rates, t_words, t_numbers, words, len, h_index, j_index,
-            mask, heads, nexts, work_words, work_sums, raws, diags,
-        );
-    };
-    Normed::Refused(refusal)
+    )?;
+    norm_tested(
+        m, h_words, h_coeffs, jumps, rates, t_words, t_numbers, words, len, h_index, j_index, mask,
+        heads, nexts, work_words, work_sums, raws, diags,
+    )
 }

@@ -21,7 +21,7 @@ use lib.Ieee.Order.{le_of_values}
 use lib.Ieee.Positive.{positive, mul_mono, above_of_le}
 use lib.Ieee.Scale.{finite}
 use lib.ListN.{length, get_or}
-use Rattle.refusal.specs.declared.Answer.TheVariants.{Accepted}
+use Rattle.std.specs.Prelude.{Ok}
 use Rattle.word.specs.Order.{same}
 use Rattle.word.specs.Word.{identity}
 use Rattle.word.specs.declared.word.Word.{Word}
@@ -46,7 +46,6 @@ use Rattle.action.specs.Acts.{sums_of, action_of}
 use Rattle.action_laws.proofs.ReachedListed.{listed_finite}
 use Rattle.expm.specs.Selects.{cost, degree_by, table_for, chosen}
 use Rattle.expm.specs.declared.Degree.{Degree}
-use Rattle.expm.specs.declared.Chosen.TheVariants.{Pair}
 use Rattle.expm.proofs.CeilingLaws.{chosen_under, answers}
 use Rattle.expm.proofs.GrowthLaws.{products_mono}
 use Rattle.column_norm.specs.Columns.{sum_from, total, inside_of, raw_of, diag_of, column_norm, largest_from, raw_by, diag_by, mu_of, norm_of}
@@ -79,7 +78,7 @@ unfolding put_all_over
 sums_held [] L h = h
 sums_held (t ∷ A) L h = sums_held A (put_over floats pauli t L) (put_held t L h)
 
-good : (m : Model) (t : ModelTables) → test_model m t ≡ Accepted → (p : Word) → Every Good (action_of m t p)
+good : (m : Model) (t : ModelTables) → test_model m t ≡ Ok tt → (p : Word) → Every Good (action_of m t p)
 good m t ok p = go (action_of m t p) (held m t p) (listed_finite m t ok p)
   where
     held : (m : Model) (t : ModelTables) (p : Word) → Every Held (action_of m t p)
@@ -378,7 +377,7 @@ step_mono (fin false m e) (fin false n d) (fin false j g) E N o h =
     let Y : T (positive (fin false j g)) = above_of_le (fin false n d) (fin false j g) X l in
     mul_mono binary64 (fin false m e) (fin false m e) (fin false n d) (fin false j g) M M X Y (plain_self m e) l
 
-module _ (m : Model) (t : ModelTables) (ok : test_model m t ≡ Accepted) (ps : List Word) where
+module _ (m : Model) (t : ModelTables) (ok : test_model m t ≡ Ok tt) (ps : List Word) where
   column : (p : Word) → is_among p ps ≡ true → Below (column_norm (mu_of m t ps) (raw_by m t ps p) (diag_by m t p)) (column_norm (mu_of m t ps) (raw_of_all (action_of m t p)) (diag_by m t p))
   unfolding raw_of raw_of_all
   column p a =
@@ -411,8 +410,8 @@ module _ (m : Model) (t : ModelTables) (ok : test_model m t ≡ Accepted) (ps : 
       (step_mono (magnitude dt) (norm_of m t ps) (norm_of_all m t ps) (magnitude_ends dt e) (magnitude_nonneg dt (not_nan dt e)) norms)
 
   -- so a step that is accepted with the larger norm is not refused with this one
-  pub still_accepted : (dt dropTol : Float) → T (is_finite dt) → (d : Degree) → chosen dropTol (mul binary64 (magnitude dt) (norm_of_all m t ps)) ≡ Pair d
-      → chosen dropTol (mul binary64 (magnitude dt) (norm_of m t ps)) ≡ Pair (degree_by (table_for dropTol) (mul binary64 (magnitude dt) (norm_of m t ps)))
+  pub still_accepted : (dt dropTol : Float) → T (is_finite dt) → (d : Degree) → chosen dropTol (mul binary64 (magnitude dt) (norm_of_all m t ps)) ≡ Ok d
+      → chosen dropTol (mul binary64 (magnitude dt) (norm_of m t ps)) ≡ Ok (degree_by (table_for dropTol) (mul binary64 (magnitude dt) (norm_of m t ps)))
   still_accepted dt dropTol e d a =
       let b = answers dropTol (mul binary64 (magnitude dt) (norm_of_all m t ps)) d a in
       chosen_under dropTol (mul binary64 (magnitude dt) (norm_of m t ps))

@@ -13,25 +13,20 @@ use native.Mathlib.Omega.{arith}
 use native.Mathlib.Decide.{ℕ_discrete, dec_lt}
 use borrow.Author.Tests.{lt-ltb, le-ltb, le-leb, lt-leb, eq-eqb, ne_eqb}
 use lib.Dec.{eqb, ltb}
-use lib.ListN.{get_or, length, drop, set, length-drop, length-append, get_or-eq_default}
+use lib.ListN.{get_or, length, drop, set, length-drop, get_or-eq_default}
 use lib.Seq.{drop-cons, get_or-drop, drop-length, drop-drop, set_at, append_snoc}
 use Rattle.refusal.specs.declared.Refusal.TheVariants.{TooManyQubits, WrongLength, InvalidPauliByte, InvalidPauliCode, LengthMismatch, WordOutsideRegister}
 use Rattle.refusal.specs.declared.Refusal.{Refusal}
-use Rattle.refusal.specs.declared.Answer.{Answer}
-use Rattle.refusal.specs.declared.Answer.TheVariants.{Accepted}
-use Rattle.refusal.specs.declared.Answer.TheVariants as Answers
+use Rattle.std.specs.Prelude.{Result, Ok, Err}
+use Rattle.refusal.specs.Cause.{Answer}
 use Rattle.word.specs.Count.{tabulate}
-use Rattle.word.specs.Word.{max_qubits, letter_at, word_of, identity, pack, Sound}
+use Rattle.word.specs.Word.{max_qubits, letter_at, word_of, identity, Sound}
 use Rattle.notation.specs.Text.{code_of, dropped, first_where, refuse_byte, foreign, no_letter, read_letters, parse}
 use Rattle.notation.specs.Codes.{no_code, read_codes, write_answer, write_for, written}
 use Rattle.word.specs.Register.{reaches}
 use Rattle.word.specs.Steps.{chosen, Put}
 use Rattle.notation.specs.Between.{scan_from, Wrote}
 use Rattle.word.specs.declared.word.Word.{Word}
-use Rattle.notation.specs.declared.texts.Scan.{Scan}
-use Rattle.notation.specs.declared.texts.Scan.TheVariants.{Letters, Foreign}
-use Rattle.notation.specs.declared.texts.ParsedWord.{ParsedWord}
-use Rattle.notation.specs.declared.texts.ParsedWord.TheVariants.{Parsed, Refused}
 use Rattle.word.proofs.Sums.{length_tabulate}
 use Rattle.word.proofs.Words.{word_is}
 use Rattle.word.proofs.WordLaws.{letter_identity, sound_identity}
@@ -125,20 +120,20 @@ module _ (text : List ℕ) (k i : ℕ) (h : i < length text) where
   unfolding scan_from
   scan_letter n l = ap (scan_from k) left_from ∙ rw (ne_eqb (get_or text i 0) 95 n, lt-leb 128 (get_or text i 0) l, add-one k)
 
-  pub scan_foreign : (get_or text i 0 ≡ 95 → ⊥) → 128 ≤ get_or text i 0 → scan_from k (drop i text) ≡ Foreign (get_or text i 0) k
+  pub scan_foreign : (get_or text i 0 ≡ 95 → ⊥) → 128 ≤ get_or text i 0 → scan_from k (drop i text) ≡ Err (InvalidPauliByte (get_or text i 0) k)
   unfolding scan_from
   scan_foreign n l = ap (scan_from k) left_from ∙ rw (ne_eqb (get_or text i 0) 95 n, le-leb 128 (get_or text i 0) l)
 
-pub scan_end : (text : List ℕ) (k i : ℕ) → i ≡ length text → scan_from k (drop i text) ≡ Letters k
+pub scan_end : (text : List ℕ) (k i : ℕ) → i ≡ length text → scan_from k (drop i text) ≡ Ok k
 unfolding scan_from
 scan_end text k i e = ap (λ (j : ℕ). scan_from k (drop j text)) e ∙ ap (scan_from k) (drop-length text)
 
 -- what it finds: the first byte from 128 up, or how many letters there are
-abbrev found : ℕ → List ℕ → Scan
+abbrev found : ℕ → List ℕ → Result ℕ Refusal
 found k s =
     cond (ltb (first_where foreign s) (length s))
-    (Foreign (get_or s (first_where foreign s) 0) (k + first_where foreign s))
-    (Letters (k + length s))
+    (Err (InvalidPauliByte (get_or s (first_where foreign s) 0) (k + first_where foreign s)))
+    (Ok (k + length s))
 
 found_more : (k b : ℕ) (s : List ℕ) → b < 128 → found k (b ∷ s) ≡ found (suc k) s
 found_more k b s l =
@@ -146,7 +141,7 @@ found_more k b s l =
     let e : first_where foreign (b ∷ s) ≡ suc f = first_later foreign b s (lt-leb 128 b l) in
     let m : suc (k + f) ≡ suc k + f = omega arith in
     let n : suc (k + length s) ≡ suc k + length s = omega arith in
-    rw (e, add-suc k f, add-suc k (length s), m, n) (ap (λ (t : Bool). cond t (Foreign (get_or s f 0) (suc k + f)) (Letters (suc k + length s))) (ltb_suc f (length s)))
+    rw (e, add-suc k f, add-suc k (length s), m, n) (ap (λ (t : Bool). cond t (Err (InvalidPauliByte (get_or s f 0) (suc k + f))) (Ok (suc k + length s))) (ltb_suc f (length s)))
   where
     ltb_suc : (a b : ℕ) → ltb (suc a) (suc b) ≡ ltb a b
     ltb_suc a b = go (dec_lt a b)
@@ -155,13 +150,13 @@ found_more k b s l =
         go (yes h) = lt-ltb (suc a) (suc b) (omega arith) ∙ sym (lt-ltb a b h)
         go (no h) = le-ltb (suc a) (suc b) (omega arith) ∙ sym (le-ltb a b (omega arith))
 
-found_now : (k b : ℕ) (s : List ℕ) → 128 ≤ b → found k (b ∷ s) ≡ Foreign b k
+found_now : (k b : ℕ) (s : List ℕ) → 128 ≤ b → found k (b ∷ s) ≡ Err (InvalidPauliByte b k)
 found_now k b s l =
     let e : first_where foreign (b ∷ s) ≡ 0 = first_here foreign b s (le-leb 128 b l) in
     let z : k + 0 ≡ k = omega arith in
     rw (e, z, lt-ltb 0 (suc (length s)) (omega arith))
 
-found_end : (k : ℕ) → Letters k ≡ found k []
+found_end : (k : ℕ) → Ok k ≡ found k []
 unfolding first_where
 found_end k = let z : k + 0 ≡ k = omega arith in rw z
 
@@ -177,36 +172,36 @@ scan_finds k (b ∷ s) = go (ℕ_discrete b 95) (dec_lt b 128) (scan_finds k s) 
     go (no n) (no l) h g = rw (ne_eqb b 95 n, le-leb 128 b (omega arith)) (sym (found_now k b (dropped s) (omega arith)))
 
 -- ---- the text reader's answers
-pub refuse_first : (p : ℕ → Bool) (s : List ℕ) (after : ParsedWord) → first_where p s < length s
-    → refuse_byte p s after ≡ Refused (InvalidPauliByte (get_or s (first_where p s) 0) (first_where p s))
+pub refuse_first : (p : ℕ → Bool) (s : List ℕ) (after : Result Word Refusal) → first_where p s < length s
+    → refuse_byte p s after ≡ Err (InvalidPauliByte (get_or s (first_where p s) 0) (first_where p s))
 unfolding refuse_byte
 refuse_first p s after h = rw (lt-ltb (first_where p s) (length s) h)
 
-pub refuse_none : (p : ℕ → Bool) (s : List ℕ) (after : ParsedWord) → length s ≤ first_where p s → refuse_byte p s after ≡ after
+pub refuse_none : (p : ℕ → Bool) (s : List ℕ) (after : Result Word Refusal) → length s ≤ first_where p s → refuse_byte p s after ≡ after
 unfolding refuse_byte
 refuse_none p s after h = rw (le-ltb (first_where p s) (length s) h)
 
 module _ (n : ℕ) (text : List ℕ) where
-  pub parse_wide : max_qubits < n → Refused (TooManyQubits n max_qubits) ≡ parse n text
+  pub parse_wide : max_qubits < n → Err (TooManyQubits n max_qubits) ≡ parse n text
   unfolding parse
   parse_wide h = rw (lt-ltb max_qubits n h)
 
   abbrev s : List ℕ
   s = dropped text
 
-  found_foreign : (b p : ℕ) → found 0 s ≡ Foreign b p → (first_where foreign s < length s) × (get_or s (first_where foreign s) 0 ≡ b) × (first_where foreign s ≡ p)
-  found_foreign b p e = go (dec_lt (first_where foreign s) (length s))
+  found_foreign : (r : Refusal) → found 0 s ≡ Err r → (first_where foreign s < length s) × (InvalidPauliByte (get_or s (first_where foreign s) 0) (first_where foreign s) ≡ r)
+  found_foreign r e = go (dec_lt (first_where foreign s) (length s))
     where
-      go : Dec (first_where foreign s < length s) → (first_where foreign s < length s) × (get_or s (first_where foreign s) 0 ≡ b) × (first_where foreign s ≡ p)
+      go : Dec (first_where foreign s < length s) → (first_where foreign s < length s) × (InvalidPauliByte (get_or s (first_where foreign s) 0) (first_where foreign s) ≡ r)
       go (yes l) =
           let f = (rw (lt-ltb (first_where foreign s) (length s) l) at e) in
           let z : 0 + first_where foreign s ≡ first_where foreign s = omega arith in
-          (l, cc, sym z ∙ cc)
+          (l, cc)
       go (no l) =
           let f = (rw (le-ltb (first_where foreign s) (length s) (omega arith)) at e) in
           let z : ◌≡◌ {A = ℕ} 0 1 = cc in absurd (omega arith)
 
-  found_letters : (k : ℕ) → found 0 s ≡ Letters k → (length s ≤ first_where foreign s) × (length s ≡ k)
+  found_letters : (k : ℕ) → found 0 s ≡ Ok k → (length s ≤ first_where foreign s) × (length s ≡ k)
   found_letters k e = go (dec_lt (first_where foreign s) (length s))
     where
       go : Dec (first_where foreign s < length s) → (length s ≤ first_where foreign s) × (length s ≡ k)
@@ -218,30 +213,30 @@ module _ (n : ℕ) (text : List ℕ) where
           let z : 0 + length s ≡ length s = omega arith in
           (omega arith, sym z ∙ cc)
 
-  pub letters_counted : (k : ℕ) → scan_from 0 text ≡ Letters k → length (dropped text) ≡ k
+  pub letters_counted : (k : ℕ) → scan_from 0 text ≡ Ok k → length (dropped text) ≡ k
   letters_counted k e = (found_letters k (sym (scan_finds 0 text) ∙ e)).1
 
   module _ (fits : n ≤ max_qubits) where
-    pub parse_foreign : (b p : ℕ) → scan_from 0 text ≡ Foreign b p → Refused (InvalidPauliByte b p) ≡ parse n text
+    pub parse_foreign : (r : Refusal) → scan_from 0 text ≡ Err r → Err r ≡ parse n text
     unfolding parse
-    parse_foreign b p e =
-        let f = found_foreign b p (sym (scan_finds 0 text) ∙ e) in
-        rw (le-ltb max_qubits n fits) (ap₂ (λ (b p : ℕ). Refused (InvalidPauliByte b p)) (sym f.1) (sym f.2) ∙ sym (refuse_first foreign s _ f.0))
+    parse_foreign r e =
+        let f = found_foreign r (sym (scan_finds 0 text) ∙ e) in
+        rw (le-ltb max_qubits n fits) (ap Err (sym f.1) ∙ sym (refuse_first foreign s _ f.0))
 
-    pub parse_length : (k : ℕ) → scan_from 0 text ≡ Letters k → (k ≡ n → ⊥) → Refused (WrongLength n k) ≡ parse n text
+    pub parse_length : (k : ℕ) → scan_from 0 text ≡ Ok k → (k ≡ n → ⊥) → Err (WrongLength n k) ≡ parse n text
     unfolding parse
     parse_length k e m =
         let f = found_letters k (sym (scan_finds 0 text) ∙ e) in
         rw (le-ltb max_qubits n fits)
-        (sym (refuse_none foreign s _ f.0 ∙ rw (ne_eqb (length s) n (λ h. m (sym f.1 ∙ h))) (ap (λ (k : ℕ). Refused (WrongLength n k)) f.1)))
+        (sym (refuse_none foreign s _ f.0 ∙ rw (ne_eqb (length s) n (λ h. m (sym f.1 ∙ h))) (ap (λ (k : ℕ). Err (WrongLength n k)) f.1)))
 
-    pub parse_letters : (k : ℕ) → scan_from 0 text ≡ Letters k → k ≡ n → read_letters s ≡ parse n text
+    pub parse_letters : (k : ℕ) → scan_from 0 text ≡ Ok k → k ≡ n → read_letters s ≡ parse n text
     unfolding parse
     parse_letters k e m =
         let f = found_letters k (sym (scan_finds 0 text) ∙ e) in
         rw (le-ltb max_qubits n fits) (sym (refuse_none foreign s _ f.0 ∙ rw (eq-eqb (length s) n (f.1 ∙ m))))
 
-    pub counted : (k : ℕ) → scan_from 0 text ≡ Letters k → k ≡ n → length (dropped text) ≤ max_qubits
+    pub counted : (k : ℕ) → scan_from 0 text ≡ Ok k → k ≡ n → length (dropped text) ≤ max_qubits
     counted k e m = omega (arith, letters_counted k e)
 
 -- ---- letter by letter: s is the text without underscores, of which q letters are read
@@ -276,40 +271,40 @@ letters_end text s i q e h l =
 
 -- the answer once all letters are read
 pub letters_read : (s : List ℕ) (q : ℕ) (w : Word) → q ≡ length s → Passed no_letter q s → ReadTo (λ k. code_of (get_or s k 73)) q w
-    → Parsed (pack w) ≡ read_letters s
+    → Ok w ≡ read_letters s
 unfolding read_letters code_of
 letters_read s q w e p r =
     let n = found_none no_letter s (rw e at p) in
-    ap (λ (v : Word). Parsed (pack v)) (read_all (λ k. code_of (get_or s k 73)) q w r (λ k l. ap code_of (get_or-eq_default s 73 (omega arith))))
+    ap (λ (v : Word). Ok v) (read_all (λ k. code_of (get_or s k 73)) q w r (λ k l. ap code_of (get_or-eq_default s 73 (omega arith))))
     ∙ sym (refuse_none no_letter s _ (omega arith))
 
-pub letter_refused : (s : List ℕ) (q b : ℕ) → Passed no_letter q s → q < length s → ((d : ℕ) → get_or s q d ≡ b) → 3 < code_of b → Refused (InvalidPauliByte b q) ≡ read_letters s
+pub letter_refused : (s : List ℕ) (q b : ℕ) → Passed no_letter q s → q < length s → ((d : ℕ) → get_or s q d ≡ b) → 3 < code_of b → Err (InvalidPauliByte b q) ≡ read_letters s
 unfolding read_letters
 letter_refused s q b p l e h =
     let f = found_here no_letter q s p l (ap (λ (c : ℕ). ltb 3 (code_of c)) (e 0) ∙ lt-ltb 3 (code_of b) h) in
     sym (refuse_first no_letter s _ (omega arith)
-    ∙ ap₂ (λ (b p : ℕ). Refused (InvalidPauliByte b p)) (ap (λ (i : ℕ). get_or s i 0) f ∙ e 0) f)
+    ∙ ap₂ (λ (b p : ℕ). Err (InvalidPauliByte b p)) (ap (λ (i : ℕ). get_or s i 0) f ∙ e 0) f)
 
 pub not_refused : (b c : ℕ) → b ≡ c → code_of c ≤ 3 → no_letter b ≡ false
 not_refused b c e h = ap no_letter e ∙ le-ltb 3 (code_of c) h
 
 -- ---- code by code
-pub codes_wide : (s : List ℕ) → max_qubits < length s → Refused (TooManyQubits (length s) max_qubits) ≡ read_codes s
+pub codes_wide : (s : List ℕ) → max_qubits < length s → Err (TooManyQubits (length s) max_qubits) ≡ read_codes s
 unfolding read_codes
 codes_wide s h = rw (lt-ltb max_qubits (length s) h)
 
-pub code_refused : (s : List ℕ) (q : ℕ) → length s ≤ max_qubits → Passed no_code q s → q < length s → 3 < get_or s q 0 → Refused (InvalidPauliCode (get_or s q 0)) ≡ read_codes s
+pub code_refused : (s : List ℕ) (q : ℕ) → length s ≤ max_qubits → Passed no_code q s → q < length s → 3 < get_or s q 0 → Err (InvalidPauliCode (get_or s q 0)) ≡ read_codes s
 unfolding read_codes
 code_refused s q n p l h =
     let f = found_here no_code q s p l (lt-ltb 3 (get_or s q 0) h) in
     rw (le-ltb max_qubits (length s) n, lt-ltb (first_where no_code s) (length s) (omega arith), f)
 
-pub codes_read : (s : List ℕ) (q : ℕ) (w : Word) → length s ≤ max_qubits → q ≡ length s → Passed no_code q s → ReadTo (λ k. get_or s k 0) q w → Parsed (pack w) ≡ read_codes s
+pub codes_read : (s : List ℕ) (q : ℕ) (w : Word) → length s ≤ max_qubits → q ≡ length s → Passed no_code q s → ReadTo (λ k. get_or s k 0) q w → Ok w ≡ read_codes s
 unfolding read_codes
 codes_read s q w n e p r =
     let f = found_none no_code s (rw e at p) in
     rw (le-ltb max_qubits (length s) n, le-ltb (first_where no_code s) (length s) (omega arith))
-    (ap (λ (v : Word). Parsed (pack v)) (read_all (λ k. get_or s k 0) q w r (λ k l. get_or-eq_default s 0 (omega arith))))
+    (ap (λ (v : Word). Ok v) (read_all (λ k. get_or s k 0) q w r (λ k l. get_or-eq_default s 0 (omega arith))))
 
 -- ---- codes written place by place
 tabulate_more : (n : ℕ) (f : ℕ → ℕ) → tabulate (suc n) f ≡ tabulate n f ++ (f n ∷ [])
@@ -324,34 +319,31 @@ written_more out q f h =
     ∙ set_at (tabulate q f) (get_or out q 0) (drop (suc q) out) (f q) q (length_tabulate q f)
     ∙ sym (rw (add-one q, tabulate_more q f) (append_snoc (tabulate q f) (f q) (drop (suc q) out)))
 
-pub written_length : (out : List ℕ) (q : ℕ) (f : ℕ → ℕ) → q ≤ length out → length (tabulate q f ++ drop q out) ≡ length out
-written_length out q f h = length-append (tabulate q f) (drop q out) ∙ omega (arith, length_tabulate q f, length-drop q out)
-
 -- ---- what writing codes answers
 module _ (w : Word) (n : ℕ) (out : List ℕ) where
-  changed_not : (a : Answer) (r : Refusal) → a ≡ Answers.Refused r → write_for a w n out ≡ out
+  changed_not : (a : Answer) (r : Refusal) → a ≡ Err r → write_for a w n out ≡ out
   changed_not a r e = ap (λ (b : Answer). write_for b w n out) e
 
-  refused : (r : Refusal) → write_answer w n out ≡ Answers.Refused r → Wrote w n out (Answers.Refused r) out
+  refused : (r : Refusal) → write_answer w n out ≡ Err r → Wrote w n out (Err r) out
   unfolding written
   refused r e = record { answers = sym e; places = sym (changed_not (write_answer w n out) r e) }
 
-  pub write_wide : max_qubits < n → Wrote w n out (Answers.Refused (TooManyQubits n max_qubits)) out
+  pub write_wide : max_qubits < n → Wrote w n out (Err (TooManyQubits n max_qubits)) out
   unfolding write_answer
   write_wide h = refused _ (rw (lt-ltb max_qubits n h))
 
   module _ (fits : n ≤ max_qubits) where
-    pub write_short : length out < n → Wrote w n out (Answers.Refused (LengthMismatch n (length out))) out
+    pub write_short : length out < n → Wrote w n out (Err (LengthMismatch n (length out))) out
     unfolding write_answer
     write_short h = refused _ (rw (le-ltb max_qubits n fits, lt-ltb (length out) n h))
 
     module _ (room : n ≤ length out) where
-      pub write_outside : reaches w n ≡ true → Wrote w n out (Answers.Refused (WordOutsideRegister 0)) out
+      pub write_outside : reaches w n ≡ true → Wrote w n out (Err (WordOutsideRegister 0)) out
       unfolding write_answer
       write_outside h = refused _ (rw (le-ltb max_qubits n fits, le-ltb (length out) n room, h))
 
-      pub write_accepted : reaches w n ≡ false → (after : List ℕ) → after ≡ tabulate n (letter_at w) ++ drop n out → Wrote w n out Accepted after
+      pub write_accepted : reaches w n ≡ false → (after : List ℕ) → after ≡ tabulate n (letter_at w) ++ drop n out → Wrote w n out (Ok tt) after
       unfolding write_answer written
       write_accepted h after e =
-          let f : write_answer w n out ≡ Accepted = rw (le-ltb max_qubits n fits, le-ltb (length out) n room, h) in
+          let f : write_answer w n out ≡ Ok tt = rw (le-ltb max_qubits n fits, le-ltb (length out) n room, h) in
           record { answers = sym f; places = e ∙ ap (λ (b : Answer). write_for b w n out) (sym f) }

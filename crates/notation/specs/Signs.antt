@@ -3,8 +3,8 @@
 
 -- How two words stand, as a number.
 use Rattle.std.specs.Prelude.{ℤ, pos, negsuc}
-use Rattle.word.specs.declared.word.Ordering.{Ordering}
-use Rattle.word.specs.declared.word.Ordering.TheVariants.{Less, Equal, Greater}
+use Rattle.std.specs.declared.cmp.Ordering.{Ordering}
+use Rattle.std.specs.declared.cmp.Ordering.TheVariants.{Less, Equal, Greater}
 
 -- -1 before, 0 the same, 1 after
 abbrev pub sign_of : Ordering → ℤ

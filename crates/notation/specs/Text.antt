@@ -2,11 +2,11 @@
 -- SPDX-License-Identifier: Apache-2.0
 
 -- Reading a text: `_` bytes are dropped, then exactly n letters.
-use Rattle.std.specs.Prelude.{ℕ, suc, Bool, cond, List, [], ◌∷◌, eqb, ltb, leb, length, get_or}
+use Rattle.std.specs.Prelude.{ℕ, suc, Bool, cond, List, [], ◌∷◌, eqb, ltb, leb, length, get_or, Result, Ok, Err}
 use Rattle.refusal.specs.declared.Refusal.TheVariants.{TooManyQubits, WrongLength, InvalidPauliByte}
-use Rattle.word.specs.Word.{max_qubits, word_of, pack}
-use Rattle.notation.specs.declared.texts.ParsedWord.{ParsedWord}
-use Rattle.notation.specs.declared.texts.ParsedWord.TheVariants.{Parsed, Refused}
+use Rattle.word.specs.Word.{max_qubits, word_of}
+use Rattle.refusal.specs.declared.Refusal.{Refusal}
+use Rattle.word.specs.declared.word.Word.{Word}
 
 -- the code of the letter that a byte stands for (I 73, X 88, Z 90, Y 89), and 4 for a byte that is no letter
 unfoldable pub code_of : ℕ → ℕ
@@ -23,10 +23,10 @@ first_where p [] = 0
 first_where p (b ∷ s) = cond (p b) 0 (suc (first_where p s))
 
 -- refusal 3 at the first byte that passes a test, and where there is none, what comes after
-unfoldable pub refuse_byte : (ℕ → Bool) → List ℕ → ParsedWord → ParsedWord
+unfoldable pub refuse_byte : (ℕ → Bool) → List ℕ → Result Word Refusal → Result Word Refusal
 refuse_byte p s after =
     cond (ltb (first_where p s) (length s))
-    (Refused (InvalidPauliByte (get_or s (first_where p s) 0) (first_where p s)))
+    (Err (InvalidPauliByte (get_or s (first_where p s) 0) (first_where p s)))
     after
 
 abbrev pub foreign : ℕ → Bool
@@ -36,13 +36,13 @@ abbrev pub no_letter : ℕ → Bool
 no_letter b = ltb 3 (code_of b)
 
 -- a text without underscores, of the right length
-unfoldable pub read_letters : List ℕ → ParsedWord
-read_letters s = refuse_byte no_letter s (Parsed (pack (word_of (λ q. code_of (get_or s q 73)))))
+unfoldable pub read_letters : List ℕ → Result Word Refusal
+read_letters s = refuse_byte no_letter s (Ok (word_of (λ q. code_of (get_or s q 73))))
 
 -- 1, any byte from 128 up (3), 2, 3
-unfoldable pub parse : ℕ → List ℕ → ParsedWord
+unfoldable pub parse : ℕ → List ℕ → Result Word Refusal
 parse n text =
-    cond (ltb max_qubits n) (Refused (TooManyQubits n max_qubits))
+    cond (ltb max_qubits n) (Err (TooManyQubits n max_qubits))
     (refuse_byte foreign (dropped text)
     (cond (eqb (length (dropped text)) n) (read_letters (dropped text))
-    (Refused (WrongLength n (length (dropped text))))))
+    (Err (WrongLength n (length (dropped text))))))

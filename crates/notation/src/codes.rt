@@ -6,57 +6,51 @@ ghost use Rattle.std.specs.Prelude.{◌≡◌};
 ghost use Rattle.notation.specs.Codes.{read_codes};
 ghost use Rattle.notation.specs.Between.{Wrote};
 
-use crate::texts::ParsedWord;
-use refusal::{Answer, Refusal};
-use word::word::{MAX_QUBITS, Word, identity_word, letter, packed, reaches_beyond, with_letter};
+use refusal::Refusal;
+use word::word::{MAX_QUBITS, Word, identity_word, letter, reaches_beyond, with_letter};
 
 // The word of a code for each qubit, qubit 0 first.
-pub fn word_from_codes(codes: &[u8]) -> ParsedWord
+pub fn word_from_codes(codes: &[u8]) -> Result<Word, Refusal>
     ensures { result ≡ read_codes codes.now }
 {
     let n_qubits = codes.len();
     if MAX_QUBITS < n_qubits {
-        return ParsedWord::Refused(Refusal::TooManyQubits {
+        return Err(Refusal::TooManyQubits {
             got: n_qubits,
             max: MAX_QUBITS,
         });
     }
     let mut w = identity_word();
-    let mut q = 0;
-    while q < n_qubits {
-        let code = codes[q];
+    for (q, &code) in codes.iter().enumerate() {
         if 3 < code {
-            return ParsedWord::Refused(Refusal::InvalidPauliCode { code });
+            return Err(Refusal::InvalidPauliCode { code });
         }
         w = with_letter(w, q, code);
-        q += 1;
     }
-    ParsedWord::Parsed(packed(w))
+    Ok(w)
 }
 
 // Writes a code for each of the first n_qubits qubits; places from n_qubits on stay as they were.
-pub fn codes_from_word(w: Word, n_qubits: usize, out: &mut [u8]) -> Answer
+pub fn codes_from_word(w: Word, n_qubits: usize, out: &mut [u8]) -> Result<(), Refusal>
     ensures { Wrote w n_qubits out.old result out.new }
 {
     if MAX_QUBITS < n_qubits {
-        return Answer::Refused(Refusal::TooManyQubits {
+        return Err(Refusal::TooManyQubits {
             got: n_qubits,
             max: MAX_QUBITS,
         });
     }
     if out.len() < n_qubits {
-        return Answer::Refused(Refusal::LengthMismatch {
+        return Err(Refusal::LengthMismatch {
             needed: n_qubits,
             given: out.len(),
         });
     }
     if reaches_beyond(w, n_qubits) {
-        return Answer::Refused(Refusal::WordOutsideRegister { position: 0 });
+        return Err(Refusal::WordOutsideRegister { position: 0 });
     }
-    let mut q = 0;
-    while q < n_qubits {
+    for q in 0..n_qubits {
         out[q] = letter(w, q);
-        q += 1;
     }
-    Answer::Accepted
+    Ok(())
 }

@@ -5,7 +5,7 @@
 ghost use Rattle.std.specs.Prelude.{◌≡◌};
 ghost use Rattle.notation.specs.Signs.{sign_of};
 
-use word::word::Ordering;
+use std::cmp::Ordering;
 
 pub fn sign_of(order: Ordering) -> i32
     ensures { result ≡ sign_of order }

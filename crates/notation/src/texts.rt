@@ -8,14 +8,7 @@ ghost use Rattle.notation.specs.Text.{code_of, dropped, read_letters, parse};
 ghost use Rattle.notation.specs.Between.{scan_from};
 
 use refusal::Refusal;
-use word::word::{Lanes, MAX_QUBITS, identity_word, packed, with_letter};
-
-// What a reader of texts or codes answers.
-#[derive(Drop)]
-pub enum ParsedWord {
-    Parsed(Lanes),
-    Refused(Refusal),
-}
+use word::word::{MAX_QUBITS, Word, identity_word, with_letter};
 
 // The code of the letter that a byte stands for, and 4 for a byte that is no letter.
 fn code_of(byte: u8) -> u8
@@ -36,88 +29,64 @@ fn code_of(byte: u8) -> u8
     4
 }
 
-// What a first look at a text finds: how many bytes are no underscores, or the first byte from 128
-// up, with its place.
-#[derive(Drop)]
-pub enum Scan {
-    Letters(usize),
-    Foreign(u8, usize),
-}
-
-fn scan_text(text: &[u8]) -> Scan
+// A first look at a text: how many bytes are no underscores, refused at the first byte from 128 up.
+fn scan_text(text: &[u8]) -> Result<usize, Refusal>
     ensures { result ≡ scan_from 0 text.now }
 {
     let mut place = 0;
-    let mut i = 0;
-    while i < text.len() {
-        let byte = text[i];
+    for &byte in text {
         if byte == b'_' {
-            i += 1;
-        } else {
-            if 128 <= byte {
-                return Scan::Foreign(byte, place);
-            }
-            place += 1;
-            i += 1;
+            continue;
         }
+        if 128 <= byte {
+            return Err(Refusal::InvalidPauliByte { byte, place });
+        }
+        place += 1;
     }
-    Scan::Letters(place)
+    Ok(place)
 }
 
 // The word of a text with at most MAX_QUBITS letters. Most letters of a term are I, and leave the word as
 // it is.
-fn read_letters(text: &[u8]) -> ParsedWord
+fn read_letters(text: &[u8]) -> Result<Word, Refusal>
     requires { length (dropped text.now) ≤ max_qubits }
     ensures { result ≡ read_letters (dropped text.now) }
 {
     let mut w = identity_word();
     let mut q = 0;
-    let mut i = 0;
-    while i < text.len() {
+    for i in 0..text.len() {
         let byte = text[i];
         if byte == b'_' {
-            i += 1;
-        } else {
-            let code = code_of(byte);
-            if 3 < code {
-                return ParsedWord::Refused(Refusal::InvalidPauliByte { byte, place: q });
-            }
-            if code != 0 {
-                w = with_letter(w, q, code);
-                q += 1;
-                i += 1;
-            } else {
-                q += 1;
-                i += 1;
-            }
+            continue;
         }
+        let code = code_of(byte);
+        if 3 < code {
+            return Err(Refusal::InvalidPauliByte { byte, place: q });
+        }
+        if code != 0 {
+            w = with_letter(w, q, code);
+        }
+        q += 1;
     }
-    ParsedWord::Parsed(packed(w))
+    Ok(w)
 }
 
 // The word of a text: `_` bytes are dropped, then exactly n_qubits letters, qubit 0 first.
-pub fn parse_pauli_string(text: &[u8], n_qubits: usize) -> ParsedWord
+pub fn parse_pauli_string(text: &[u8], n_qubits: usize) -> Result<Word, Refusal>
     ensures { result ≡ parse n_qubits text.now }
 {
     if MAX_QUBITS < n_qubits {
-        return ParsedWord::Refused(Refusal::TooManyQubits {
+        return Err(Refusal::TooManyQubits {
             got: n_qubits,
             max: MAX_QUBITS,
         });
     }
-    let scan = scan_text(text);
-    match scan {
-        Scan::Foreign(byte, place) => {
-            ParsedWord::Refused(Refusal::InvalidPauliByte { byte, place })
-        }
-        Scan::Letters(got) => {
-            if got != n_qubits {
-                return ParsedWord::Refused(Refusal::WrongLength {
-                    expected: n_qubits,
-                    got,
-                });
-            }
-            read_letters(text)
-        }
+    let got = scan_text(text)?;
+    if got != n_qubits {
+        return Err(Refusal::WrongLength {
+            expected: n_qubits,
+            got,
+        });
     }
+    read_letters(text)
 }

@@ -21,8 +21,7 @@ use Rattle.sums.specs.Numbers.{complexes, no_number}
 use Rattle.gksl.specs.Rules.{pairs_over}
 use Rattle.gksl.specs.Table.{put_over, put_all_over}
 use Rattle.sums.specs.Sums.{rows, sum_rows, Rising}
-use Rattle.sums.specs.declared.sums.Added.{Added}
-use Rattle.sums.specs.declared.sums.Added.TheVariants.{Held, Full}
+use Rattle.std.specs.Prelude.{Option, Some, None}
 use Rattle.sums.proofs.SumLaws.{Holds, holds_next, holds_full, table_long, length_put_high, rising_put_all, rising_empty, put_all_last, put_all_append, length_put_all_high}
 use Rattle.model.proofs.TermLaws.{take_complexes, drop_complexes, terms_none, terms_more}
 use Rattle.model.specs.Terms.{term_at, terms_in, terms_of}
@@ -84,16 +83,16 @@ module _ (t : Onto floats pauli) (count : ℕ) (lanes : List ℕ) (numbers : Lis
     rises = h.rises;
   }
 
-  module _ (p : List ℕ) (q : List Float) (r : Added) (put : Puts 256 count t (take (word_lanes * 256) lanes) (take 512 numbers) p q r) where
+  module _ (p : List ℕ) (q : List Float) (r : Option ℕ) (put : Puts 256 count t (take (word_lanes * 256) lanes) (take 512 numbers) p q r) where
     -- there is room for it
-    pub sum_full : r ≡ Full → ⊥
+    pub sum_full : r ≡ None → ⊥
     sum_full e =
         let f = holds_full 256 count (take (word_lanes * 256) lanes) (take 512 numbers) (sum_rows count lanes numbers) front_holds t p q r put e in
         let g = length_put_high t (sum_rows count lanes numbers) in
         let l = front_holds.count in
         omega (arith, h.room)
 
-    pub sum_held : (m : ℕ) → r ≡ Held m → length p ≡ word_lanes * 256 → length q ≡ 512 → Forms (t ∷ []) count lanes numbers m (p ++ drop (word_lanes * 256) lanes) (q ++ drop 512 numbers)
+    pub sum_held : (m : ℕ) → r ≡ Some m → length p ≡ word_lanes * 256 → length q ≡ 512 → Forms (t ∷ []) count lanes numbers m (p ++ drop (word_lanes * 256) lanes) (q ++ drop 512 numbers)
     unfolding put_all_over
     sum_held m e lp lq =
         let n = holds_next 256 count (take (word_lanes * 256) lanes) (take 512 numbers) (sum_rows count lanes numbers) front_holds t p q r put m e in
@@ -282,9 +281,3 @@ module _ (left right : Range) (lanes₀ : List ℕ) (numbers₀ : List Float) (r
                 numbers_stay = g.numbers_stay ∙ s.forms.numbers_stay;
               });
         }
-
-  pub pair_done : (lanes : List ℕ) (numbers : List Float) (count i : ℕ) → PairState left right lanes₀ numbers₀ lanes numbers count i → left.end ≤ i
-      → Forms (pairs_over floats pauli formed_term (terms_of lanes₀ numbers₀ left) (terms_of lanes₀ numbers₀ right)) 0 lanes₀ numbers₀ count lanes numbers
-  pair_done lanes numbers count i s h =
-      let e : i ≡ left.end = omega (arith, s.high) in
-      subst (λ (k : ℕ). Forms (pairs_over floats pauli formed_term (A k) B) 0 lanes₀ numbers₀ count lanes numbers) e s.forms

@@ -14,7 +14,7 @@ ghost use Rattle.model.specs.Between.{onto};
 use model::stored::Range;
 use model::term::{Term, term_at};
 use number::scalar::{conj, mul, phase_factor};
-use sums::sums::{Added, put};
+use sums::sums::put;
 use word::algebra::pauli_mul;
 use word::flat::WORD_LANES;
 
@@ -54,7 +54,7 @@ fn put_sum(words: &mut [u64], numbers: &mut [f64], count: usize, t: Term) -> usi
         z,
     );
     // There is room: the sums are fewer than their places.
-    let Added::Held(m) = added else {
+    let Some(m) = added else {
         return count;
     };
     m
@@ -74,12 +74,10 @@ fn put_row(
     ensures { Forms (map (formed_term (onto a)) (terms_in words.old numbers.old start end)) len words.old numbers.old result words.new numbers.new }
 {
     let mut count = len;
-    let mut j = start;
-    while j < end {
+    for j in start..end {
         let b = term_at(words, numbers, j);
         let t = formed_term(a, b);
         count = put_sum(words, numbers, count, t);
-        j += 1;
     }
     count
 }
@@ -89,15 +87,10 @@ pub fn precompute_adag_b(words: &mut [u64], numbers: &mut [f64], left: Range, ri
     requires { PairRoom left right words.old numbers.old }
     ensures { Forms (pairs_over floats pauli formed_term (terms_of words.old numbers.old left) (terms_of words.old numbers.old right)) 0 words.old numbers.old result words.new numbers.new }
 {
-    let end = left.end;
-    let from = right.start;
-    let to = right.end;
     let mut count = 0;
-    let mut i = left.start;
-    while i < end {
+    for i in left.start..left.end {
         let a = term_at(words, numbers, i);
-        count = put_row(words, numbers, count, a, from, to);
-        i += 1;
+        count = put_row(words, numbers, count, a, right.start, right.end);
     }
     count
 }

@@ -2,7 +2,7 @@
 -- SPDX-License-Identifier: Apache-2.0
 
 -- The candidates that are listed, one by one: what is left to list after the first of them. Assumes nothing.
-use mathlib.Core.Path.{◌≡◌, refl, ap, ◌∙◌, subst}
+use mathlib.Core.Path.{◌≡◌, ap, ◌∙◌, subst}
 use mathlib.Core.Bool.{Bool, true, false, cond}
 use mathlib.Core.List.{List, [], ◌∷◌}
 use Prim.Native.Nat.{ℕ, suc, ◌+◌, ◌*◌, ◌≤◌, ◌<◌}
@@ -88,9 +88,6 @@ module _ (tau : Float) (lanes : List ℕ) (sums : List Float) (order : List ℕ)
 
   abbrev rest : ℕ → Rows
   rest = left tau lanes sums order
-
-  pub list_start : State outWords₀ outValues₀ 0 0
-  list_start = record { words_same = refl; values_same = refl; count = omega arith; words_left = refl; values_left = refl }
 
   module _ (room : Placed lanes sums order × (word_lanes * length (above tau (rows_at lanes sums order)) ≤ length outWords₀) × (length (above tau (rows_at lanes sums order)) ≤ length outValues₀))
       (outWords : List ℕ) (outValues : List Float) (place i : ℕ) (s : State outWords outValues place i) where

@@ -2,7 +2,7 @@
 -- SPDX-License-Identifier: Apache-2.0
 
 -- The turns of a pass over its positions: what stands, and the positions that are left, give the whole. Assumes nothing.
-use mathlib.Core.Path.{◌≡◌, refl, ap, sym, ◌∙◌}
+use mathlib.Core.Path.{◌≡◌, ap, sym, ◌∙◌}
 use mathlib.Core.List.{List, [], ◌∷◌}
 use Prim.Native.Nat.{ℕ, suc, ◌+◌, ◌≤◌, ◌<◌}
 use native.Mathlib.Omega.{arith}
@@ -14,8 +14,7 @@ use lib.Seq.{drop-cons}
 use Rattle.refusal.specs.declared.Refusal.TheVariants.{TableFull}
 use Rattle.word.specs.declared.word.Word.{Word}
 use Rattle.word.specs.Word.{identity}
-use Rattle.sums.specs.declared.sums.Added.{Added}
-use Rattle.sums.specs.declared.sums.Added.TheVariants as Put
+use Rattle.std.specs.Prelude.{Option, Some, None, Ok, Err}
 use Rattle.candidates.specs.Tables.{Rows, candidate_rows, put_rows}
 use Rattle.candidates.specs.Between.{in_word_order, Standing, Puts}
 use Rattle.model.specs.Terms.{Term}
@@ -23,7 +22,6 @@ use Rattle.lent.specs.Read.{Read, refused}
 use Rattle.model.specs.Stored.{ModelTables}
 use Rattle.model.specs.declared.stored.Model.{Model}
 use Rattle.action.specs.Acts.{action_of}
-use Rattle.passes.specs.declared.taken.Taken.TheVariants.{Held, Refused}
 use Rattle.passes.specs.Leaks.{outside, leaked, taken_by, leaks_at}
 use Rattle.passes.proofs.TookLaws.{stood_held, stood_refused}
 use Rattle.passes.specs.Between.{Stood}
@@ -36,15 +34,11 @@ module _ (touched : ℕ → ℕ) (leaks : ℕ → Rows) (sumRoom room : ℕ) (po
     pub gives : taken_by touched leaks sumRoom room (drop i positions) (in_word_order (candidate_rows held lanes sums)) ≡ course
     pub stands : Standing room held lanes sums heads nexts
 
-  pub passing_first : (n : ℕ) (lanes : List ℕ) (sums : List Float) (heads nexts : List ℕ) → Standing room n lanes sums heads nexts
-      → Passing (taken_by touched leaks sumRoom room positions (in_word_order (candidate_rows n lanes sums))) 0 n lanes sums heads nexts
-  passing_first n lanes sums heads nexts s = record { gives = refl; stands = s }
-
   module _ (course : Read Rows) (i held : ℕ) (lanes : List ℕ) (sums : List Float) (heads nexts : List ℕ) (o : Passing course i held lanes sums heads nexts) where
     abbrev T : Rows
     T = in_word_order (candidate_rows held lanes sums)
 
-    pub passing_end : length positions ≤ i → Stood room course lanes sums heads nexts (Held held)
+    pub passing_end : length positions ≤ i → Stood room course lanes sums heads nexts (Ok held)
     unfolding taken_by
     passing_end h =
         let z : drop i positions ≡ [] = drop_of_length-le positions {i = i} h in
@@ -55,22 +49,22 @@ module _ (touched : ℕ → ℕ) (leaks : ℕ → Rows) (sumRoom room : ℕ) (po
       next = rw (is-p, ← (drop-cons positions i 0 in-positions)) o.gives
 
       -- the action finds no room
-      pub passing_stopped : (lanes' : List ℕ) (sums' : List Float) (heads' nexts' : List ℕ) → sumRoom < touched p → Stood room course lanes' sums' heads' nexts' (Refused (TableFull 1 sumRoom))
+      pub passing_stopped : (lanes' : List ℕ) (sums' : List Float) (heads' nexts' : List ℕ) → sumRoom < touched p → Stood room course lanes' sums' heads' nexts' (Err (TableFull 1 sumRoom))
       unfolding taken_by
       passing_stopped lanes' sums' heads' nexts' h =
           let e : refused (TableFull 1 sumRoom) ≡ course = rw (lt-ltb sumRoom (touched p) h) at next in
           stood_refused room course lanes' sums' heads' nexts' (TableFull 1 sumRoom) (sym e)
 
-      module _ (fits : touched p ≤ sumRoom) (lanes' : List ℕ) (sums' : List Float) (heads' nexts' : List ℕ) (r : Added)
+      module _ (fits : touched p ≤ sumRoom) (lanes' : List ℕ) (sums' : List Float) (heads' nexts' : List ℕ) (r : Option ℕ)
           (k : Puts room (put_rows (leaks p) (in_word_order (candidate_rows held lanes sums))) lanes' sums' heads' nexts' r) where
         -- what it adds finds no place
-        pub passing_full : r ≡ Put.Full → Stood room course lanes' sums' heads' nexts' (Refused (TableFull 2 room))
+        pub passing_full : r ≡ None → Stood room course lanes' sums' heads' nexts' (Err (TableFull 2 room))
         unfolding taken_by
         passing_full z =
             let e : refused (TableFull 2 room) ≡ course = rw (le-ltb sumRoom (touched p) fits, lt-ltb room (length (put_rows (leaks p) T)) (k.full z)) at next in
             stood_refused room course lanes' sums' heads' nexts' (TableFull 2 room) (sym e)
 
-        pub passing_next : (m : ℕ) → r ≡ Put.Held m → Passing course (i + 1) m lanes' sums' heads' nexts'
+        pub passing_next : (m : ℕ) → r ≡ Some m → Passing course (i + 1) m lanes' sums' heads' nexts'
         unfolding taken_by
         passing_next m z =
             let q = k.held m z in

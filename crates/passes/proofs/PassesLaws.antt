@@ -29,8 +29,7 @@ use Rattle.model.specs.Stored.{ModelTables}
 use Rattle.model.specs.declared.stored.Model.{Model}
 use Rattle.lent.specs.Read.{Read, got, refused, onward}
 use Rattle.passes.specs.Leaks.{taken_by, ended, pass_size, pass_count, passes}
-use Rattle.passes.specs.declared.taken.Taken.{Taken}
-use Rattle.passes.specs.declared.taken.Taken.TheVariants.{Held, Refused}
+use Rattle.std.specs.Prelude.{Result, Ok, Err}
 use Rattle.passes.proofs.TookLaws.{took_held, took_refused, stood_held, stood_refused}
 use Rattle.passes.specs.Between.{ModelReady, ActionRoom, rows_at, Stood, Took}
 
@@ -93,32 +92,32 @@ module _ (touched : ℕ → ℕ) (leaks : ℕ → Rows) (sumRoom candidateRoom r
     through : onward (taken (take (to - from) (drop from ps)) T) (λ (T' : Rows). onward (ended room T') (rest to)) ≡ all
     through = sym (rest_next from to T is h) ∙ going
 
-    module _ (lanes : List ℕ) (sums : List Float) (heads nexts : List ℕ) (r : Taken) (took : Stood candidateRoom (taken (take (to - from) (drop from ps)) T) lanes sums heads nexts r) where
-      pub pass_refused : (q : Refusal) → r ≡ Refused q → Stood candidateRoom all lanes sums heads nexts r
+    module _ (lanes : List ℕ) (sums : List Float) (heads nexts : List ℕ) (r : Result ℕ Refusal) (took : Stood candidateRoom (taken (take (to - from) (drop from ps)) T) lanes sums heads nexts r) where
+      pub pass_refused : (q : Refusal) → r ≡ Err q → Stood candidateRoom all lanes sums heads nexts (Err q)
       pass_refused q e =
           let stop : taken (take (to - from) (drop from ps)) T ≡ refused q = took.stopped q e in
-          rw e (stood_refused candidateRoom all lanes sums heads nexts q (sym (rw stop at through)))
+          stood_refused candidateRoom all lanes sums heads nexts q (sym (rw stop at through))
 
-      module _ (n : ℕ) (e : r ≡ Held n) where
+      module _ (n : ℕ) (e : r ≡ Ok n) where
         abbrev now : Rows
         now = in_word_order (candidate_rows n lanes sums)
 
         after : onward (ended room now) (rest to) ≡ all
         after = let gave : taken (take (to - from) (drop from ps)) T ≡ got now = (took.held n e).1 in rw gave at through
 
-        module _ (lanes' : List ℕ) (sums' : List Float) (heads' nexts' : List ℕ) (r' : Taken) (end : Stood candidateRoom (ended room (in_word_order (candidate_rows n lanes sums))) lanes' sums' heads' nexts' r') where
-          pub end_refused : (q : Refusal) → r' ≡ Refused q → Stood candidateRoom all lanes' sums' heads' nexts' r'
+        module _ (lanes' : List ℕ) (sums' : List Float) (heads' nexts' : List ℕ) (r' : Result ℕ Refusal) (end : Stood candidateRoom (ended room (in_word_order (candidate_rows n lanes sums))) lanes' sums' heads' nexts' r') where
+          pub end_refused : (q : Refusal) → r' ≡ Err q → Stood candidateRoom all lanes' sums' heads' nexts' (Err q)
           end_refused q e' =
               let stop : ended room now ≡ refused q = end.stopped q e' in
-              rw e' (stood_refused candidateRoom all lanes' sums' heads' nexts' q (sym (rw stop at after)))
+              stood_refused candidateRoom all lanes' sums' heads' nexts' q (sym (rw stop at after))
 
-          pub end_held : (k : ℕ) → r' ≡ Held k → (rest to (in_word_order (candidate_rows k lanes' sums')) ≡ all) × Standing candidateRoom k lanes' sums' heads' nexts'
+          pub end_held : (k : ℕ) → r' ≡ Ok k → (rest to (in_word_order (candidate_rows k lanes' sums')) ≡ all) × Standing candidateRoom k lanes' sums' heads' nexts'
           end_held k e' =
               let gave : ended room now ≡ got (in_word_order (candidate_rows k lanes' sums')) = (end.held k e').1 in
               (rw gave at after, (end.held k e').0)
 
   pub passes_end : (all : Read Rows) (from n : ℕ) (lanes : List ℕ) (sums : List Float) (heads nexts : List ℕ) → rest from (in_word_order (candidate_rows n lanes sums)) ≡ all → length ps ≤ from → Standing candidateRoom n lanes sums heads nexts
-      → Stood candidateRoom all lanes sums heads nexts (Held n)
+      → Stood candidateRoom all lanes sums heads nexts (Ok n)
   passes_end all from n lanes sums heads nexts going h s = stood_held candidateRoom all lanes sums heads nexts n s (sym going ∙ rest_none from (in_word_order (candidate_rows n lanes sums)) h)
 
 -- ---- before the first pass, and after the last
@@ -128,7 +127,7 @@ none_stand room m lanes sums heads nexts hl hs e hh hn =
     record { lanes_long = hl; sums_long = hs; heads_long = hh; nexts_long = hn; inside = omega arith; slots = rw e (none_slotted m); once = refl }
 
 -- what is put in the first places of a table, as many as a step holds, leaves its length
-pub front_kept : (r : Taken) (n : ℕ) → r ≡ Held n → (d e : List ℕ) → length e ≡ length (take n d) → length (e ++ drop n d) ≡ length d
+pub front_kept : (r : Result ℕ Refusal) (n : ℕ) → r ≡ Ok n → (d e : List ℕ) → length e ≡ length (take n d) → length (e ++ drop n d) ≡ length d
 front_kept r n held d e h = length_front d e n h
 
 -- the candidates at positions in word order
@@ -137,22 +136,17 @@ unfolding All
 map_same f g [] a = refl
 map_same f g (p ∷ l) a = ap₂ (λ (r : Row Word Float) (t : Rows). r ∷ t) a.0 (map_same f g l a.1)
 
-module _ (room : ℕ) (course : Read Rows) (lanes : List ℕ) (sums : List Float) (heads nexts : List ℕ) (r : Taken) (s : Stood room course lanes sums heads nexts r) where
-  pub run_refused : (q : Refusal) → r ≡ Refused q → (order : List ℕ) → Took room course lanes sums order r
-  run_refused q e order = rw e (took_refused room course lanes sums order q (s.stopped q e))
+module _ (room : ℕ) (course : Read Rows) (lanes : List ℕ) (sums : List Float) (heads nexts : List ℕ) (r : Result ℕ Refusal) (s : Stood room course lanes sums heads nexts r) where
+  pub run_refused : (q : Refusal) → r ≡ Err q → (order : List ℕ) → Took room course lanes sums order (Err q)
+  run_refused q e order = took_refused room course lanes sums order q (s.stopped q e)
 
-  module _ (n : ℕ) (e : r ≡ Held n) where
+  module _ (n : ℕ) (e : r ≡ Ok n) where
     abbrev k : Standing room n lanes sums heads nexts
     k = (s.held n e).0
 
     -- what ordering asks for
     pub run_long : (n ≤ room) × (word_lanes * n ≤ length lanes) × (n ≤ length heads) × (n ≤ length nexts)
     run_long = (k.inside, omega (arith, k.inside, k.lanes_long), omega (arith, k.inside, k.heads_long), omega (arith, k.inside, k.nexts_long))
-
-    pub run_asks : (word_lanes * length (take n heads) ≡ length (take (n * word_lanes) lanes)) × (word_lanes * length (take n nexts) ≡ length (take (n * word_lanes) lanes))
-    run_asks =
-        let w = length-take-le (n * word_lanes) lanes (omega (arith, run_long.1)) in
-        (omega (arith, w, length-take-le n heads run_long.2), omega (arith, w, length-take-le n nexts run_long.3))
 
     module _ (o rest : List ℕ) (is : o ≡ by_word (words (take (n * word_lanes) lanes))) where
       abbrev ws : List Word
@@ -180,7 +174,7 @@ module _ (room : ℕ) (course : Read Rows) (lanes : List ℕ) (sums : List Float
       in_n : (i : ℕ) → i < length o → get_or o i 0 < n
       in_n i h = all_at (λ x. x < n) o i below h
 
-      pub run_held : Took room course lanes sums (o ++ rest) (Held n)
+      pub run_held : Took room course lanes sums (o ++ rest) (Ok n)
       run_held =
           let first : take n (o ++ rest) ≡ o = take_at o rest n o_long in
           took_held room course lanes sums (o ++ rest) n k.inside ((s.held n e).1 ∙ ap got rows_are ∙ rw first)

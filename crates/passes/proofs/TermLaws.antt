@@ -14,16 +14,13 @@ use Rattle.word.specs.Order.{before, same}
 use Rattle.word.specs.declared.word.Word.{Word}
 use Rattle.number.specs.Floats.{floats}
 use Rattle.order.specs.Places.{is_among}
-use Rattle.sums.specs.Sums as Terms
-use Rattle.sums.specs.declared.sums.Added.{Added}
-use Rattle.sums.specs.declared.sums.Added.TheVariants.{Full, Held}
+use Rattle.std.specs.Prelude.{Option, Some, None}
 use Rattle.candidates.specs.Sums.{Row, row, put_all}
 use Rattle.candidates.specs.Tables.{Rows, candidate_rows, put_row, put_rows}
 use Rattle.candidates.specs.Between.{in_word_order, Standing, Puts}
 use Rattle.candidates.proofs.PutLaws.{strict, all_grow}
 use Rattle.candidates.proofs.StandLaws.{puts_held, puts_full}
 use Rattle.model.specs.Terms.{Term, term_at}
-use Rattle.action.specs.Acts.{listed}
 use Rattle.action.proofs.ListLaws.{left, left_none, left_passed, left_listed}
 use Rattle.passes.specs.Leaks.{outside, leaked}
 
@@ -61,22 +58,17 @@ to_put out c touched lanes sums i = leaked out c (left touched lanes sums i)
 
 -- what stands, followed by what is left to put, is the whole throughout
 pub record TermState (out : Word → Bool) (c : Float) (touched : ℕ) (lanes : List ℕ) (sums : List Float) (room : ℕ) (all : Rows) (candWords : List ℕ) (candSums : List Float) (heads nexts : List ℕ) (held i : ℕ) : Type 0 where
-  pub high : i ≤ touched
   pub stands : Standing room held candWords candSums heads nexts
   pub gives : put_rows (to_put out c touched lanes sums i) (in_word_order (candidate_rows held candWords candSums)) ≡ all
 
 module _ (out : Word → Bool) (c : Float) (touched : ℕ) (lanes : List ℕ) (sums : List Float) (room : ℕ) where
-  pub term_start : (n : ℕ) (candWords : List ℕ) (candSums : List Float) (heads nexts : List ℕ) → Standing room n candWords candSums heads nexts
-      → TermState out c touched lanes sums room (put_rows (leaked out c (listed (Terms.sum_rows touched lanes sums))) (in_word_order (candidate_rows n candWords candSums))) candWords candSums heads nexts n 0
-  term_start n candWords candSums heads nexts s = record { high = omega arith; stands = s; gives = refl }
-
   module _ (hl : word_lanes * touched ≤ length lanes) (hs : 2 * touched ≤ length sums) (all : Rows) (candWords : List ℕ) (candSums : List Float) (heads nexts : List ℕ) (held i : ℕ) (s : TermState out c touched lanes sums room all candWords candSums heads nexts held i) where
     abbrev T : Rows
     T = in_word_order (candidate_rows held candWords candSums)
 
     module _ (h : i < touched) (t : Term) (e : t ≡ term_at lanes sums i) where
       same_left : to_put out c touched lanes sums i ≡ to_put out c touched lanes sums (i + 1) → TermState out c touched lanes sums room all candWords candSums heads nexts held (i + 1)
-      same_left q = record { high = omega arith; stands = s.stands; gives = ap (λ (l : Rows). put_rows l T) (sym q) ∙ s.gives }
+      same_left q = record { stands = s.stands; gives = ap (λ (l : Rows). put_rows l T) (sym q) ∙ s.gives }
 
       pub term_passes : floats.is_zero t.num.re ≡ true → TermState out c touched lanes sums room all candWords candSums heads nexts held (i + 1)
       term_passes f = same_left (ap (leaked out c) (left_passed touched lanes sums hl hs i h t e f))
@@ -91,22 +83,22 @@ module _ (out : Word → Bool) (c : Float) (touched : ℕ) (lanes : List ℕ) (s
         pub term_skips : out t.word ≡ false → TermState out c touched lanes sums room all candWords candSums heads nexts held (i + 1)
         term_skips g = same_left (by_test false g)
 
-        module _ (g : out t.word ≡ true) (candWords' : List ℕ) (candSums' : List Float) (heads' nexts' : List ℕ) (r : Added)
+        module _ (g : out t.word ≡ true) (candWords' : List ℕ) (candSums' : List Float) (heads' nexts' : List ℕ) (r : Option ℕ)
             (k : Puts room (put_row t.word (floats.times c t.num.re) (in_word_order (candidate_rows held candWords candSums))) candWords' candSums' heads' nexts' r) where
           after : put_rows (to_put out c touched lanes sums (i + 1)) (put_row t.word (floats.times c t.num.re) T) ≡ all
           unfolding put_all
           after = ap (λ (l : Rows). put_rows l T) (sym (by_test true g)) ∙ s.gives
 
-          pub term_puts : (m : ℕ) → r ≡ Held m → TermState out c touched lanes sums room all candWords' candSums' heads' nexts' m (i + 1)
+          pub term_puts : (m : ℕ) → r ≡ Some m → TermState out c touched lanes sums room all candWords' candSums' heads' nexts' m (i + 1)
           term_puts m z =
-              record { high = omega arith; stands = (k.held m z).0; gives = ap (put_rows (to_put out c touched lanes sums (i + 1))) (k.held m z).1 ∙ after }
+              record { stands = (k.held m z).0; gives = ap (put_rows (to_put out c touched lanes sums (i + 1))) (k.held m z).1 ∙ after }
 
-          pub term_full : r ≡ Full → Puts room all candWords' candSums' heads' nexts' Full
+          pub term_full : r ≡ None → Puts room all candWords' candSums' heads' nexts' None
           term_full z =
               puts_full room all candWords' candSums' heads' nexts'
               (rw (← after) (omega (arith, k.full z, grows (to_put out c touched lanes sums (i + 1)) (put_row t.word (floats.times c t.num.re) T))))
 
-    pub term_done : touched ≤ i → Puts room all candWords candSums heads nexts (Held held)
+    pub term_done : touched ≤ i → Puts room all candWords candSums heads nexts (Some held)
     unfolding leaked put_all
     term_done h =
         let n : to_put out c touched lanes sums i ≡ [] = ap (leaked out c) (left_none touched lanes sums hl hs i h) in

@@ -13,17 +13,17 @@ use Rattle.candidates.specs.Tables.{Rows, candidate_rows}
 use Rattle.candidates.specs.Between.{in_word_order, Standing}
 use Rattle.lent.specs.Read.{Read, got, refused}
 use Rattle.passes.specs.Between.{rows_at, Placed, Stood, Took}
-use Rattle.passes.specs.declared.taken.Taken.TheVariants.{Held, Refused}
+use Rattle.std.specs.Prelude.{Ok, Err}
 
 module _ (room : ℕ) (course : Read Rows) (lanes : List ℕ) (sums : List Float) (order : List ℕ) where
-  pub took_held : (n : ℕ) → n ≤ room → course ≡ got (rows_at lanes sums (take n order)) → Placed lanes sums (take n order) → Took room course lanes sums order (Held n)
+  pub took_held : (n : ℕ) → n ≤ room → course ≡ got (rows_at lanes sums (take n order)) → Placed lanes sums (take n order) → Took room course lanes sums order (Ok n)
   took_held n h e p =
       record {
         held = λ m z. let q : n ≡ m = cc in (rw (← q) e, rw (← q) h, rw (← q) p);
         stopped = λ r z. let q : ◌≡◌ {A = ℕ} 0 1 = cc in absurd (omega arith);
       }
 
-  pub took_refused : (r : Refusal) → course ≡ refused r → Took room course lanes sums order (Refused r)
+  pub took_refused : (r : Refusal) → course ≡ refused r → Took room course lanes sums order (Err r)
   took_refused r e =
       record {
         held = λ m z. let q : ◌≡◌ {A = ℕ} 0 1 = cc in absurd (omega arith);
@@ -31,14 +31,14 @@ module _ (room : ℕ) (course : Read Rows) (lanes : List ℕ) (sums : List Float
       }
 
 module _ (room : ℕ) (course : Read Rows) (lanes : List ℕ) (sums : List Float) (heads nexts : List ℕ) where
-  pub stood_held : (n : ℕ) → Standing room n lanes sums heads nexts → course ≡ got (in_word_order (candidate_rows n lanes sums)) → Stood room course lanes sums heads nexts (Held n)
+  pub stood_held : (n : ℕ) → Standing room n lanes sums heads nexts → course ≡ got (in_word_order (candidate_rows n lanes sums)) → Stood room course lanes sums heads nexts (Ok n)
   stood_held n s e =
       record {
         held = λ m z. let q : n ≡ m = cc in (rw (← q) s, rw (← q) e);
         stopped = λ r z. let q : ◌≡◌ {A = ℕ} 0 1 = cc in absurd (omega arith);
       }
 
-  pub stood_refused : (r : Refusal) → course ≡ refused r → Stood room course lanes sums heads nexts (Refused r)
+  pub stood_refused : (r : Refusal) → course ≡ refused r → Stood room course lanes sums heads nexts (Err r)
   stood_refused r e =
       record {
         held = λ m z. let q : ◌≡◌ {A = ℕ} 0 1 = cc in absurd (omega arith);

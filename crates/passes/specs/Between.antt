@@ -2,10 +2,9 @@
 -- SPDX-License-Identifier: Apache-2.0
 
 -- Contracts between functions: what the functions of a pass ask for and leave.
-use Rattle.std.specs.Prelude.{ℕ, ◌+◌, ◌*◌, ◌≤◌, ◌<◌, ◌≡◌, List, ◌++◌, map, true, Float, length, get_or, take}
+use Rattle.std.specs.Prelude.{ℕ, ◌+◌, ◌*◌, ◌≤◌, ◌<◌, ◌≡◌, List, ◌++◌, map, true, Float, length, get_or, take, Result, Ok, Err}
 use Rattle.std.specs.Float.{nan}
 use Rattle.refusal.specs.declared.Refusal.{Refusal}
-use Rattle.refusal.specs.declared.Answer.TheVariants.{Accepted}
 use Rattle.word.specs.Flat.{words, word_lanes}
 use Rattle.word.specs.Word.{identity}
 use Rattle.number.specs.Floats.{is_finite}
@@ -19,12 +18,10 @@ use Rattle.model.specs.Tested.{test_model}
 use Rattle.model.specs.declared.stored.Model.{Model}
 use Rattle.lent.specs.Between.{AllInside}
 use Rattle.rules_by_index.specs.Near.{ModelIndexed}
-use Rattle.passes.specs.declared.taken.Taken.{Taken}
-use Rattle.passes.specs.declared.taken.Taken.TheVariants.{Held, Refused}
 
 -- a tested model with its index, and a mask
 pub record ModelReady (m : Model) (t : ModelTables) (hIndex jIndex mask : List ℕ) : Type 0 where
-  pub tested : test_model m t ≡ Accepted
+  pub tested : test_model m t ≡ Ok tt
   pub indexed : ModelIndexed m t hIndex jIndex
   pub h_rows : 64 * m.qubits ≤ length hIndex
   pub j_rows : 64 * m.qubits ≤ length jIndex
@@ -46,9 +43,9 @@ abbrev pub FiniteRows : Rows → Type 0
 FiniteRows t = (k : ℕ) → k < length t → is_finite (get_or t k (row identity nan)).sum ≡ true
 
 -- the answer of a step, and the candidates that stand afterwards, in any order and with their slots
-pub record Stood (room : ℕ) (course : Read Rows) (lanes : List ℕ) (sums : List Float) (heads nexts : List ℕ) (r : Taken) : Type 0 where
-  pub held : (n : ℕ) → r ≡ Held n → Standing room n lanes sums heads nexts × (course ≡ got (in_word_order (candidate_rows n lanes sums)))
-  pub stopped : (q : Refusal) → r ≡ Refused q → course ≡ refused q
+pub record Stood (room : ℕ) (course : Read Rows) (lanes : List ℕ) (sums : List Float) (heads nexts : List ℕ) (r : Result ℕ Refusal) : Type 0 where
+  pub held : (n : ℕ) → r ≡ Ok n → Standing room n lanes sums heads nexts × (course ≡ got (in_word_order (candidate_rows n lanes sums)))
+  pub stopped : (q : Refusal) → r ≡ Err q → course ≡ refused q
 
 -- the candidates at positions, in their order
 abbrev pub rows_at : List ℕ → List Float → List ℕ → Rows
@@ -60,6 +57,6 @@ pub record Placed (lanes : List ℕ) (sums : List Float) (order : List ℕ) : Ty
   pub in_sums : (i : ℕ) → i < length order → get_or order i 0 < length sums
 
 -- the answer, and the positions of the candidates in word order
-pub record Took (room : ℕ) (course : Read Rows) (lanes : List ℕ) (sums : List Float) (order : List ℕ) (r : Taken) : Type 0 where
-  pub held : (n : ℕ) → r ≡ Held n → (course ≡ got (rows_at lanes sums (take n order))) × (n ≤ room) × Placed lanes sums (take n order)
-  pub stopped : (q : Refusal) → r ≡ Refused q → course ≡ refused q
+pub record Took (room : ℕ) (course : Read Rows) (lanes : List ℕ) (sums : List Float) (order : List ℕ) (r : Result ℕ Refusal) : Type 0 where
+  pub held : (n : ℕ) → r ≡ Ok n → (course ≡ got (rows_at lanes sums (take n order))) × (n ≤ room) × Placed lanes sums (take n order)
+  pub stopped : (q : Refusal) → r ≡ Err q → course ≡ refused q

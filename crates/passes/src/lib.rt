@@ -8,5 +8,4 @@ pub mod list;
 pub mod pass;
 pub mod passes;
 pub mod room;
-pub mod taken;
 pub mod terms;

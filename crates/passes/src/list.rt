@@ -18,14 +18,10 @@ pub fn count_above(words: &[u64], sums: &[f64], order: &[u64], tau_add: f64) -> 
     ensures { result ≡ length (above tau_add (rows_at words.now sums.now order.now)) }
 {
     let mut count = 0;
-    let mut i = 0;
-    while i < order.len() {
+    for i in 0..order.len() {
         let p = order[i] as usize;
         if is_above(sums[p], tau_add) {
             count += 1;
-            i += 1;
-        } else {
-            i += 1;
         }
     }
     count
@@ -44,8 +40,7 @@ pub fn list_above(
     ensures { (out_words.new ≡ laid lay_word 0 (words_of (above tau_add (rows_at words.now sums.now order.now))) out_words.old) × (out_values.new ≡ laid set 0 (sums_of (above tau_add (rows_at words.now sums.now order.now))) out_values.old) }
 {
     let mut place = 0;
-    let mut i = 0;
-    while i < order.len() {
+    for i in 0..order.len() {
         let p = order[i] as usize;
         let x = sums[p];
         if is_above(x, tau_add) {
@@ -53,9 +48,6 @@ pub fn list_above(
             set_word(out_words, place, w);
             out_values[place] = x;
             place += 1;
-            i += 1;
-        } else {
-            i += 1;
         }
     }
 }

@@ -11,13 +11,11 @@ ghost use Rattle.model.specs.Between.{model_tables};
 ghost use Rattle.passes.specs.Between.{ModelReady, BasisReady, ActionRoom, Stood};
 ghost use Rattle.passes.specs.Leaks.{taken_by, touched_at, leaks_at};
 
-use crate::taken::Taken;
 use crate::terms::put_terms;
 use lent::sizes::SUMS_TABLE;
 use model::stored::Model;
 use refusal::Refusal;
 use rules_by_index::near::put_rules_near;
-use sums::sums::Added;
 use word::flat::word_at;
 
 // The number of the table of candidates, as 13 names it.
@@ -51,7 +49,7 @@ pub fn take_pass(
     n: usize,
     order: &mut [u64],
     work: &mut [u64],
-) -> Taken
+) -> Result<usize, Refusal>
     requires model_ready { ModelReady m (model_tables h_words.now h_coeffs.now jumps.now rates.now t_words.now t_numbers.now) h_index.now j_index.now mask.old }
     requires basis_ready { BasisReady m.qubits basis.now coeffs.now heads.now nexts.now protected.now × AllBelow (length coeffs.now) positions.now }
     requires action_room { ActionRoom sum_room work_words.old work_sums.old }
@@ -59,16 +57,15 @@ pub fn take_pass(
     ensures { Stood room (taken_by (touched_at m (model_tables h_words.now h_coeffs.now jumps.now rates.now t_words.now t_numbers.now) (words_in basis.now) coeffs.now (words_in protected.now)) (leaks_at m (model_tables h_words.now h_coeffs.now jumps.now rates.now t_words.now t_numbers.now) (words_in basis.now) coeffs.now (words_in protected.now)) sum_room room positions.now (in_word_order (candidate_rows n words.old sums.old))) words.new sums.new order.new work.new result }
 {
     let mut held = n;
-    let mut i = 0;
-    while i < positions.len() {
+    for i in 0..positions.len() {
         let p = positions[i] as usize;
         let w = word_at(basis, p);
         let added = put_rules_near(
             work_words, work_sums, sum_room, m, h_words, h_coeffs, jumps, rates, t_words,
             t_numbers, h_index, j_index, mask, w,
         );
-        let Added::Held(touched) = added else {
-            return Taken::Refused(Refusal::TableFull {
+        let Some(touched) = added else {
+            return Err(Refusal::TableFull {
                 table: SUMS_TABLE,
                 places: sum_room,
             });
@@ -78,14 +75,13 @@ pub fn take_pass(
             work_words, work_sums, touched, c, basis, heads, nexts, protected, words, sums, room,
             held, order, work,
         );
-        let Added::Held(stand) = put else {
-            return Taken::Refused(Refusal::TableFull {
+        let Some(stand) = put else {
+            return Err(Refusal::TableFull {
                 table: CANDIDATES_TABLE,
                 places: room,
             });
         };
         held = stand;
-        i += 1;
     }
-    Taken::Held(held)
+    Ok(held)
 }

@@ -13,11 +13,11 @@ ghost use Rattle.passes.specs.Leaks.{passes, pass_count, touched_at, leaks_at};
 
 use crate::pass::take_pass;
 use crate::room::end_pass;
-use crate::taken::Taken;
 use lent::clear::clear_lanes;
 use lent::sizes::smaller;
 use model::stored::Model;
 use order::places::order_words;
+use refusal::Refusal;
 use word::flat::WORD_LANES;
 
 pub const PASS_SIZE: usize = 4096;
@@ -49,7 +49,7 @@ fn take_passes(
     room: usize,
     order: &mut [u64],
     work: &mut [u64],
-) -> Taken
+) -> Result<usize, Refusal>
     requires model_ready { 0 < length positions.now → ModelReady m (model_tables h_words.now h_coeffs.now jumps.now rates.now t_words.now t_numbers.now) h_index.now j_index.now mask.old }
     requires basis_ready { 0 < length positions.now → BasisReady m.qubits basis.now coeffs.now heads.now nexts.now protected.now × AllBelow (length coeffs.now) positions.now }
     requires action_room { ActionRoom sum_room work_words.old work_sums.old }
@@ -58,9 +58,10 @@ fn take_passes(
 {
     let mut held = 0;
     let mut from = 0;
+    // By passes: the next begins where this one ends.
     while from < positions.len() {
         let to = smaller(from + PASS_SIZE, positions.len());
-        let taken = take_pass(
+        let n = take_pass(
             m,
             h_words,
             h_coeffs,
@@ -86,18 +87,11 @@ fn take_passes(
             held,
             order,
             work,
-        );
-        let Taken::Held(n) = taken else {
-            return taken;
-        };
-        let ended = end_pass(words, sums, candidate_room, n, room, order, work);
-        let Taken::Held(stay) = ended else {
-            return ended;
-        };
-        held = stay;
+        )?;
+        held = end_pass(words, sums, candidate_room, n, room, order, work)?;
         from = to;
     }
-    Taken::Held(held)
+    Ok(held)
 }
 
 // The same from an empty table of slots; at the end `order` has the positions of the candidates in word order.
@@ -127,7 +121,7 @@ pub fn run_passes(
     room: usize,
     order: &mut [u64],
     work: &mut [u64],
-) -> Taken
+) -> Result<usize, Refusal>
     requires model_ready { 0 < length positions.now → ModelReady m (model_tables h_words.now h_coeffs.now jumps.now rates.now t_words.now t_numbers.now) h_index.now j_index.now mask.old }
     requires basis_ready { 0 < length positions.now → BasisReady m.qubits basis.now coeffs.now heads.now nexts.now protected.now × AllBelow (length coeffs.now) positions.now }
     requires action_room { ActionRoom sum_room work_words.old work_sums.old }
@@ -135,7 +129,7 @@ pub fn run_passes(
     ensures { Took candidate_room (passes (touched_at m (model_tables h_words.now h_coeffs.now jumps.now rates.now t_words.now t_numbers.now) (words_in basis.now) coeffs.now (words_in protected.now)) (leaks_at m (model_tables h_words.now h_coeffs.now jumps.now rates.now t_words.now t_numbers.now) (words_in basis.now) coeffs.now (words_in protected.now)) sum_room candidate_room room (pass_count (length positions.now)) positions.now []) words.new sums.new order.new result }
 {
     clear_lanes(order);
-    let taken = take_passes(
+    let n = take_passes(
         m,
         h_words,
         h_coeffs,
@@ -161,10 +155,7 @@ pub fn run_passes(
         room,
         order,
         work,
-    );
-    let Taken::Held(n) = taken else {
-        return taken;
-    };
+    )?;
     order_words(&words[..n * WORD_LANES], &mut order[..n], &mut work[..n]);
-    Taken::Held(n)
+    Ok(n)
 }

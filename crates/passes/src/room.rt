@@ -9,7 +9,6 @@ ghost use Rattle.candidates.specs.Between.{in_word_order, Standing};
 ghost use Rattle.passes.specs.Leaks.{largest, ended};
 ghost use Rattle.passes.specs.Between.{FiniteRows, Stood};
 
-use crate::taken::Taken;
 use candidates::bad::place_of_bad;
 use candidates::cut::keep_largest;
 use lent::numbers::first_not_finite;
@@ -69,18 +68,18 @@ pub fn end_pass(
     room: usize,
     order: &mut [u64],
     work: &mut [u64],
-) -> Taken
+) -> Result<usize, Refusal>
     requires { Standing places n words.old sums.old order.old work.old }
     ensures { Stood places (ended room (in_word_order (candidate_rows n words.old sums.old))) words.new sums.new order.new work.new result }
 {
     let bad = first_not_finite(sums, n);
     if bad < n {
         let position = place_of_bad(&words[..n * WORD_LANES], &sums[..n], bad);
-        return Taken::Refused(Refusal::SumNotFinite { position });
+        return Err(Refusal::SumNotFinite { position });
     }
     if n <= room {
-        return Taken::Held(n);
+        return Ok(n);
     }
     let held = cut(words, sums, places, n, room, order, work);
-    Taken::Held(held)
+    Ok(held)
 }

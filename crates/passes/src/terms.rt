@@ -15,7 +15,6 @@ use candidates::put::put_candidate;
 use model::term::term_at;
 use number::scalar::is_zero;
 use slots::has_word_in_both;
-use sums::sums::Added;
 use word::word::Word;
 
 // Whether w is neither in the basis nor protected; the slots are those of both lists, one behind the other.
@@ -44,30 +43,25 @@ pub fn put_terms(
     n: usize,
     order: &mut [u64],
     work: &mut [u64],
-) -> Added
+) -> Option<usize>
     requires { (word_lanes * touched ≤ length sum_words.now) × (2 * touched ≤ length term_sums.now) × Slotted (words_in basis.now ++ words_in protected.now) heads.now nexts.now × Standing room n words.old sums.old order.old work.old }
     ensures { Puts room (put_rows (leaked (outside (words_in basis.now) (words_in protected.now)) c (listed (Terms.sum_rows touched sum_words.now term_sums.now))) (in_word_order (candidate_rows n words.old sums.old))) words.new sums.new order.new work.new result }
 {
     let mut held = n;
-    let mut i = 0;
-    while i < touched {
+    for i in 0..touched {
         let t = term_at(sum_words, term_sums, i);
         let x = t.number.re;
         if is_zero(x) {
-            i += 1;
-        } else {
-            let w = t.word;
-            if is_outside(basis, heads, nexts, protected, w) {
-                let added = put_candidate(words, sums, order, work, held, room, w, c * x);
-                let Added::Held(stand) = added else {
-                    return Added::Full;
-                };
-                held = stand;
-                i += 1;
-            } else {
-                i += 1;
-            }
+            continue;
+        }
+        let w = t.word;
+        if is_outside(basis, heads, nexts, protected, w) {
+            let added = put_candidate(words, sums, order, work, held, room, w, c * x);
+            let Some(stand) = added else {
+                return None;
+            };
+            held = stand;
         }
     }
-    Added::Held(held)
+    Some(held)
 }

@@ -16,8 +16,8 @@ use lib.Dec.{ltb}
 use lib.Ieee.{Float}
 use lib.ListN.{length}
 use Rattle.refusal.specs.declared.Refusal.TheVariants.{CountAboveLimit}
-use Rattle.refusal.specs.declared.Answer.{Answer}
-use Rattle.refusal.specs.declared.Answer.TheVariants.{Accepted, Refused}
+use Rattle.std.specs.Prelude.{Ok, Err}
+use Rattle.refusal.specs.Cause.{Answer}
 use Rattle.word.specs.Flat.{word_lanes}
 use Rattle.word.specs.Word.{max_qubits}
 use Rattle.model.specs.Stored.{ModelTables}
@@ -43,14 +43,14 @@ use Rattle.pebblelinen.specs.declared.evolutions.EvolutionSizes.{EvolutionSizes}
 use Rattle.pebblelinen.specs.declared.generators.GeneratorSizes.{GeneratorSizes}
 
 -- ---- what comes after a test need agree only where the test is passed
-then_alike : (a : Answer) {b c : Answer} → (a ≡ Accepted → b ≡ c) → and_then a b ≡ and_then a c
-then_alike Accepted h = h refl
-then_alike (Refused r) h = refl
+then_alike : (a : Answer) {b c : Answer} → (a ≡ Ok tt → b ≡ c) → and_then a b ≡ and_then a c
+then_alike (Ok _) h = h refl
+then_alike (Err r) h = refl
 
 counted_alike : (limit count : ℕ) {b c : Answer} → (count ≤ limit → b ≡ c) → counted limit count b ≡ counted limit count c
 counted_alike limit count {b} {c} h = go (ltb limit count) refl
   where
-    go : (x : Bool) → ltb limit count ≡ x → cond x (Refused (CountAboveLimit count)) b ≡ cond x (Refused (CountAboveLimit count)) c
+    go : (x : Bool) → ltb limit count ≡ x → cond x (Err (CountAboveLimit count)) b ≡ cond x (Err (CountAboveLimit count)) c
     go true e = refl
     go false e = h (ltb-false limit count e)
 
@@ -87,7 +87,7 @@ pub record LeakageLent (s : LeakageSizes) (w : Leak.Work) : Type 0 where
   pub place_work : s.place_work ≤ length w.place_work
 
 module _ (qubits entries protected touched candidates : ℕ) (w : Leak.Work) (a : LeakageLent (leakage_sizes qubits entries protected touched candidates) w) where
-  work_accepted : qubits ≤ max_qubits → entries ≤ max_words → protected ≤ max_words → Leak.work_tests qubits entries protected w ≡ Accepted
+  work_accepted : qubits ≤ max_qubits → entries ≤ max_words → protected ≤ max_words → Leak.work_tests qubits entries protected w ≡ Ok tt
   unfolding leakage_sizes Leak.work_tests
   work_accepted q e p =
       rw (
@@ -257,7 +257,7 @@ module _ (qubits len touched entries : ℕ) (w : Evolution.Work) (a : EvolutionL
   abbrev tests : List Float → Answer
   tests out = Evolution.work_tests qubits len (length w.generator.h_index) (length w.generator.j_index) (length w.generator.mask) (length w.generator.heads) (length w.generator.nexts) (length w.offsets) (length w.v) (length w.b) (length w.product) (length out)
 
-  evolution_passes : qubits ≤ max_qubits → len ≤ max_words → (out : List Float) → tests out ≡ lent len (length out) Accepted
+  evolution_passes : qubits ≤ max_qubits → len ≤ max_words → (out : List Float) → tests out ≡ lent len (length out) (Ok tt)
   unfolding evolution_sizes generator_sizes Evolution.work_tests
   evolution_passes q e out =
       rw (

@@ -2,22 +2,19 @@
 -- SPDX-License-Identifier: Apache-2.0
 
 -- Answers about actions in plain numbers.
-use Rattle.std.specs.Prelude.{ℕ, ◌≡◌, List, Float}
+use Rattle.std.specs.Prelude.{ℕ, ◌≡◌, List, Float, Result, Ok, Err}
 use Rattle.refusal.specs.Cause.{status_of, answer_status}
-use Rattle.refusal.specs.declared.Answer.TheVariants.{Accepted}
+use Rattle.refusal.specs.declared.Refusal.{Refusal}
+use Rattle.action.specs.declared.count.Counted.{Counted}
 use Rattle.action.specs.Acts.{Acting}
 use Rattle.action.specs.Counts.{Counting}
-use Rattle.action.specs.declared.act.Acted.{Acted}
-use Rattle.action.specs.declared.act.Acted.TheVariants.{Listed, Refused}
-use Rattle.action.specs.declared.count.Counted.{Counted}
-use Rattle.action.specs.declared.count.Counted.TheVariants as Counts
 use Rattle.pebblelinen.specs.declared.actions.ListedWords.{ListedWords}
 use Rattle.pebblelinen.specs.declared.actions.CountedPlaces.{CountedPlaces}
 
 -- how many words are listed, or the refusal and 0
-abbrev pub listed_of : Acted → ListedWords
-listed_of (Listed n) = record { status = answer_status Accepted; count = n }
-listed_of (Refused refusal) = record { status = status_of refusal; count = 0 }
+abbrev pub listed_of : Result ℕ Refusal → ListedWords
+listed_of (Ok n) = record { status = answer_status (Ok tt); count = n }
+listed_of (Err refusal) = record { status = status_of refusal; count = 0 }
 
 -- what the action answers, and the lent tables afterwards
 pub record LeavesList (a : Acting) (r : ListedWords) (outWords : List ℕ) (outValues : List Float) (workWords : List ℕ) (workSums : List Float) : Type 0 where
@@ -28,9 +25,9 @@ pub record LeavesList (a : Acting) (r : ListedWords) (outWords : List ℕ) (outV
   pub work_sums : workSums ≡ a.work_sums
 
 -- the most words that one action touches and lists, or the refusal and 0
-abbrev pub counted_of : Counted → CountedPlaces
-counted_of (Counts.Places touched listed) = record { status = answer_status Accepted; touched = touched; listed = listed }
-counted_of (Counts.Refused refusal) = record { status = status_of refusal; touched = 0; listed = 0 }
+abbrev pub counted_of : Result Counted Refusal → CountedPlaces
+counted_of (Ok counted) = record { status = answer_status (Ok tt); touched = counted.touched; listed = counted.listed }
+counted_of (Err refusal) = record { status = status_of refusal; touched = 0; listed = 0 }
 
 -- what counting answers, and the lent tables afterwards
 pub record LeavesCount (a : Counting) (r : CountedPlaces) (hIndex jIndex mask workWords : List ℕ) (workSums : List Float) : Type 0 where

@@ -2,21 +2,19 @@
 -- SPDX-License-Identifier: Apache-2.0
 
 -- Answers of calls on a basis in plain numbers, and the lengths of their work tables.
-use Rattle.std.specs.Prelude.{ℕ, max, ◌≡◌, List, Float}
+use Rattle.std.specs.Prelude.{ℕ, max, ◌≡◌, List, Float, Result, Ok, Err}
 use Rattle.refusal.specs.Cause.{status_of, answer_status}
-use Rattle.refusal.specs.declared.Answer.TheVariants.{Accepted}
+use Rattle.refusal.specs.declared.Refusal.{Refusal}
 use Rattle.lent.specs.Tests.{where_any}
 use Rattle.truncate.specs.Prunes.{Keeping}
 use Rattle.truncate.specs.Admissions.{Admitting}
-use Rattle.truncate.specs.declared.kept.Kept.{Kept}
-use Rattle.truncate.specs.declared.kept.Kept.TheVariants.{Entries, Refused}
 use Rattle.pebblelinen.specs.declared.bases.KeptEntries.{KeptEntries}
 use Rattle.pebblelinen.specs.declared.bases.BasisSizes.{BasisSizes}
 
 -- how many entries the basis has, or the refusal and 0
-abbrev pub kept_of : Kept → KeptEntries
-kept_of (Entries n) = record { status = answer_status Accepted; entries = n }
-kept_of (Refused refusal) = record { status = status_of refusal; entries = 0 }
+abbrev pub kept_of : Result ℕ Refusal → KeptEntries
+kept_of (Ok n) = record { status = answer_status (Ok tt); entries = n }
+kept_of (Err refusal) = record { status = status_of refusal; entries = 0 }
 
 -- what prune or cap answers, and the lent tables afterwards
 pub record LeavesBasis (k : Keeping) (r : KeptEntries) (lanes : List ℕ) (coeffs : List Float) (order work fixed kept : List ℕ) : Type 0 where

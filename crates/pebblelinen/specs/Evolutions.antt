@@ -2,13 +2,11 @@
 -- SPDX-License-Identifier: Apache-2.0
 
 -- What an evolution answers in plain numbers, and the lengths of its work tables.
-use Rattle.std.specs.Prelude.{ℕ, ◌+◌, min, ◌≡◌, List, Float}
+use Rattle.std.specs.Prelude.{ℕ, ◌+◌, min, ◌≡◌, List, Float, Result, Ok, Err}
 use Rattle.refusal.specs.Cause.{status_of, answer_status}
-use Rattle.refusal.specs.declared.Answer.TheVariants.{Accepted}
+use Rattle.refusal.specs.declared.Refusal.{Refusal}
 use Rattle.lent.specs.Tests.{where_any}
 use Rattle.lent.specs.Words.{max_words}
-use Rattle.taylor.specs.declared.evolve.Evolved.{Evolved}
-use Rattle.taylor.specs.declared.evolve.Evolved.TheVariants.{Products, Refused}
 use Rattle.evolution.specs.Lent.{Work}
 use Rattle.evolution.specs.Evolutions.{Evolving}
 use Rattle.pebblelinen.specs.Generators.{generator_sizes}
@@ -17,9 +15,9 @@ use Rattle.pebblelinen.specs.declared.evolutions.EvolvedBasis.{EvolvedBasis}
 use Rattle.pebblelinen.specs.declared.evolutions.EvolutionSizes.{EvolutionSizes}
 
 -- the number of products, or the refusal and 0
-abbrev pub evolved_of : Evolved → EvolvedBasis
-evolved_of (Products products) = record { status = answer_status Accepted; products = products }
-evolved_of (Refused refusal) = record { status = status_of refusal; products = 0 }
+abbrev pub evolved_of : Result ℕ Refusal → EvolvedBasis
+evolved_of (Ok products) = record { status = answer_status (Ok tt); products = products }
+evolved_of (Err refusal) = record { status = status_of refusal; products = 0 }
 
 -- what an evolution answers, and the lent tables afterwards
 pub record LeavesEvolution (e : Evolving) (r : EvolvedBasis) (out : List Float) (w : Work) : Type 0 where

@@ -2,17 +2,16 @@
 -- SPDX-License-Identifier: Apache-2.0
 
 -- The examples of document 01 that are proved, as one table: what each says of the definitions.
-use Rattle.std.specs.Prelude.{ℕ, suc, ◌-◌, ◌≡◌, Bool, true, false, ◌&&◌, List, [], ◌∷◌, ◌++◌, eqb, Float, length, take, replicate}
+use Rattle.std.specs.Prelude.{ℕ, suc, ◌-◌, ◌≡◌, Bool, true, false, ◌&&◌, List, [], ◌∷◌, ◌++◌, eqb, Float, length, take, replicate, Result, Ok, Err}
 use Rattle.std.specs.Float.{binary64}
 use Rattle.std.specs.Float.Ieee.{of_bits, eq}
 use Rattle.notation.specs.Text.{parse}
 use Rattle.word.specs.Flat.{word_lanes, words}
-use Rattle.word.specs.Word.{max_qubits, identity, unpack}
+use Rattle.word.specs.Word.{max_qubits, identity}
 use Rattle.word.specs.Product.{mul, phase}
 use Rattle.word.specs.Order.{same}
 use Rattle.word.specs.declared.word.Word.{Word}
-use Rattle.notation.specs.declared.texts.ParsedWord.{ParsedWord}
-use Rattle.notation.specs.declared.texts.ParsedWord.TheVariants.{Parsed, Refused}
+use Rattle.refusal.specs.declared.Refusal.{Refusal}
 use Rattle.number.specs.Numbers.{Cx}
 use Rattle.number.specs.Floats.{floats, float0, float1}
 use Rattle.gksl.specs.Operator.{Onto}
@@ -24,7 +23,6 @@ use Rattle.model.specs.declared.stored.Model.{Model}
 use Rattle.order.specs.Merge.{positions}
 use Rattle.truncate.specs.Prunes as Prunes
 use Rattle.truncate.specs.Prunes.{Keeping}
-use Rattle.truncate.specs.declared.kept.Kept.TheVariants.{Entries}
 use Rattle.action.specs.Acts.{action_of}
 
 -- the bytes of the letters
@@ -60,9 +58,9 @@ abbrev minus_two : Float
 minus_two = of_bits binary64 0xc000_0000_0000_0000
 
 -- the word of a text of as many letters as it has
-abbrev word_or : ParsedWord → Word
-word_or (Parsed lanes) = unpack lanes
-word_or (Refused r) = identity
+abbrev word_or : Result Word Refusal → Word
+word_or (Ok lanes) = lanes
+word_or (Err r) = identity
 
 abbrev read : List ℕ → Word
 read text = word_or (parse (length text) text)
@@ -113,7 +111,7 @@ Holds (cap coefficients protected limit kept) =
     let n : ℕ = length coefficients in
     let zeros : List ℕ = replicate n 0 in
     let after : Keeping = Prunes.cap n (lanes_for (positions n)) coefficients zeros zeros zeros zeros max_qubits (lanes_for protected) limit in
-    (after.answer ≡ Entries (length kept)) × (take (length kept) (words after.lanes) ≡ words (lanes_for kept))
+    (after.answer ≡ Ok (length kept)) × (take (length kept) (words after.lanes) ≡ words (lanes_for kept))
 
 abbrev pub AllHold : List Example → Type 0
 AllHold [] = Unit {0}

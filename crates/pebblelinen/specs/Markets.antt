@@ -2,20 +2,18 @@
 -- SPDX-License-Identifier: Apache-2.0
 
 -- What the generator as Matrix Market answers in plain numbers, and a length of text that is enough.
-use Rattle.std.specs.Prelude.{ℕ, ◌+◌, ◌*◌, min, ◌≡◌, List}
+use Rattle.std.specs.Prelude.{ℕ, ◌+◌, ◌*◌, min, ◌≡◌, List, Result, Ok, Err}
 use Rattle.refusal.specs.Cause.{status_of, answer_status}
-use Rattle.refusal.specs.declared.Answer.TheVariants.{Accepted}
+use Rattle.refusal.specs.declared.Refusal.{Refusal}
 use Rattle.generator.specs.Lent.{Work}
 use Rattle.generator_export.specs.Exports.{Exporting}
-use Rattle.matrix_market.specs.declared.write.Written.{Written}
-use Rattle.matrix_market.specs.declared.write.Written.TheVariants.{Text, Refused}
 use Rattle.pebblelinen.specs.Generators.{max_entries}
 use Rattle.pebblelinen.specs.declared.markets.WrittenText.{WrittenText}
 
 -- the length of the text, or the refusal and 0
-abbrev pub written_of : Written → WrittenText
-written_of (Text n) = record { status = answer_status Accepted; bytes = n }
-written_of (Refused refusal) = record { status = status_of refusal; bytes = 0 }
+abbrev pub written_of : Result ℕ Refusal → WrittenText
+written_of (Ok n) = record { status = answer_status (Ok tt); bytes = n }
+written_of (Err refusal) = record { status = status_of refusal; bytes = 0 }
 
 -- what the call answers, and the lent tables afterwards
 pub record LeavesMarket (g : Exporting) (r : WrittenText) (text : List ℕ) (w : Work) : Type 0 where

@@ -2,9 +2,9 @@
 -- SPDX-License-Identifier: Apache-2.0
 
 -- Answers about models in plain numbers, and the lengths of tables that are enough.
-use Rattle.std.specs.Prelude.{ℕ, ◌+◌, ◌*◌, ◌/◌, min, max, ◌≡◌, List, [], ◌∷◌, Float}
+use Rattle.std.specs.Prelude.{ℕ, ◌+◌, ◌*◌, ◌/◌, min, max, ◌≡◌, List, [], ◌∷◌, Float, Result, Ok, Err}
 use Rattle.refusal.specs.Cause.{status_of, answer_status}
-use Rattle.refusal.specs.declared.Answer.TheVariants.{Accepted}
+use Rattle.refusal.specs.declared.Refusal.{Refusal}
 use Rattle.word.specs.Flat.{word_lanes}
 use Rattle.model.specs.Stored.{ModelTables}
 use Rattle.model_build.specs.Given.{max_terms}
@@ -12,8 +12,6 @@ use Rattle.model.specs.Tested.{max_hamiltonian, max_jumps}
 use Rattle.model_build.specs.Built.{work_places, Building}
 use Rattle.k_matrix.specs.Added.{max_operators, work_needed}
 use Rattle.model.specs.declared.stored.Model.{Model}
-use Rattle.model_build.specs.declared.spec.Built.{Built}
-use Rattle.model_build.specs.declared.spec.Built.TheVariants as Answers
 use Rattle.pebblelinen.specs.declared.models.BuiltModel.{BuiltModel}
 use Rattle.pebblelinen.specs.declared.models.Sizes.{Sizes}
 use Rattle.lent.specs.Tests.{where_any}
@@ -23,9 +21,9 @@ abbrev no_model : Model
 no_model = record { qubits = 0; hamiltonian = 0; jumps = 0; terms = 0 }
 
 -- the model that was built, or the refusal and no model
-abbrev pub built_of : Built → BuiltModel
-built_of (Answers.Model m) = record { status = answer_status Accepted; model = m }
-built_of (Answers.Refused refusal) = record { status = status_of refusal; model = no_model }
+abbrev pub built_of : Result Model Refusal → BuiltModel
+built_of (Ok m) = record { status = answer_status (Ok tt); model = m }
+built_of (Err refusal) = record { status = status_of refusal; model = no_model }
 
 -- what a builder answers, and the lent tables afterwards
 pub record Leaves (b : Building) (r : BuiltModel) (t : ModelTables) (workWords : List ℕ) (workNumbers : List Float) : Type 0 where

@@ -2,24 +2,22 @@
 -- SPDX-License-Identifier: Apache-2.0
 
 -- Answers about words in plain numbers.
-use Rattle.std.specs.Prelude.{ℕ, ◌≡◌, false, not, cond, List, ltb}
+use Rattle.std.specs.Prelude.{ℕ, ◌≡◌, false, not, cond, List, ltb, Result, Ok, Err}
 use Rattle.refusal.specs.Cause.{status_of, answer_status}
 use Rattle.refusal.specs.declared.Refusal.TheVariants.{TooManyQubits}
-use Rattle.refusal.specs.declared.Answer.TheVariants.{Accepted}
+use Rattle.refusal.specs.declared.Refusal.{Refusal}
 use Rattle.refusal.specs.declared.Status.{Status}
-use Rattle.word.specs.Word.{max_qubits, identity, unpack}
+use Rattle.word.specs.Word.{max_qubits, identity}
 use Rattle.notation.specs.Codes.{write_answer, written}
 use Rattle.word.specs.Register.{reaches}
 use Rattle.word.specs.declared.word.Word.{Word}
-use Rattle.notation.specs.declared.texts.ParsedWord.{ParsedWord}
-use Rattle.notation.specs.declared.texts.ParsedWord.TheVariants.{Parsed, Refused}
 use Rattle.pebblelinen.specs.declared.words.Parsed as Answers
 use Rattle.pebblelinen.specs.declared.words.Fitting.{Fitting}
 
 -- the word that was read, or the refusal and the identity
-abbrev pub parsed_of : ParsedWord → Answers.Parsed
-parsed_of (Parsed lanes) = record { status = answer_status Accepted; word = unpack lanes }
-parsed_of (Refused refusal) = record { status = status_of refusal; word = identity }
+abbrev pub parsed_of : Result Word Refusal → Answers.Parsed
+parsed_of (Ok lanes) = record { status = answer_status (Ok tt); word = lanes }
+parsed_of (Err refusal) = record { status = status_of refusal; word = identity }
 
 -- what writing codes answers, and the lent places afterwards
 pub record Writes (w : Word) (n : ℕ) (out : List ℕ) (status : Status) (after : List ℕ) : Type 0 where
@@ -30,4 +28,4 @@ pub record Writes (w : Word) (n : ℕ) (out : List ℕ) (status : Status) (after
 unfoldable pub fitting_of : Word → ℕ → Fitting
 fitting_of w n =
     cond (ltb max_qubits n) (record { status = status_of (TooManyQubits n max_qubits); fits = false })
-    (record { status = answer_status Accepted; fits = not (reaches w n) })
+    (record { status = answer_status (Ok tt); fits = not (reaches w n) })

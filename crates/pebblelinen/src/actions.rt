@@ -7,10 +7,9 @@ ghost use Rattle.action.specs.Acts.{act};
 ghost use Rattle.action.specs.Counts.{count_places};
 ghost use Rattle.pebblelinen.specs.Actions.{listed_of, LeavesList, counted_of, LeavesCount};
 
-use action::act::Acted;
 use action::count::Counted;
 use model::stored::Model;
-use refusal::Status;
+use refusal::{ACCEPTED, Refusal, Status};
 use word::word::Word;
 
 // How many words are listed; 0 where the status is a refusal.
@@ -21,22 +20,20 @@ pub struct ListedWords {
     pub count: usize,
 }
 
-pub fn listed_of(answer: Acted) -> ListedWords
-    ensures { result ≡ listed_of answer }
-{
-    match answer {
-        Acted::Listed(count) => ListedWords {
-            status: Status {
-                refusal: 0,
-                first: 0,
-                second: 0,
+impl From<Result<usize, Refusal>> for ListedWords {
+    ghost from_gives = { λ answer made. made ≡ listed_of answer };
+
+    fn from(answer: Result<usize, Refusal>) -> ListedWords {
+        match answer {
+            Ok(count) => ListedWords {
+                status: ACCEPTED,
+                count,
             },
-            count,
-        },
-        Acted::Refused(refusal) => ListedWords {
-            status: refusal::status_of(refusal),
-            count: 0,
-        },
+            Err(refusal) => ListedWords {
+                status: Status::from(refusal),
+                count: 0,
+            },
+        }
     }
 }
 
@@ -56,7 +53,7 @@ pub fn pebblelinen_compute_action_terms(
 ) -> ListedWords
     ensures { LeavesList (act out_words.old out_values.old work_words.old work_sums.old model (record { h_words = h_words.now; h_coeffs = h_coeffs.now; jumps = jumps.now; rates = rates.now; t_words = t_words.now; t_numbers = t_numbers.now }) p) result out_words.new out_values.new work_words.new work_sums.new }
 {
-    listed_of(action::act::compute_action_terms(
+    ListedWords::from(action::act::compute_action_terms(
         model, h_words, h_coeffs, jumps, rates, t_words, t_numbers, p, work_words, work_sums,
         out_words, out_values,
     ))
@@ -71,24 +68,22 @@ pub struct CountedPlaces {
     pub listed: usize,
 }
 
-fn counted_of(answer: Counted) -> CountedPlaces
-    ensures { result ≡ counted_of answer }
-{
-    match answer {
-        Counted::Places { touched, listed } => CountedPlaces {
-            status: Status {
-                refusal: 0,
-                first: 0,
-                second: 0,
+impl From<Result<Counted, Refusal>> for CountedPlaces {
+    ghost from_gives = { λ answer made. made ≡ counted_of answer };
+
+    fn from(answer: Result<Counted, Refusal>) -> CountedPlaces {
+        match answer {
+            Ok(Counted { touched, listed }) => CountedPlaces {
+                status: ACCEPTED,
+                touched,
+                listed,
             },
-            touched,
-            listed,
-        },
-        Counted::Refused(refusal) => CountedPlaces {
-            status: refusal::status_of(refusal),
-            touched: 0,
-            listed: 0,
-        },
+            Err(refusal) => CountedPlaces {
+                status: Status::from(refusal),
+                touched: 0,
+                listed: 0,
+            },
+        }
     }
 }
 
@@ -109,7 +104,7 @@ pub fn pebblelinen_count_action_terms(
 ) -> CountedPlaces
     ensures { LeavesCount (count_places h_index.old j_index.old mask.old work_words.old work_sums.old model (record { h_words = h_words.now; h_coeffs = h_coeffs.now; jumps = jumps.now; rates = rates.now; t_words = t_words.now; t_numbers = t_numbers.now }) words.now) result h_index.new j_index.new mask.new work_words.new work_sums.new }
 {
-    counted_of(action::count::count_action_terms(
+    CountedPlaces::from(action::count::count_action_terms(
         model, h_words, h_coeffs, jumps, rates, t_words, t_numbers, words, h_index, j_index, mask,
         work_words, work_sums,
     ))

@@ -9,8 +9,7 @@ ghost use Rattle.pebblelinen.specs.Bases.{kept_of, LeavesBasis, LeavesAdmitted, 
 
 use lent::sizes::larger;
 use lent::tests::where_any;
-use refusal::Status;
-use truncate::kept::Kept;
+use refusal::{ACCEPTED, Refusal, Status};
 
 // How many entries the basis has; 0 where the status is a refusal.
 #[repr(C)]
@@ -20,22 +19,20 @@ pub struct KeptEntries {
     pub entries: usize,
 }
 
-fn kept_of(answer: Kept) -> KeptEntries
-    ensures { result ≡ kept_of answer }
-{
-    match answer {
-        Kept::Entries(entries) => KeptEntries {
-            status: Status {
-                refusal: 0,
-                first: 0,
-                second: 0,
+impl From<Result<usize, Refusal>> for KeptEntries {
+    ghost from_gives = { λ answer made. made ≡ kept_of answer };
+
+    fn from(answer: Result<usize, Refusal>) -> KeptEntries {
+        match answer {
+            Ok(entries) => KeptEntries {
+                status: ACCEPTED,
+                entries,
             },
-            entries,
-        },
-        Kept::Refused(refusal) => KeptEntries {
-            status: refusal::status_of(refusal),
-            entries: 0,
-        },
+            Err(refusal) => KeptEntries {
+                status: Status::from(refusal),
+                entries: 0,
+            },
+        }
     }
 }
 
@@ -53,7 +50,7 @@ pub fn pebblelinen_prune_basis(
 ) -> KeptEntries
     ensures { LeavesBasis (prune len words.old coeffs.old order.old work.old fixed.old kept.old n protected.now drop_tol) result words.new coeffs.new order.new work.new fixed.new kept.new }
 {
-    kept_of(truncate::prune::prune_basis(
+    KeptEntries::from(truncate::prune::prune_basis(
         n, words, coeffs, len, protected, drop_tol, order, work, fixed, kept,
     ))
 }
@@ -72,7 +69,7 @@ pub fn pebblelinen_cap_basis(
 ) -> KeptEntries
     ensures { LeavesBasis (cap len words.old coeffs.old order.old work.old fixed.old kept.old n protected.now limit) result words.new coeffs.new order.new work.new fixed.new kept.new }
 {
-    kept_of(truncate::cap::cap_basis(
+    KeptEntries::from(truncate::cap::cap_basis(
         n, words, coeffs, len, protected, limit, order, work, fixed, kept,
     ))
 }
@@ -91,7 +88,7 @@ pub fn pebblelinen_add_leakage_capped(
 ) -> KeptEntries
     ensures { LeavesAdmitted (admit len words.old coeffs.old list.now values.now order.old work.old kept.old n limit) result words.new coeffs.new order.new work.new kept.new }
 {
-    kept_of(truncate::admit::add_leakage_capped(
+    KeptEntries::from(truncate::admit::add_leakage_capped(
         n, words, coeffs, len, list, values, limit, order, work, kept,
     ))
 }

@@ -13,8 +13,7 @@ use lent::sizes::smaller;
 use lent::tests::where_any;
 use lent::words::MAX_WORDS;
 use model::stored::Model;
-use refusal::Status;
-use taylor::evolve::Evolved;
+use refusal::{ACCEPTED, Refusal, Status};
 
 // The number of products; 0 where the status is a refusal.
 #[repr(C)]
@@ -24,22 +23,20 @@ pub struct EvolvedBasis {
     pub products: usize,
 }
 
-fn evolved_of(answer: Evolved) -> EvolvedBasis
-    ensures { result ≡ evolved_of answer }
-{
-    match answer {
-        Evolved::Products(products) => EvolvedBasis {
-            status: Status {
-                refusal: 0,
-                first: 0,
-                second: 0,
+impl From<Result<usize, Refusal>> for EvolvedBasis {
+    ghost from_gives = { λ answer made. made ≡ evolved_of answer };
+
+    fn from(answer: Result<usize, Refusal>) -> EvolvedBasis {
+        match answer {
+            Ok(products) => EvolvedBasis {
+                status: ACCEPTED,
+                products,
             },
-            products,
-        },
-        Evolved::Refused(refusal) => EvolvedBasis {
-            status: refusal::status_of(refusal),
-            products: 0,
-        },
+            Err(refusal) => EvolvedBasis {
+                status: Status::from(refusal),
+                products: 0,
+            },
+        }
     }
 }
 
@@ -76,7 +73,7 @@ pub fn pebblelinen_evolve(
 ) -> EvolvedBasis
     ensures { LeavesEvolution (evolve (work_of (generator_work h_index.old j_index.old mask.old heads.old nexts.old work_words.old work_sums.old stage_rows.old stage_columns.old stage_values.old) offsets.old columns.old values.old v.old b.old product.old) out.old model (record { h_words = h_words.now; h_coeffs = h_coeffs.now; jumps = jumps.now; rates = rates.now; t_words = t_words.now; t_numbers = t_numbers.now }) words.now coeffs.now len dt drop_tol) result out.new (work_of (generator_work h_index.new j_index.new mask.new heads.new nexts.new work_words.new work_sums.new stage_rows.new stage_columns.new stage_values.new) offsets.new columns.new values.new v.new b.new product.new) }
 {
-    evolved_of(evolution::evolve::evolve(
+    EvolvedBasis::from(evolution::evolve::evolve(
         model,
         h_words,
         h_coeffs,

@@ -7,7 +7,7 @@ ghost use Rattle.generator.specs.Lent.{work_of};
 ghost use Rattle.generator.specs.Generators.{generate, build_csr};
 ghost use Rattle.pebblelinen.specs.Generators.{LeavesGenerator, LeavesCsr, generator_sizes};
 
-use crate::actions::{ListedWords, listed_of};
+use crate::actions::ListedWords;
 use crate::leakages::MAX_PLACES;
 use action::words::ROW_LANES;
 use lent::sizes::smaller;
@@ -46,7 +46,7 @@ pub fn pebblelinen_generator(
 ) -> ListedWords
     ensures { LeavesGenerator (generate rows.old columns.old values.old (work_of h_index.old j_index.old mask.old heads.old nexts.old work_words.old work_sums.old stage_rows.old stage_columns.old stage_values.old) model (record { h_words = h_words.now; h_coeffs = h_coeffs.now; jumps = jumps.now; rates = rates.now; t_words = t_words.now; t_numbers = t_numbers.now }) words.now len) result rows.new columns.new values.new (work_of h_index.new j_index.new mask.new heads.new nexts.new work_words.new work_sums.new stage_rows.new stage_columns.new stage_values.new) }
 {
-    listed_of(generator::generator::generator(
+    ListedWords::from(generator::generator::generator(
         model,
         h_words,
         h_coeffs,
@@ -98,7 +98,7 @@ pub fn pebblelinen_build_csr(
 ) -> ListedWords
     ensures { LeavesCsr (build_csr offsets.old columns.old values.old (work_of h_index.old j_index.old mask.old heads.old nexts.old work_words.old work_sums.old stage_rows.old stage_columns.old stage_values.old) model (record { h_words = h_words.now; h_coeffs = h_coeffs.now; jumps = jumps.now; rates = rates.now; t_words = t_words.now; t_numbers = t_numbers.now }) words.now len) result offsets.new columns.new values.new (work_of h_index.new j_index.new mask.new heads.new nexts.new work_words.new work_sums.new stage_rows.new stage_columns.new stage_values.new) }
 {
-    listed_of(generator::csr::build_csr(
+    ListedWords::from(generator::csr::build_csr(
         model,
         h_words,
         h_coeffs,

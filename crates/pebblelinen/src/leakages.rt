@@ -6,7 +6,7 @@ ghost use Rattle.std.specs.Prelude.{◌≡◌};
 ghost use Rattle.leakage.specs.Leakages.{work_of, basis_of, leak};
 ghost use Rattle.pebblelinen.specs.Leakages.{LeavesLeakage, leakage_sizes};
 
-use crate::actions::{ListedWords, listed_of};
+use crate::actions::ListedWords;
 use action::words::ROW_LANES;
 use lent::sizes::smaller;
 use lent::tests::where_any;
@@ -49,7 +49,7 @@ pub fn pebblelinen_leakage_with_prune(
 ) -> ListedWords
     ensures { LeavesLeakage (leak out_words.old out_values.old (work_of h_index.old j_index.old mask.old work_words.old work_sums.old order.old heads.old nexts.old cand_words.old cand_sums.old place_order.old place_work.old) model (record { h_words = h_words.now; h_coeffs = h_coeffs.now; jumps = jumps.now; rates = rates.now; t_words = t_words.now; t_numbers = t_numbers.now }) (basis_of words.now coeffs.now len protected.now) limits) result out_words.new out_values.new (work_of h_index.new j_index.new mask.new work_words.new work_sums.new order.new heads.new nexts.new cand_words.new cand_sums.new place_order.new place_work.new) }
 {
-    listed_of(leakage::leak::leakage_with_prune(
+    ListedWords::from(leakage::leak::leakage_with_prune(
         model,
         h_words,
         h_coeffs,

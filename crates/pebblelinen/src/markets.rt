@@ -9,9 +9,8 @@ ghost use Rattle.pebblelinen.specs.Markets.{written_of, LeavesMarket, market_tex
 
 use crate::generators::MAX_ENTRIES;
 use lent::sizes::smaller;
-use matrix_market::write::Written;
 use model::stored::Model;
-use refusal::Status;
+use refusal::{ACCEPTED, Refusal, Status};
 
 // The bytes of a text that was written; 0 where the status is a refusal.
 #[repr(C)]
@@ -21,22 +20,20 @@ pub struct WrittenText {
     pub bytes: usize,
 }
 
-pub fn written_of(answer: Written) -> WrittenText
-    ensures { result ≡ written_of answer }
-{
-    match answer {
-        Written::Text(bytes) => WrittenText {
-            status: Status {
-                refusal: 0,
-                first: 0,
-                second: 0,
+impl From<Result<usize, Refusal>> for WrittenText {
+    ghost from_gives = { λ answer made. made ≡ written_of answer };
+
+    fn from(answer: Result<usize, Refusal>) -> WrittenText {
+        match answer {
+            Ok(bytes) => WrittenText {
+                status: ACCEPTED,
+                bytes,
             },
-            bytes,
-        },
-        Written::Refused(refusal) => WrittenText {
-            status: refusal::status_of(refusal),
-            bytes: 0,
-        },
+            Err(refusal) => WrittenText {
+                status: Status::from(refusal),
+                bytes: 0,
+            },
+        }
     }
 }
 
@@ -64,7 +61,7 @@ pub fn pebblelinen_matrix_market(
 ) -> WrittenText
     ensures { LeavesMarket (export_generator text.old (work_of h_index.old j_index.old mask.old heads.old nexts.old work_words.old work_sums.old stage_rows.old stage_columns.old stage_values.old) model (record { h_words = h_words.now; h_coeffs = h_coeffs.now; jumps = jumps.now; rates = rates.now; t_words = t_words.now; t_numbers = t_numbers.now }) words.now len) result text.new (work_of h_index.new j_index.new mask.new heads.new nexts.new work_words.new work_sums.new stage_rows.new stage_columns.new stage_values.new) }
 {
-    written_of(generator_export::market::matrix_market(
+    WrittenText::from(generator_export::market::matrix_market(
         model,
         h_words,
         h_coeffs,

@@ -16,9 +16,8 @@ use model::stored::Model;
 use model::test::{MAX_HAMILTONIAN, MAX_JUMPS};
 use model_build::items::MAX_TERMS;
 use model_build::lengths::WORK_PLACES;
-use model_build::spec::Built;
 use operator_product::product::SUM_PLACES;
-use refusal::Status;
+use refusal::{ACCEPTED, Refusal, Status};
 use word::flat::WORD_LANES;
 
 // A model that was built; all its counts are 0 where the status is a refusal.
@@ -29,27 +28,25 @@ pub struct BuiltModel {
     pub model: Model,
 }
 
-fn built_of(answer: Built) -> BuiltModel
-    ensures { result ≡ built_of answer }
-{
-    match answer {
-        Built::Model(model) => BuiltModel {
-            status: Status {
-                refusal: 0,
-                first: 0,
-                second: 0,
+impl From<Result<Model, Refusal>> for BuiltModel {
+    ghost from_gives = { λ answer made. made ≡ built_of answer };
+
+    fn from(answer: Result<Model, Refusal>) -> BuiltModel {
+        match answer {
+            Ok(model) => BuiltModel {
+                status: ACCEPTED,
+                model,
             },
-            model,
-        },
-        Built::Refused(refusal) => BuiltModel {
-            status: refusal::status_of(refusal),
-            model: Model {
-                qubits: 0,
-                hamiltonian: 0,
-                jumps: 0,
-                terms: 0,
+            Err(refusal) => BuiltModel {
+                status: Status::from(refusal),
+                model: Model {
+                    qubits: 0,
+                    hamiltonian: 0,
+                    jumps: 0,
+                    terms: 0,
+                },
             },
-        },
+        }
     }
 }
 
@@ -72,7 +69,7 @@ pub fn pebblelinen_build_model(
 ) -> BuiltModel
     ensures { Leaves (build n_qubits (record { texts = texts.entry.now; lengths = lengths.now; h_numbers = h_numbers.now; rates = given.now; counts = counts.now; numbers = numbers.now }) (record { h_words = h_words.old; h_coeffs = h_coeffs.old; jumps = jumps.old; rates = rates.old; t_words = t_words.old; t_numbers = t_numbers.old }) work_words.old work_numbers.old) result (record { h_words = h_words.new; h_coeffs = h_coeffs.new; jumps = jumps.new; rates = rates.new; t_words = t_words.new; t_numbers = t_numbers.new }) work_words.new work_numbers.new }
 {
-    built_of(model_build::spec::build_model(
+    BuiltModel::from(model_build::spec::build_model(
         texts,
         lengths,
         h_numbers,
@@ -109,7 +106,7 @@ pub fn pebblelinen_add_kossakowski(
 ) -> BuiltModel
     ensures { Leaves (add model (record { texts = texts.entry.now; lengths = lengths.now; counts = counts.now; numbers = numbers.now; k = k.now }) (record { h_words = h_words.now; h_coeffs = h_coeffs.now; jumps = jumps.old; rates = rates.old; t_words = t_words.old; t_numbers = t_numbers.old }) work_words.old work_numbers.old) result (record { h_words = h_words.now; h_coeffs = h_coeffs.now; jumps = jumps.new; rates = rates.new; t_words = t_words.new; t_numbers = t_numbers.new }) work_words.new work_numbers.new }
 {
-    built_of(kossakowski::kossakowski::add_kossakowski(
+    BuiltModel::from(kossakowski::kossakowski::add_kossakowski(
         model,
         texts,
         lengths,
@@ -138,7 +135,7 @@ pub fn pebblelinen_test_model(
 ) -> Status
     ensures { result ≡ answer_status (test_model model (record { h_words = h_words.now; h_coeffs = h_coeffs.now; jumps = jumps.now; rates = rates.now; t_words = t_words.now; t_numbers = t_numbers.now })) }
 {
-    refusal::answer_status(model::test::test_model(
+    Status::from(model::test::test_model(
         model, h_words, h_coeffs, jumps, rates, t_words, t_numbers,
     ))
 }

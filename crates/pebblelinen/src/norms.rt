@@ -7,11 +7,11 @@ ghost use Rattle.expm.specs.Selects.{chosen};
 ghost use Rattle.norm.specs.Norms.{work_of, norming, selecting};
 ghost use Rattle.pebblelinen.specs.Norms.{normed_of, LeavesNorm, partition_of, LeavesPartition, choice_of};
 
-use expm::Chosen;
+use expm::Degree;
 use model::stored::Model;
 use norm::degree::Selected;
 use norm::norm::Normed;
-use refusal::Status;
+use refusal::{ACCEPTED, Refusal, Status};
 
 // mu and the norm; 0 where the status is a refusal.
 #[repr(C)]
@@ -22,24 +22,22 @@ pub struct NormOfBasis {
     pub norm: f64,
 }
 
-fn normed_of(answer: Normed) -> NormOfBasis
-    ensures { result ≡ normed_of answer }
-{
-    match answer {
-        Normed::Norm { mu, norm } => NormOfBasis {
-            status: Status {
-                refusal: 0,
-                first: 0,
-                second: 0,
+impl From<Result<Normed, Refusal>> for NormOfBasis {
+    ghost from_gives = { λ answer made. made ≡ normed_of answer };
+
+    fn from(answer: Result<Normed, Refusal>) -> NormOfBasis {
+        match answer {
+            Ok(Normed { mu, norm }) => NormOfBasis {
+                status: ACCEPTED,
+                mu,
+                norm,
             },
-            mu,
-            norm,
-        },
-        Normed::Refused(refusal) => NormOfBasis {
-            status: refusal::status_of(refusal),
-            mu: 0.0,
-            norm: 0.0,
-        },
+            Err(refusal) => NormOfBasis {
+                status: Status::from(refusal),
+                mu: 0.0,
+                norm: 0.0,
+            },
+        }
     }
 }
 
@@ -65,7 +63,7 @@ pub fn pebblelinen_norm(
 ) -> NormOfBasis
     ensures { LeavesNorm (norming (work_of h_index.old j_index.old mask.old heads.old nexts.old work_words.old work_sums.old raws.old diags.old) model (record { h_words = h_words.now; h_coeffs = h_coeffs.now; jumps = jumps.now; rates = rates.now; t_words = t_words.now; t_numbers = t_numbers.now }) words.now len) result (work_of h_index.new j_index.new mask.new heads.new nexts.new work_words.new work_sums.new raws.new diags.new) }
 {
-    normed_of(norm::norm::norm(
+    NormOfBasis::from(norm::norm::norm(
         model, h_words, h_coeffs, jumps, rates, t_words, t_numbers, words, len, h_index, j_index,
         mask, heads, nexts, work_words, work_sums, raws, diags,
     ))
@@ -82,28 +80,26 @@ pub struct Partition {
     pub s: u32,
 }
 
-fn partition_of(answer: Selected) -> Partition
-    ensures { result ≡ partition_of answer }
-{
-    match answer {
-        Selected::Partition { mu, norm, m, s } => Partition {
-            status: Status {
-                refusal: 0,
-                first: 0,
-                second: 0,
+impl From<Result<Selected, Refusal>> for Partition {
+    ghost from_gives = { λ answer made. made ≡ partition_of answer };
+
+    fn from(answer: Result<Selected, Refusal>) -> Partition {
+        match answer {
+            Ok(Selected { mu, norm, m, s }) => Partition {
+                status: ACCEPTED,
+                mu,
+                norm,
+                m,
+                s,
             },
-            mu,
-            norm,
-            m,
-            s,
-        },
-        Selected::Refused(refusal) => Partition {
-            status: refusal::status_of(refusal),
-            mu: 0.0,
-            norm: 0.0,
-            m: 0,
-            s: 0,
-        },
+            Err(refusal) => Partition {
+                status: Status::from(refusal),
+                mu: 0.0,
+                norm: 0.0,
+                m: 0,
+                s: 0,
+            },
+        }
     }
 }
 
@@ -131,7 +127,7 @@ pub fn pebblelinen_expm_degree(
 ) -> Partition
     ensures { LeavesPartition (selecting (work_of h_index.old j_index.old mask.old heads.old nexts.old work_words.old work_sums.old raws.old diags.old) model (record { h_words = h_words.now; h_coeffs = h_coeffs.now; jumps = jumps.now; rates = rates.now; t_words = t_words.now; t_numbers = t_numbers.now }) words.now len dt drop_tol) result (work_of h_index.new j_index.new mask.new heads.new nexts.new work_words.new work_sums.new raws.new diags.new) }
 {
-    partition_of(norm::degree::expm_degree(
+    Partition::from(norm::degree::expm_degree(
         model, h_words, h_coeffs, jumps, rates, t_words, t_numbers, words, len, dt, drop_tol,
         h_index, j_index, mask, heads, nexts, work_words, work_sums, raws, diags,
     ))
@@ -146,29 +142,27 @@ pub struct DegreeChoice {
     pub s: u32,
 }
 
-fn choice_of(answer: Chosen) -> DegreeChoice
-    ensures { result ≡ choice_of answer }
-{
-    match answer {
-        Chosen::Pair(d) => DegreeChoice {
-            status: Status {
-                refusal: 0,
-                first: 0,
-                second: 0,
+impl From<Result<Degree, Refusal>> for DegreeChoice {
+    ghost from_gives = { λ answer made. made ≡ choice_of answer };
+
+    fn from(answer: Result<Degree, Refusal>) -> DegreeChoice {
+        match answer {
+            Ok(d) => DegreeChoice {
+                status: ACCEPTED,
+                m: d.m,
+                s: d.s,
             },
-            m: d.m,
-            s: d.s,
-        },
-        Chosen::Refused(refusal) => DegreeChoice {
-            status: refusal::status_of(refusal),
-            m: 0,
-            s: 0,
-        },
+            Err(refusal) => DegreeChoice {
+                status: Status::from(refusal),
+                m: 0,
+                s: 0,
+            },
+        }
     }
 }
 
 pub fn pebblelinen_select_ms(t: f64, drop_tol: f64) -> DegreeChoice
     ensures { result ≡ choice_of (chosen drop_tol t) }
 {
-    choice_of(expm::select_degree(t, drop_tol))
+    DegreeChoice::from(expm::select_degree(t, drop_tol))
 }

@@ -7,8 +7,8 @@ ghost use Rattle.csr.specs.Rows.{read_row};
 ghost use Rattle.csr.specs.Products.{multiply};
 ghost use Rattle.pebblelinen.specs.Products.{found_of, LeavesProduct};
 
-use csr::reader::RowRead;
-use refusal::Status;
+use matrix_row::rows::Row;
+use refusal::{ACCEPTED, Refusal, Status};
 
 // Where a row stands; 0 and 0 where the status is a refusal.
 #[repr(C)]
@@ -19,31 +19,29 @@ pub struct FoundRow {
     pub end: usize,
 }
 
-fn found_of(answer: RowRead) -> FoundRow
-    ensures { result ≡ found_of answer }
-{
-    match answer {
-        RowRead::At(row) => FoundRow {
-            status: Status {
-                refusal: 0,
-                first: 0,
-                second: 0,
+impl From<Result<Row, Refusal>> for FoundRow {
+    ghost from_gives = { λ answer made. made ≡ found_of answer };
+
+    fn from(answer: Result<Row, Refusal>) -> FoundRow {
+        match answer {
+            Ok(row) => FoundRow {
+                status: ACCEPTED,
+                start: row.start,
+                end: row.end,
             },
-            start: row.start,
-            end: row.end,
-        },
-        RowRead::Refused(refusal) => FoundRow {
-            status: refusal::status_of(refusal),
-            start: 0,
-            end: 0,
-        },
+            Err(refusal) => FoundRow {
+                status: Status::from(refusal),
+                start: 0,
+                end: 0,
+            },
+        }
     }
 }
 
 pub fn pebblelinen_csr_row(rows: usize, offsets: &[u64], columns: &[u32], row: usize) -> FoundRow
     ensures { result ≡ found_of (read_row rows offsets.now columns.now row) }
 {
-    found_of(csr::reader::read_row(rows, offsets, columns, row))
+    FoundRow::from(csr::reader::read_row(rows, offsets, columns, row))
 }
 
 pub fn pebblelinen_dot(
@@ -58,7 +56,7 @@ pub fn pebblelinen_dot(
 ) -> Status
     ensures { LeavesProduct (multiply rows offsets.now columns.now values.now input.now overwrite output.old work.old) result output.new work.new }
 {
-    refusal::answer_status(csr::product::dot(
+    Status::from(csr::product::dot(
         rows, offsets, columns, values, input, overwrite, output, work,
     ))
 }

@@ -11,8 +11,7 @@ ghost use Rattle.word.specs.Order.{compare, same};
 ghost use Rattle.word.specs.Register.{share};
 ghost use Rattle.pebblelinen.specs.Words.{parsed_of, Writes, fitting_of};
 
-use notation::texts::ParsedWord;
-use refusal::{Refusal, Status};
+use refusal::{ACCEPTED, Refusal, Status};
 use word::algebra::{CommProduct, Phased};
 use word::word::{MAX_QUBITS, Word};
 
@@ -24,41 +23,39 @@ pub struct Parsed {
     pub word: Word,
 }
 
-fn parsed_of(answer: ParsedWord) -> Parsed
-    ensures { result ≡ parsed_of answer }
-{
-    match answer {
-        ParsedWord::Parsed(lanes) => Parsed {
-            status: Status {
-                refusal: 0,
-                first: 0,
-                second: 0,
+impl From<Result<Word, Refusal>> for Parsed {
+    ghost from_gives = { λ answer made. made ≡ parsed_of answer };
+
+    fn from(answer: Result<Word, Refusal>) -> Parsed {
+        match answer {
+            Ok(word) => Parsed {
+                status: ACCEPTED,
+                word,
             },
-            word: word::word::unpacked(lanes),
-        },
-        ParsedWord::Refused(refusal) => Parsed {
-            status: refusal::status_of(refusal),
-            word: word::word::identity_word(),
-        },
+            Err(refusal) => Parsed {
+                status: Status::from(refusal),
+                word: word::word::identity_word(),
+            },
+        }
     }
 }
 
 pub fn pebblelinen_parse_pauli_string(text: &[u8], n_qubits: usize) -> Parsed
     ensures { result ≡ parsed_of (parse n_qubits text.now) }
 {
-    parsed_of(notation::texts::parse_pauli_string(text, n_qubits))
+    Parsed::from(notation::texts::parse_pauli_string(text, n_qubits))
 }
 
 pub fn pebblelinen_word_from_codes(codes: &[u8]) -> Parsed
     ensures { result ≡ parsed_of (read_codes codes.now) }
 {
-    parsed_of(notation::codes::word_from_codes(codes))
+    Parsed::from(notation::codes::word_from_codes(codes))
 }
 
 pub fn pebblelinen_codes_from_word(word: Word, n_qubits: usize, out: &mut [u8]) -> Status
     ensures { Writes word n_qubits out.old result out.new }
 {
-    refusal::answer_status(notation::codes::codes_from_word(word, n_qubits, out))
+    Status::from(notation::codes::codes_from_word(word, n_qubits, out))
 }
 
 pub fn pebblelinen_pauli_mul(p: Word, q: Word) -> Phased
@@ -110,7 +107,7 @@ pub fn pebblelinen_fits_register(word: Word, n_qubits: usize) -> Fitting
 {
     if MAX_QUBITS < n_qubits {
         return Fitting {
-            status: refusal::status_of(Refusal::TooManyQubits {
+            status: Status::from(Refusal::TooManyQubits {
                 got: n_qubits,
                 max: MAX_QUBITS,
             }),
@@ -118,11 +115,7 @@ pub fn pebblelinen_fits_register(word: Word, n_qubits: usize) -> Fitting
         };
     }
     Fitting {
-        status: Status {
-            refusal: 0,
-            first: 0,
-            second: 0,
-        },
+        status: ACCEPTED,
         fits: !word::word::reaches_beyond(word, n_qubits),
     }
 }

@@ -2,7 +2,7 @@
 -- SPDX-License-Identifier: Apache-2.0
 
 -- Entries column by column, walked through: the sum so far, and the largest so far, beside what is left. Assumes nothing.
-use mathlib.Core.Path.{◌≡◌, refl, sym, ap, ◌∙◌}
+use mathlib.Core.Path.{◌≡◌, sym, ap, ◌∙◌}
 use mathlib.Core.Bool.{Bool, true, false, cond}
 use mathlib.Core.List.{List, [], ◌∷◌}
 use Prim.Native.Nat.{ℕ, suc, ◌+◌, ◌-◌, ◌≤◌, ◌<◌}
@@ -30,12 +30,8 @@ size_inside c (k ∷ ks) = go (eqb k c) (size_inside c ks)
 module _ (ks : List ℕ) (vs : List Float) (start c : ℕ) where
   -- ---- one column
   pub record Summing (raw : Float) (k : ℕ) : Type 0 where
-    pub inside : k ≤ length ks
     pub sums : front_sum c float0 (drop start ks) (drop start vs) ≡ front_sum c raw (drop k ks) (drop k vs)
     pub sizes : start + front_size c (drop start ks) ≡ k + front_size c (drop k ks)
-
-  pub summing_start : start ≤ length ks → Summing float0 start
-  summing_start h = record { inside = h; sums = refl; sizes = refl }
 
   module _ (same : length vs ≡ length ks) (raw : Float) (k : ℕ) (s : Summing raw k) where
     module _ (low : k < length ks) where
@@ -58,17 +54,15 @@ module _ (ks : List ℕ) (vs : List Float) (start c : ℕ) where
           let f = eq-eqb (get_or ks k 0) c (sym e ∙ h) in
           let z : front_size c (drop k ks) ≡ suc (front_size c (drop (suc k) ks)) = rw (at_k, f) in
           record {
-            inside = omega arith;
             sums = s.sums ∙ rw (at_k, at_v, f, add-one k, g);
             sizes = rw (add-one k) (omega (arith, s.sizes, z));
           }
 
-    pub summing_end : length ks ≤ k → ColumnSummed ks vs start c (record { next = k; raw = raw })
+    pub summing_end : k ≡ length ks → ColumnSummed ks vs start c (record { next = length ks; raw = raw })
     unfolding front_sum front_size
     summing_end h =
-        let e : drop k ks ≡ [] = drop_of_length-le ks h in
+        let e : drop k ks ≡ [] = drop_of_length-le ks {i = k} (omega arith) in
         let z : front_size c (drop k ks) ≡ 0 = rw e in
-        let i = s.inside in
         record { summed = sym (s.sums ∙ rw e); passed = omega (arith, s.sizes, z) }
 
 -- ---- all columns
@@ -76,9 +70,6 @@ module _ (ks : List ℕ) (vs : List Float) (n : ℕ) where
   pub record Ranking (norm : Float) (k c : ℕ) : Type 0 where
     pub inside : k ≤ length ks
     pub left : largest (raws_from n 0 ks vs) ≡ largest_from norm (raws_from (n - c) c (drop k ks) (drop k vs))
-
-  pub ranking_start : Ranking float0 0 0
-  ranking_start = let e : n ≡ n - 0 = omega arith in record { inside = omega arith; left = ap (λ (i : ℕ). largest (raws_from i 0 ks vs)) e }
 
   module _ (norm : Float) (k c : ℕ) (s : Ranking norm k c) where
     pub ranking_more : c < n → (r : ColumnRaw) → ColumnSummed ks vs k c r → (next : Float) → next ≡ floats.larger norm r.raw → Ranking next r.next (c + 1)

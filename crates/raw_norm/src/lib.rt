@@ -29,16 +29,17 @@ fn raw_at(columns: &[u32], values: &[f64], start: usize, c: usize) -> ColumnRaw
     ensures { ColumnSummed columns.now values.now start c result }
 {
     let mut raw = 0.0;
-    let mut k = start;
-    while k < columns.len() {
+    for k in start..columns.len() {
         let column = wide(columns[k]);
         if column != c {
             return ColumnRaw { next: k, raw };
         }
         raw = raw + magnitude(values[k]);
-        k += 1;
     }
-    ColumnRaw { next: k, raw }
+    ColumnRaw {
+        next: columns.len(),
+        raw,
+    }
 }
 
 // The largest raw of n columns, and 0 where there is none.
@@ -48,12 +49,10 @@ pub fn largest_raw(columns: &[u32], values: &[f64], n: usize) -> f64
 {
     let mut norm = 0.0;
     let mut k = 0;
-    let mut c = 0;
-    while c < n {
+    for c in 0..n {
         let found = raw_at(columns, values, k, c);
         norm = larger(norm, found.raw);
         k = found.next;
-        c += 1;
     }
     norm
 }

@@ -2,11 +2,9 @@
 -- SPDX-License-Identifier: Apache-2.0
 
 -- The table of causes of document 01, with those that document 02 adds: number and returned values of each refusal.
-use Rattle.std.specs.Prelude.{ℕ, List, [], ◌∷◌, get_or}
+use Rattle.std.specs.Prelude.{ℕ, List, [], ◌∷◌, get_or, Result, Ok, Err}
 use Rattle.refusal.specs.declared.Refusal.{Refusal}
 use Rattle.refusal.specs.declared.Refusal.TheVariants.{TooManyQubits, WrongLength, InvalidPauliByte, InvalidPauliCode, NegativeRate, EmptyLincomb, NumberOutOfRange, CountAboveLimit, LengthMismatch, KMatrixNotHermitian, WordOutsideRegister, RepeatedBasisWord, TableFull, SumNotFinite, WrittenCountTooLarge, TooManyProducts}
-use Rattle.refusal.specs.declared.Answer.{Answer}
-use Rattle.refusal.specs.declared.Answer.TheVariants.{Accepted, Refused}
 use Rattle.refusal.specs.declared.Status.{Status}
 
 pub record Cause : Type 0 where
@@ -42,7 +40,11 @@ status_of r = record {
   second = get_or (cause_of r).returned 1 0;
 }
 
+-- the answer of a call whose result, if any, stands in what it was lent
+abbrev pub Answer : Type 0
+Answer = Result (Unit {0}) Refusal
+
 -- 0 where the call was accepted
 abbrev pub answer_status : Answer → Status
-answer_status Accepted = record { refusal = 0; first = 0; second = 0 }
-answer_status (Refused r) = status_of r
+answer_status (Ok _) = record { refusal = 0; first = 0; second = 0 }
+answer_status (Err r) = status_of r

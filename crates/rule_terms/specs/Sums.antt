@@ -2,14 +2,12 @@
 -- SPDX-License-Identifier: Apache-2.0
 
 -- Contracts between functions: terms added to the sums of a lent table one after another, all of them, or that they find no room.
-use Rattle.std.specs.Prelude.{ℕ, ◌*◌, ◌≤◌, ◌≡◌, List, Float, length}
+use Rattle.std.specs.Prelude.{ℕ, ◌*◌, ◌≤◌, ◌≡◌, List, Float, length, Option, Some}
 use Rattle.word.specs.Flat.{word_lanes}
 use Rattle.number.specs.Floats.{floats}
 use Rattle.gksl.specs.Table.{put_all_over}
 use Rattle.gksl.specs.Words.{pauli}
 use Rattle.sums.specs.Sums.{sum_rows, Rising}
-use Rattle.sums.specs.declared.sums.Added.{Added}
-use Rattle.sums.specs.declared.sums.Added.TheVariants.{Held}
 use Rattle.model.specs.Terms.{Term}
 use Rattle.model.specs.declared.stored.Range.{Range}
 use Rattle.sums.specs.Between.{answer}
@@ -27,6 +25,6 @@ pub record TermsRoom (r : Range) (lanes : List ℕ) (numbers : List Float) : Typ
   pub lanes_long : word_lanes * r.end ≤ length lanes
   pub numbers_long : 2 * r.end ≤ length numbers
 
-pub record PutsAll (room len : ℕ) (terms : List Term) (lanes : List ℕ) (sums : List Float) (lanes' : List ℕ) (sums' : List Float) (r : Added) : Type 0 where
+pub record PutsAll (room len : ℕ) (terms : List Term) (lanes : List ℕ) (sums : List Float) (lanes' : List ℕ) (sums' : List Float) (r : Option ℕ) : Type 0 where
   pub answers : r ≡ answer room (put_all_over floats pauli terms (sum_rows len lanes sums))
-  pub held : (n : ℕ) → r ≡ Held n → sum_rows n lanes' sums' ≡ put_all_over floats pauli terms (sum_rows len lanes sums)
+  pub held : (n : ℕ) → r ≡ Some n → sum_rows n lanes' sums' ≡ put_all_over floats pauli terms (sum_rows len lanes sums)

@@ -12,7 +12,7 @@ ghost use Rattle.gksl.specs.Words.{pauli};
 ghost use Rattle.rule_terms.specs.Sums.{SumsRoom, PutsAll};
 
 use number::scalar::real;
-use sums::sums::{Added, put, put_at};
+use sums::sums::{put, put_at};
 use word::algebra::{anti_commutes, comm_product};
 use word::word::Word;
 
@@ -25,13 +25,13 @@ pub fn put_hamiltonian(
     h: Word,
     x: f64,
     p: Word,
-) -> Added
+) -> Option<usize>
     requires { SumsRoom room len lanes.old sums.old }
     ensures { PutsAll room len (terms_over floats pauli (record { num = x; word = h } ∷ []) p) lanes.old sums.old lanes.new sums.new result }
 {
     // Words that share no qubit commute.
     if !anti_commutes(h, p) {
-        return Added::Held(len);
+        return Some(len);
     }
     let c = comm_product(h, p);
     let w = c.word;
@@ -49,12 +49,12 @@ pub fn put_pauli(
     w: Word,
     rate: f64,
     p: Word,
-) -> Added
+) -> Option<usize>
     requires { SumsRoom room len lanes.old sums.old }
     ensures { PutsAll room len (cond (share w p) (clash_over floats pauli (phase w p % 2) rate p) []) lanes.old sums.old lanes.new sums.new result }
 {
     if !anti_commutes(w, p) {
-        return Added::Held(len);
+        return Some(len);
     }
     put_at(lanes, sums, room, len, at, p, real(-2.0 * rate))
 }

@@ -39,9 +39,6 @@ module _ (row n : ℕ) (f : ℕ → List Word) where
       subst (λ (items : List (List Word)). Indexed row n items index') (ap (λ (w : List Word). map f (up_to 0 j) ++ (w ∷ [])) e ∙ sym (items_next f j))
       (more_indexed row n (map f (up_to 0 j)) W index index' j (sym (items_length f j)) x m)
 
-  pub items_done : (j count : ℕ) (index : List ℕ) → Indexed row n (map f (up_to 0 j)) index → j ≡ count → Indexed row n (map f (up_to 0 count)) index
-  items_done j count index x e = subst (λ (i : ℕ). Indexed row n (map f (up_to 0 i)) index) e x
-
 -- ---- the words of a range so far
 pub record RangeState (row n j : ℕ) (lanes : List ℕ) (start end : ℕ) (index₀ index : List ℕ) (i : ℕ) : Type 0 where
   pub low : start ≤ i
@@ -81,9 +78,6 @@ module _ (row n j : ℕ) (lanes : List ℕ) (start end : ℕ) (index₀ : List �
           long = l ∙ s.long;
           marks = subst (λ (X : List Word). Marks row n j X index₀ index') (ap (λ (v : Word). W ++ (v ∷ [])) e ∙ words_next (omega (arith, words_high lanes))) (more_marked row n j W (w ∷ []) index₀ index index' s.marks m);
         }
-
-    pub range_done : end ≤ i → Marks row n j (take (end - start) (drop start (words lanes))) index₀ index
-    range_done h = let e : i ≡ end = omega (arith, s.high) in subst (λ (k : ℕ). Marks row n j (take (k - start) (drop start (words lanes))) index₀ index) e s.marks
 
 -- ---- a jump or a pair
 both : (a : Bool) {b : Bool} → (a && b) ≡ true → (a ≡ true) × (b ≡ true)

@@ -24,7 +24,7 @@ use Rattle.index.specs.Index.{row_lanes, flag, digit, shares_any, Indexed, Unite
 use Rattle.index.specs.Visit.{up_from, keep, flagged, AllBelow}
 use Rattle.index.proofs.Sharing.{united_shares, flagged_items, flagged_below}
 use Rattle.sums.specs.Numbers.{complexes}
-use Rattle.sums.specs.declared.sums.Added.{Added}
+use Rattle.std.specs.Prelude.{Option}
 use Rattle.sums.specs.Sums.{rows}
 use Rattle.model.specs.Terms.{Term}
 use Rattle.model.specs.Stands.{Stands}
@@ -132,7 +132,7 @@ no_pair p t met (General rate terms product) e = (e, refl)
 no_pair p t met (Pair left right factors product) e = absurd (false≢true (sym e))
 
 -- ---- a model that stands, with its index
-puts_as : {room len : ℕ} {lanes : List ℕ} {sums : List Float} {lanes' : List ℕ} {sums' : List Float} {r : Added} → {A B : List Term} → A ≡ B → PutsAll room len A lanes sums lanes' sums' r → PutsAll room len B lanes sums lanes' sums' r
+puts_as : {room len : ℕ} {lanes : List ℕ} {sums : List Float} {lanes' : List ℕ} {sums' : List Float} {r : Option ℕ} → {A B : List Term} → A ≡ B → PutsAll room len A lanes sums lanes' sums' r → PutsAll room len B lanes sums lanes' sums' r
 puts_as {room} {len} {lanes} {sums} {lanes'} {sums'} {r} e g = subst (λ (T : List Term). PutsAll room len T lanes sums lanes' sums' r) e g
 
 module _ (m : Model) (t : ModelTables) (p : Word) (hIndex jIndex : List ℕ) (s : Stands m t) (x : ModelIndexed m t hIndex jIndex) (low : reaches p m.qubits ≡ false) (mask : List ℕ) where
@@ -152,7 +152,7 @@ module _ (m : Model) (t : ModelTables) (p : Word) (hIndex jIndex : List ℕ) (s 
         ∙ items_near row m.qubits m.hamiltonian p real_word hIndex mask s.qubits low (omega (arith, e)) (rw e x.reals) u (real_adds t.h_words t.h_coeffs p) (λ i h. real_apart p t.h_words t.h_coeffs i h)
         ∙ reals_each t t.h_words t.h_coeffs p (up_to 0 m.hamiltonian) refl refl
 
-    pub near_reals : {room len : ℕ} {lanes : List ℕ} {sums : List Float} {lanes' : List ℕ} {sums' : List Float} {r : Added} → PutsAll room len (terms_over floats pauli (map (real_at t) (flagged row mask 0)) p) lanes sums lanes' sums' r
+    pub near_reals : {room len : ℕ} {lanes : List ℕ} {sums : List Float} {lanes' : List ℕ} {sums' : List Float} {r : Option ℕ} → PutsAll room len (terms_over floats pauli (map (real_at t) (flagged row mask 0)) p) lanes sums lanes' sums' r
         → PutsAll room len (terms_over floats pauli (reals_in m t) p) lanes sums lanes' sums' r
     near_reals g = puts_as reals_near g
 
@@ -167,7 +167,7 @@ module _ (m : Model) (t : ModelTables) (p : Word) (hIndex jIndex : List ℕ) (s 
         ∙ items_near row m.qubits m.jumps p entry_words jIndex mask s.qubits low (omega (arith, e)) (rw e x.jumps) u (λ k. f (jump_at t.jumps t.rates k)) (λ j e. h (jump_at t.jumps t.rates j) e)
         ∙ jumps_each f f (λ j. refl) t.jumps t.rates (up_to 0 m.jumps)
 
-    pub near_entries : {room len : ℕ} {lanes : List ℕ} {sums : List Float} {lanes' : List ℕ} {sums' : List Float} {r : Added}
+    pub near_entries : {room len : ℕ} {lanes : List ℕ} {sums : List Float} {lanes' : List ℕ} {sums' : List Float} {r : Option ℕ}
         → PutsAll room len (gather_jumps (jump_adds p t) (map (jump_at t.jumps t.rates) (flagged row mask 0)) ++ gather_jumps (pair_adds p t) (map (jump_at t.jumps t.rates) (flagged row mask 0))) lanes sums lanes' sums' r
         → PutsAll room len (gather_jumps (jump_adds p t) (jumps_in m t) ++ gather_jumps (pair_adds p t) (jumps_in m t)) lanes sums lanes' sums' r
     near_entries g = puts_as (ap₂ (λ (A B : List Term). A ++ B) (entries_near (jump_adds p t) (jump_apart p t)) (entries_near (pair_adds p t) (pair_apart p t))) g

@@ -21,12 +21,9 @@ fn mark_range(index: &mut [u64], row: usize, n: usize, j: usize, t_words: &[u64]
     requires { (64 * n ≤ length index.old) × (row ≤ 64) × (j < row * 64) × (range.start ≤ range.end) × (word_lanes * range.end ≤ length t_words.now) }
     ensures { Marks row n j (words_of t_words.now range) index.old index.new }
 {
-    let end = range.end;
-    let mut i = range.start;
-    while i < end {
+    for i in range.start..range.end {
         let w = word_at(t_words, i);
         mark_word(index, row, n, j, w);
-        i += 1;
     }
 }
 
@@ -74,11 +71,9 @@ pub fn index_reals(index: &mut [u64], n: usize, h_words: &[u64], count: usize)
 {
     let row = row_lanes(count);
     clear_lanes(index);
-    let mut i = 0;
-    while i < count {
+    for i in 0..count {
         let h = word_at(h_words, i);
         mark_word(index, row, n, i, h);
-        i += 1;
     }
 }
 
@@ -97,11 +92,9 @@ pub fn index_jumps(
 {
     let row = row_lanes(count);
     clear_lanes(index);
-    let mut j = 0;
-    while j < count {
+    for j in 0..count {
         let jump = jump_at(jumps, rates, j);
         mark_jump(index, row, n, j, jump, t_words, places);
-        j += 1;
     }
 }
 

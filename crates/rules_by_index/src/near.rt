@@ -5,7 +5,6 @@
 // the Hamiltonian terms, then the jumps, then the pairs, each in their order. Items that share none add
 // nothing, so this is what `rules` puts.
 ghost use Rattle.std.specs.Prelude.{◌≡◌, false, [], ◌++◌, map, ℕ, ◌*◌, ◌≤◌, ◌<◌, length};
-ghost use Rattle.refusal.specs.declared.Answer.TheVariants.{Accepted};
 ghost use Rattle.word.specs.Flat.{word_lanes};
 ghost use Rattle.word.specs.Register.{reaches};
 ghost use Rattle.number.specs.Floats.{floats};
@@ -19,12 +18,12 @@ ghost use Rattle.rules_by_index.specs.Near.{pair_met, ModelIndexed};
 ghost use Rattle.rule_terms.specs.Sums.{SumsRoom, PutsAll};
 ghost use Rattle.model.specs.Between.{model_tables};
 
-use index::{Next, row_lanes, start, step, union_rows};
+use index::{row_lanes, start, step, union_rows};
 use model::stored::{Jump, Model, jump_at};
 use rule_terms::accumulate::put_hamiltonian;
 use rules_by_scan::items::put_jump;
 use rules_by_scan::pairs::put_pair_entry;
-use sums::sums::{Added, find_at};
+use sums::sums::find_at;
 use word::flat::word_at;
 use word::word::Word;
 
@@ -39,22 +38,23 @@ fn put_reals_near(
     mask: &[u64],
     row: usize,
     p: Word,
-) -> Added
+) -> Option<usize>
     requires { SumsRoom room 0 lanes.old sums.old × (word_lanes * count ≤ length h_words.now) × (count ≤ length h_coeffs.now) × (64 ≤ length mask.now) × (0 < row) × (row ≤ 64) × AllBelow count (flagged row mask.now 0) }
     ensures { (t : ModelTables) → (t.h_words ≡ h_words.now) → (t.h_coeffs ≡ h_coeffs.now) → PutsAll room 0 (terms_over floats pauli (map (real_at t) (flagged row mask.now 0)) p) lanes.old sums.old lanes.new sums.new result }
 {
     let mut held = 0;
     let mut c = start(mask, row);
+    // By `step`, from one set bit of the mask to the next.
     loop {
         let s = step(mask, row, c);
-        let Next::Item(i, d) = s else {
-            return Added::Held(held);
+        let Some((i, d)) = s else {
+            return Some(held);
         };
         let h = word_at(h_words, i);
         let x = h_coeffs[i];
         let added = put_hamiltonian(lanes, sums, room, held, h, x, p);
-        let Added::Held(m) = added else {
-            return Added::Full;
+        let Some(m) = added else {
+            return None;
         };
         held = m;
         c = d;
@@ -76,21 +76,22 @@ fn put_pairs_near(
     mask: &[u64],
     row: usize,
     p: Word,
-) -> Added
+) -> Option<usize>
     requires { SumsRoom room len lanes.old sums.old × (8 * count ≤ length jumps.now) × (count ≤ length rates.now) × (word_lanes * places ≤ length t_words.now) × (2 * places ≤ length t_numbers.now) × ((j : ℕ) → j < count → bad_jump places (jump_at jumps.now rates.now j) ≡ false) × (64 ≤ length mask.now) × (0 < row) × (row ≤ 64) × AllBelow count (flagged row mask.now 0) }
     ensures { (t : ModelTables) → (t.t_words ≡ t_words.now) → (t.t_numbers ≡ t_numbers.now) → PutsAll room len (gather_jumps (pair_adds p t) (map (jump_at jumps.now rates.now) (flagged row mask.now 0))) lanes.old sums.old lanes.new sums.new result }
 {
     let mut held = len;
     let mut c = start(mask, row);
+    // By `step`, from one set bit of the mask to the next.
     loop {
         let s = step(mask, row, c);
-        let Next::Item(j, d) = s else {
-            return Added::Held(held);
+        let Some((j, d)) = s else {
+            return Some(held);
         };
         let jump = jump_at(jumps, rates, j);
         let added = put_pair_entry(lanes, sums, room, held, jump, t_words, t_numbers, places, p);
-        let Added::Held(m) = added else {
-            return Added::Full;
+        let Some(m) = added else {
+            return None;
         };
         held = m;
         c = d;
@@ -113,12 +114,12 @@ fn put_pairs_met(
     row: usize,
     p: Word,
     met: bool,
-) -> Added
+) -> Option<usize>
     requires { SumsRoom room len lanes.old sums.old × (8 * count ≤ length jumps.now) × (count ≤ length rates.now) × (word_lanes * places ≤ length t_words.now) × (2 * places ≤ length t_numbers.now) × ((j : ℕ) → j < count → bad_jump places (jump_at jumps.now rates.now j) ≡ false) × (64 ≤ length mask.now) × (0 < row) × (row ≤ 64) × AllBelow count (flagged row mask.now 0) × (met ≡ false → (t : ModelTables) → gather_jumps (pair_adds p t) (map (jump_at jumps.now rates.now) (flagged row mask.now 0)) ≡ []) }
     ensures { (t : ModelTables) → (t.t_words ≡ t_words.now) → (t.t_numbers ≡ t_numbers.now) → PutsAll room len (gather_jumps (pair_adds p t) (map (jump_at jumps.now rates.now) (flagged row mask.now 0))) lanes.old sums.old lanes.new sums.new result }
 {
     if !met {
-        return Added::Held(len);
+        return Some(len);
     }
     put_pairs_near(
         lanes, sums, room, len, count, jumps, rates, t_words, t_numbers, places, mask, row, p,
@@ -161,7 +162,7 @@ fn put_entries_near(
     mask: &[u64],
     row: usize,
     p: Word,
-) -> Added
+) -> Option<usize>
     requires { SumsRoom room len lanes.old sums.old × (8 * count ≤ length jumps.now) × (count ≤ length rates.now) × (word_lanes * places ≤ length t_words.now) × (2 * places ≤ length t_numbers.now) × ((j : ℕ) → j < count → bad_jump places (jump_at jumps.now rates.now j) ≡ false) × (64 ≤ length mask.now) × (0 < row) × (row ≤ 64) × AllBelow count (flagged row mask.now 0) }
     ensures { (t : ModelTables) → (t.t_words ≡ t_words.now) → (t.t_numbers ≡ t_numbers.now) → PutsAll room len (gather_jumps (jump_adds p t) (map (jump_at jumps.now rates.now) (flagged row mask.now 0)) ++ gather_jumps (pair_adds p t) (map (jump_at jumps.now rates.now) (flagged row mask.now 0))) lanes.old sums.old lanes.new sums.new result }
 {
@@ -169,9 +170,10 @@ fn put_entries_near(
     let mut met = false;
     let mut at = 0;
     let mut c = start(mask, row);
+    // By `step`, from one set bit of the mask to the next.
     loop {
         let s = step(mask, row, c);
-        let Next::Item(j, d) = s else {
+        let Some((j, d)) = s else {
             return put_pairs_met(
                 lanes, sums, room, held, count, jumps, rates, t_words, t_numbers, places, mask,
                 row, p, met,
@@ -182,8 +184,8 @@ fn put_entries_near(
         let added = put_jump(
             lanes, sums, room, held, at, jump, t_words, t_numbers, places, p,
         );
-        let Added::Held(m) = added else {
-            return Added::Full;
+        let Some(m) = added else {
+            return None;
         };
         held = m;
         met = pair_met(met, jump);
@@ -206,8 +208,8 @@ pub fn put_rules_near(
     j_index: &[u64],
     mask: &mut [u64],
     p: Word,
-) -> Added
-    requires { SumsRoom room 0 lanes.old sums.old × (test_model m (model_tables h_words.now h_coeffs.now jumps.now rates.now t_words.now t_numbers.now) ≡ Accepted) × ModelIndexed m (model_tables h_words.now h_coeffs.now jumps.now rates.now t_words.now t_numbers.now) h_index.now j_index.now × (64 * m.qubits ≤ length h_index.now) × (64 * m.qubits ≤ length j_index.now) × (64 ≤ length mask.old) × (reaches p m.qubits ≡ false) }
+) -> Option<usize>
+    requires { SumsRoom room 0 lanes.old sums.old × (test_model m (model_tables h_words.now h_coeffs.now jumps.now rates.now t_words.now t_numbers.now) ≡ (Ok tt)) × ModelIndexed m (model_tables h_words.now h_coeffs.now jumps.now rates.now t_words.now t_numbers.now) h_index.now j_index.now × (64 * m.qubits ≤ length h_index.now) × (64 * m.qubits ≤ length j_index.now) × (64 ≤ length mask.old) × (reaches p m.qubits ≡ false) }
     ensures { PutsAll room 0 (rules_stored m (model_tables h_words.now h_coeffs.now jumps.now rates.now t_words.now t_numbers.now) p) lanes.old sums.old lanes.new sums.new result }
 {
     let n = m.qubits;
@@ -218,8 +220,8 @@ pub fn put_rules_near(
     let j_row = row_lanes(count);
     union_rows(p, h_row, n, h_index, mask);
     let first = put_reals_near(lanes, sums, room, h_words, h_coeffs, reals, mask, h_row, p);
-    let Added::Held(held) = first else {
-        return Added::Full;
+    let Some(held) = first else {
+        return None;
     };
     union_rows(p, j_row, n, j_index, mask);
     put_entries_near(

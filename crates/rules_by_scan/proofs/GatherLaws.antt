@@ -4,19 +4,18 @@
 -- The terms of a range of the terms table, taken one after another, each with what is put to the sums for it. Assumes nothing.
 use mathlib.Core.Path.{◌≡◌, refl, sym, ap, ◌∙◌, subst}
 use mathlib.Core.List.{List, [], ◌∷◌, ◌++◌, map, append-nil, append_assoc}
-use Prim.Native.Nat.{ℕ, ◌+◌, ◌-◌, ◌*◌, ◌≤◌, ◌<◌}
+use Prim.Native.Nat.{ℕ, ◌+◌, ◌-◌, ◌≤◌, ◌<◌}
 use native.Mathlib.Omega.{arith}
 use lib.Ieee.{Float}
 use lib.ListN.{length, take, drop}
 use lib.Seq.{take-add, drop-drop}
-use Rattle.word.specs.Flat.{words, word_lanes}
+use Rattle.word.specs.Flat.{words}
 use Rattle.number.specs.Floats.{floats}
 use Rattle.gksl.specs.Rules.{pairs_over, gather_over}
 use Rattle.gksl.specs.Words.{pauli}
 use Rattle.sums.specs.Numbers.{complexes}
 use Rattle.sums.specs.Sums.{rows}
-use Rattle.sums.specs.declared.sums.Added.{Added}
-use Rattle.sums.specs.declared.sums.Added.TheVariants.{Held, Full}
+use Rattle.std.specs.Prelude.{Option, Some, None}
 use Rattle.model.specs.Terms.{Term, term_at, terms_in, terms_of}
 use Rattle.model.proofs.TermLaws.{terms_none, terms_more}
 use Rattle.model.specs.declared.stored.Range.{Range}
@@ -63,7 +62,7 @@ pub record GatherState (g : Term → List Term) (range : Range) (room len : ℕ)
   pub high : j ≤ range.end
   pub lanes_same : length lanes' ≡ length lanes₀
   pub sums_same : length sums' ≡ length sums₀
-  pub puts : PutsAll room len (gather_over floats pauli g (terms_in lanes numbers range.start j)) lanes₀ sums₀ lanes' sums' (Held count)
+  pub puts : PutsAll room len (gather_over floats pauli g (terms_in lanes numbers range.start j)) lanes₀ sums₀ lanes' sums' (Some count)
 
 module _ (g : Term → List Term) (range : Range) (room len : ℕ) (lanes : List ℕ) (numbers : List Float) (lanes₀ : List ℕ) (sums₀ : List Float) (s : SumsRoom room len lanes₀ sums₀) (h : TermsRoom range lanes numbers) where
   abbrev Before : ℕ → List Term
@@ -84,42 +83,39 @@ module _ (g : Term → List Term) (range : Range) (room len : ℕ) (lanes : List
 
   module _ (lanes' : List ℕ) (sums' : List Float) (count j : ℕ) (t : State lanes' sums' count j) where
     pub gather_room : SumsRoom room count lanes' sums'
-    gather_room = puts_room room len lanes₀ sums₀ s lanes' sums' (Before j) count (Held count) t.puts refl t.lanes_same t.sums_same
+    gather_room = puts_room room len lanes₀ sums₀ s lanes' sums' (Before j) count (Some count) t.puts refl t.lanes_same t.sums_same
 
-    pub gather_done : range.end ≤ j → PutsAll room len (gather_over floats pauli g (terms_of lanes numbers range)) lanes₀ sums₀ lanes' sums' (Held count)
+    pub gather_done : range.end ≤ j → PutsAll room len (gather_over floats pauli g (terms_of lanes numbers range)) lanes₀ sums₀ lanes' sums' (Some count)
     gather_done k =
         let e : j ≡ range.end = omega (arith, t.high) in
-        subst (λ (i : ℕ). PutsAll room len (Before i) lanes₀ sums₀ lanes' sums' (Held count)) e t.puts
+        subst (λ (i : ℕ). PutsAll room len (Before i) lanes₀ sums₀ lanes' sums' (Some count)) e t.puts
 
     module _ (k : j < range.end) where
-      pub gather_term : (word_lanes * j + word_lanes ≤ length lanes) × (2 * j + 2 ≤ length numbers)
-      gather_term = (omega (arith, h.lanes_long), omega (arith, h.numbers_long))
-
       before_next : Before (j + 1) ≡ Before j ++ g (term_at lanes numbers j)
       before_next =
           ap (gather_over floats pauli g) (terms_more lanes numbers range.start j t.low (omega (arith, h.lanes_long)) (omega (arith, h.numbers_long)))
           ∙ gather_last g (terms_in lanes numbers range.start j) (term_at lanes numbers j)
 
-      module _ (A : List Term) (e : A ≡ g (term_at lanes numbers j)) (lanes'' : List ℕ) (sums'' : List Float) (r : Added) (p : PutsAll room count A lanes' sums' lanes'' sums'' r) where
+      module _ (A : List Term) (e : A ≡ g (term_at lanes numbers j)) (lanes'' : List ℕ) (sums'' : List Float) (r : Option ℕ) (p : PutsAll room count A lanes' sums' lanes'' sums'' r) where
         next_puts : PutsAll room len (Before (j + 1)) lanes₀ sums₀ lanes'' sums'' r
         next_puts =
             puts_same room len lanes₀ sums₀ s lanes'' sums'' (Before j ++ A) (Before (j + 1)) r (ap (λ (l : List Term). Before j ++ l) e ∙ sym before_next)
-            (puts_more room len lanes₀ sums₀ s lanes' sums' (Before j) A count (Held count) t.puts refl lanes'' sums'' r p)
+            (puts_more room len lanes₀ sums₀ s lanes' sums' (Before j) A count (Some count) t.puts refl lanes'' sums'' r p)
 
-        pub gather_next : (m : ℕ) → r ≡ Held m → length lanes'' ≡ length lanes' → length sums'' ≡ length sums' → State lanes'' sums'' m (j + 1)
+        pub gather_next : (m : ℕ) → r ≡ Some m → length lanes'' ≡ length lanes' → length sums'' ≡ length sums' → State lanes'' sums'' m (j + 1)
         gather_next m f el es = record {
           low = omega (arith, t.low);
           high = omega arith;
           lanes_same = el ∙ t.lanes_same;
           sums_same = es ∙ t.sums_same;
-          puts = subst (λ (q : Added). PutsAll room len (Before (j + 1)) lanes₀ sums₀ lanes'' sums'' q) f next_puts;
+          puts = subst (λ (q : Option ℕ). PutsAll room len (Before (j + 1)) lanes₀ sums₀ lanes'' sums'' q) f next_puts;
         }
 
-        pub gather_full : r ≡ Full → PutsAll room len (gather_over floats pauli g (terms_of lanes numbers range)) lanes₀ sums₀ lanes'' sums'' Full
+        pub gather_full : r ≡ None → PutsAll room len (gather_over floats pauli g (terms_of lanes numbers range)) lanes₀ sums₀ lanes'' sums'' None
         gather_full f =
             let B : List Term = gather_over floats pauli g (terms_in lanes numbers (j + 1) range.end) in
             let parted : Before (j + 1) ++ B ≡ gather_over floats pauli g (terms_of lanes numbers range) =
             sym (ap (gather_over floats pauli g) (terms_parted lanes numbers range.start (j + 1) range.end (omega (arith, t.low)) (omega arith))
             ∙ gather_append g (terms_in lanes numbers range.start (j + 1)) (terms_in lanes numbers (j + 1) range.end)) in
-            puts_same room len lanes₀ sums₀ s lanes'' sums'' (Before (j + 1) ++ B) (gather_over floats pauli g (terms_of lanes numbers range)) Full parted
+            puts_same room len lanes₀ sums₀ s lanes'' sums'' (Before (j + 1) ++ B) (gather_over floats pauli g (terms_of lanes numbers range)) None parted
             (puts_full room len lanes₀ sums₀ s lanes'' sums'' (Before (j + 1)) B r next_puts f)

@@ -64,11 +64,6 @@ module _ (lanes : List ℕ) (range : Range) (p : Word) (order : range.start ≤ 
   }
 
   module _ (i : ℕ) (s : NoneBefore lanes range p i) where
-    pub none_done : range.end ≤ i → (numbers : List Float) → 2 * range.end ≤ length numbers → false ≡ overlaps_over floats pauli (terms_of lanes numbers range) p
-    none_done k numbers h =
-        let e : i ≡ range.end = omega (arith, s.high) in
-        sym (ap (λ (j : ℕ). overlaps_over floats pauli (terms_in lanes numbers range.start j) p) (sym e) ∙ s.none numbers h)
-
     module _ (k : i < range.end) (w : Word) (e : w ≡ get_or (words lanes) i identity) where
       next : (numbers : List Float) → 2 * range.end ≤ length numbers → overlaps_over floats pauli (terms_in lanes numbers range.start (i + 1)) p ≡ share w p
       next numbers h =

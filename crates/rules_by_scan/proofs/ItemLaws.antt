@@ -22,8 +22,7 @@ use Rattle.number.specs.Floats.{floats}
 use Rattle.gksl.specs.Model.{RealTerm}
 use Rattle.gksl.specs.Rules.{terms_over, clash_over, factored}
 use Rattle.gksl.specs.Words.{pauli}
-use Rattle.sums.specs.declared.sums.Added.{Added}
-use Rattle.sums.specs.declared.sums.Added.TheVariants.{Held, Full}
+use Rattle.std.specs.Prelude.{Option, Some, None}
 use Rattle.model.specs.Terms.{Term}
 use Rattle.model.specs.Stored.{ModelTables, range, jump_at}
 use Rattle.model.specs.Tested.{inside, width, bad_jump}
@@ -76,7 +75,7 @@ pub record EachState (g : ℕ → List Term) (all room len : ℕ) (lanes₀ : Li
   pub high : j ≤ all
   pub lanes_same : length lanes' ≡ length lanes₀
   pub sums_same : length sums' ≡ length sums₀
-  pub puts : PutsAll room len (each g (up_to 0 j)) lanes₀ sums₀ lanes' sums' (Held count)
+  pub puts : PutsAll room len (each g (up_to 0 j)) lanes₀ sums₀ lanes' sums' (Some count)
 
 module _ (g : ℕ → List Term) (all room len : ℕ) (lanes₀ : List ℕ) (sums₀ : List Float) (s : SumsRoom room len lanes₀ sums₀) where
   abbrev State : List ℕ → List Float → ℕ → ℕ → Type 0
@@ -93,31 +92,31 @@ module _ (g : ℕ → List Term) (all room len : ℕ) (lanes₀ : List ℕ) (sum
 
   module _ (lanes' : List ℕ) (sums' : List Float) (count j : ℕ) (t : State lanes' sums' count j) where
     pub each_room : SumsRoom room count lanes' sums'
-    each_room = puts_room room len lanes₀ sums₀ s lanes' sums' (each g (up_to 0 j)) count (Held count) t.puts refl t.lanes_same t.sums_same
+    each_room = puts_room room len lanes₀ sums₀ s lanes' sums' (each g (up_to 0 j)) count (Some count) t.puts refl t.lanes_same t.sums_same
 
-    pub each_done : all ≤ j → PutsAll room len (each g (up_to 0 all)) lanes₀ sums₀ lanes' sums' (Held count)
+    pub each_done : all ≤ j → PutsAll room len (each g (up_to 0 all)) lanes₀ sums₀ lanes' sums' (Some count)
     each_done k =
         let e : j ≡ all = omega (arith, t.high) in
-        subst (λ (i : ℕ). PutsAll room len (each g (up_to 0 i)) lanes₀ sums₀ lanes' sums' (Held count)) e t.puts
+        subst (λ (i : ℕ). PutsAll room len (each g (up_to 0 i)) lanes₀ sums₀ lanes' sums' (Some count)) e t.puts
 
-    module _ (k : j < all) (A : List Term) (e : A ≡ g j) (lanes'' : List ℕ) (sums'' : List Float) (r : Added) (p : PutsAll room count A lanes' sums' lanes'' sums'' r) where
+    module _ (k : j < all) (A : List Term) (e : A ≡ g j) (lanes'' : List ℕ) (sums'' : List Float) (r : Option ℕ) (p : PutsAll room count A lanes' sums' lanes'' sums'' r) where
       next_puts : PutsAll room len (each g (up_to 0 (j + 1))) lanes₀ sums₀ lanes'' sums'' r
       next_puts =
           puts_same room len lanes₀ sums₀ s lanes'' sums'' (each g (up_to 0 j) ++ A) (each g (up_to 0 (j + 1))) r (ap (λ (l : List Term). each g (up_to 0 j) ++ l) e ∙ sym (each_last g j))
-          (puts_more room len lanes₀ sums₀ s lanes' sums' (each g (up_to 0 j)) A count (Held count) t.puts refl lanes'' sums'' r p)
+          (puts_more room len lanes₀ sums₀ s lanes' sums' (each g (up_to 0 j)) A count (Some count) t.puts refl lanes'' sums'' r p)
 
-      pub each_next : (m : ℕ) → r ≡ Held m → length lanes'' ≡ length lanes' → length sums'' ≡ length sums' → State lanes'' sums'' m (j + 1)
+      pub each_next : (m : ℕ) → r ≡ Some m → length lanes'' ≡ length lanes' → length sums'' ≡ length sums' → State lanes'' sums'' m (j + 1)
       each_next m f el es = record {
         high = omega arith;
         lanes_same = el ∙ t.lanes_same;
         sums_same = es ∙ t.sums_same;
-        puts = subst (λ (q : Added). PutsAll room len (each g (up_to 0 (j + 1))) lanes₀ sums₀ lanes'' sums'' q) f next_puts;
+        puts = subst (λ (q : Option ℕ). PutsAll room len (each g (up_to 0 (j + 1))) lanes₀ sums₀ lanes'' sums'' q) f next_puts;
       }
 
-      pub each_full : r ≡ Full → PutsAll room len (each g (up_to 0 all)) lanes₀ sums₀ lanes'' sums'' Full
+      pub each_full : r ≡ None → PutsAll room len (each g (up_to 0 all)) lanes₀ sums₀ lanes'' sums'' None
       each_full f =
           let B : List Term = each g (up_to (j + 1) (all - (j + 1))) in
-          puts_same room len lanes₀ sums₀ s lanes'' sums'' (each g (up_to 0 (j + 1)) ++ B) (each g (up_to 0 all)) Full (sym (each_parted g (j + 1) all (omega arith)))
+          puts_same room len lanes₀ sums₀ s lanes'' sums'' (each g (up_to 0 (j + 1)) ++ B) (each g (up_to 0 all)) None (sym (each_parted g (j + 1) all (omega arith)))
           (puts_full room len lanes₀ sums₀ s lanes'' sums'' (each g (up_to 0 (j + 1))) B r next_puts f)
 
 -- ---- the Hamiltonian terms

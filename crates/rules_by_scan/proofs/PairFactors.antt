@@ -22,8 +22,7 @@ use Rattle.gksl.specs.Rules.{gather_over}
 use Rattle.gksl.specs.Words.{pauli}
 use Rattle.sums.specs.Numbers.{complexes}
 use Rattle.sums.specs.Sums.{rows}
-use Rattle.sums.specs.declared.sums.Added.{Added}
-use Rattle.sums.specs.declared.sums.Added.TheVariants.{Held, Full}
+use Rattle.std.specs.Prelude.{Option, Some, None}
 use Rattle.model.specs.Terms.{Term, term_at, terms_in, terms_of}
 use Rattle.model.proofs.TermLaws.{terms_none, terms_more}
 use Rattle.model.specs.Tested.{width}
@@ -91,7 +90,7 @@ pub record FactorsState (p : Word) (f : Word → Term → Term) (left : Range) (
   pub done : List Term
   pub whole : done ++ each_factor p f w (terms_in lanes numbers i left.end) (terms_in lanes numbers place (factors + width left * w))
       ≡ each_factor p f w (terms_of lanes numbers left) (terms_in lanes numbers factors (factors + width left * w))
-  pub puts : PutsAll room len done lanes₀ sums₀ lanes' sums' (Held count)
+  pub puts : PutsAll room len done lanes₀ sums₀ lanes' sums' (Some count)
 
 module _ (p : Word) (f : Word → Term → Term) (left : Range) (w factors room len : ℕ) (lanes : List ℕ) (numbers : List Float) (lanes₀ : List ℕ) (sums₀ : List Float) (s : SumsRoom room len lanes₀ sums₀) (h : TermsRoom left lanes numbers)
     (hf : (word_lanes * (factors + width left * w) ≤ length lanes) × (2 * (factors + width left * w) ≤ length numbers)) where
@@ -117,20 +116,17 @@ module _ (p : Word) (f : Word → Term → Term) (left : Range) (w factors room 
 
   module _ (lanes' : List ℕ) (sums' : List Float) (count i place : ℕ) (t : State lanes' sums' count i place) where
     pub factors_room : SumsRoom room count lanes' sums'
-    factors_room = puts_room room len lanes₀ sums₀ s lanes' sums' t.done count (Held count) t.puts refl t.lanes_same t.sums_same
+    factors_room = puts_room room len lanes₀ sums₀ s lanes' sums' t.done count (Some count) t.puts refl t.lanes_same t.sums_same
 
-    pub factors_done : left.end ≤ i → PutsAll room len Total lanes₀ sums₀ lanes' sums' (Held count)
+    pub factors_done : left.end ≤ i → PutsAll room len Total lanes₀ sums₀ lanes' sums' (Some count)
     unfolding each_factor
     factors_done k =
         let e : i ≡ left.end = omega (arith, t.high) in
         let none : terms_in lanes numbers i left.end ≡ [] = ap (λ (m : ℕ). terms_in lanes numbers m left.end) e ∙ terms_none lanes numbers left.end in
-        puts_same room len lanes₀ sums₀ s lanes' sums' t.done Total (Held count)
+        puts_same room len lanes₀ sums₀ s lanes' sums' t.done Total (Some count)
         (sym (append-nil t.done) ∙ ap (λ (l : List Term). t.done ++ each_factor p f w l (terms_in lanes numbers place last)) (sym none) ∙ t.whole) t.puts
 
     module _ (k : i < left.end) where
-      pub factors_term : (word_lanes * i + word_lanes ≤ length lanes) × (2 * i + 2 ≤ length numbers)
-      factors_term = (omega (arith, h.lanes_long), omega (arith, h.numbers_long))
-
       one_less : (left.end - i) * w ≡ (left.end - (i + 1)) * w + w
       one_less = let d : left.end - i ≡ suc (left.end - (i + 1)) = omega arith in ap (λ (x : ℕ). x * w) d ∙ suc-mul (left.end - (i + 1)) w
 
@@ -160,16 +156,16 @@ module _ (p : Word) (f : Word → Term → Term) (left : Range) (w factors room 
       pub factors_row : (place ≤ place + w) × (word_lanes * (place + w) ≤ length lanes) × (2 * (place + w) ≤ length numbers)
       factors_row = (omega arith, omega (arith, row_ends, hf.0), omega (arith, row_ends, hf.1))
 
-      module _ (A : List Term) (e : A ≡ row) (lanes'' : List ℕ) (sums'' : List Float) (r : Added) (q : PutsAll room count A lanes' sums' lanes'' sums'' r) where
+      module _ (A : List Term) (e : A ≡ row) (lanes'' : List ℕ) (sums'' : List Float) (r : Option ℕ) (q : PutsAll room count A lanes' sums' lanes'' sums'' r) where
         next_puts : PutsAll room len (t.done ++ row) lanes₀ sums₀ lanes'' sums'' r
         next_puts =
             puts_same room len lanes₀ sums₀ s lanes'' sums'' (t.done ++ A) (t.done ++ row) r (ap (λ (l : List Term). t.done ++ l) e)
-            (puts_more room len lanes₀ sums₀ s lanes' sums' t.done A count (Held count) t.puts refl lanes'' sums'' r q)
+            (puts_more room len lanes₀ sums₀ s lanes' sums' t.done A count (Some count) t.puts refl lanes'' sums'' r q)
 
         next_whole : (t.done ++ row) ++ rest ≡ Total
         next_whole = append_assoc t.done row rest ∙ ap (λ (l : List Term). t.done ++ l) (sym next_row) ∙ t.whole
 
-        pub factors_next : (m : ℕ) → r ≡ Held m → length lanes'' ≡ length lanes' → length sums'' ≡ length sums' → State lanes'' sums'' m (i + 1) (place + w)
+        pub factors_next : (m : ℕ) → r ≡ Some m → length lanes'' ≡ length lanes' → length sums'' ≡ length sums' → State lanes'' sums'' m (i + 1) (place + w)
         factors_next m g el es = record {
           high = omega arith;
           fits = omega (arith, t.fits, one_less);
@@ -177,10 +173,10 @@ module _ (p : Word) (f : Word → Term → Term) (left : Range) (w factors room 
           sums_same = es ∙ t.sums_same;
           done = t.done ++ row;
           whole = next_whole;
-          puts = subst (λ (x : Added). PutsAll room len (t.done ++ row) lanes₀ sums₀ lanes'' sums'' x) g next_puts;
+          puts = subst (λ (x : Option ℕ). PutsAll room len (t.done ++ row) lanes₀ sums₀ lanes'' sums'' x) g next_puts;
         }
 
-        pub factors_full : r ≡ Full → PutsAll room len Total lanes₀ sums₀ lanes'' sums'' Full
+        pub factors_full : r ≡ None → PutsAll room len Total lanes₀ sums₀ lanes'' sums'' None
         factors_full g =
-            puts_same room len lanes₀ sums₀ s lanes'' sums'' ((t.done ++ row) ++ rest) Total Full next_whole
+            puts_same room len lanes₀ sums₀ s lanes'' sums'' ((t.done ++ row) ++ rest) Total None next_whole
             (puts_full room len lanes₀ sums₀ s lanes'' sums'' (t.done ++ row) rest r next_puts g)

@@ -21,7 +21,7 @@ use model::stored::Range;
 use model::term::{Term, term_at};
 use number::scalar::{mul, neg, real};
 use rule_terms::terms::{sandwich_term, sign_of};
-use sums::sums::{Added, put_at};
+use sums::sums::put_at;
 use word::algebra::pauli_mul;
 use word::flat::word_at;
 use word::word::{Word, shares_qubit};
@@ -31,14 +31,10 @@ pub fn overlaps(words: &[u64], range: Range, p: Word) -> bool
     requires { (range.start ≤ range.end) × (word_lanes * range.end ≤ length words.now) }
     ensures { (numbers : List Float) → (2 * range.end ≤ length numbers) → result ≡ overlaps_over floats pauli (terms_of words.now numbers range) p }
 {
-    let end = range.end;
-    let mut i = range.start;
-    while i < end {
-        let w = word_at(words, i);
-        if shares_qubit(w, p) {
+    for i in range.start..range.end {
+        if shares_qubit(word_at(words, i), p) {
             return true;
         }
-        i += 1;
     }
     false
 }
@@ -56,28 +52,25 @@ fn put_sandwich_row(
     a: Term,
     rate: f64,
     p: Word,
-) -> Added
+) -> Option<usize>
     requires { SumsRoom room len lanes.old sums.old × TermsRoom range words.now numbers.now }
     ensures { PutsAll room len (map (sandwich p rate (onto a)) (terms_of words.now numbers.now range)) lanes.old sums.old lanes.new sums.new result }
 {
     let v = a.word;
     let left = pauli_mul(v, p);
-    let end = range.end;
     let mut count = len;
-    let mut j = range.start;
-    while j < end {
+    for j in range.start..range.end {
         let b = term_at(words, numbers, j);
         let t = sandwich_term(a, left, b, rate);
         let w = t.word;
         let z = t.number;
         let added = put_at(lanes, sums, room, count, at, w, z);
-        let Added::Held(m) = added else {
-            return Added::Full;
+        let Some(m) = added else {
+            return None;
         };
         count = m;
-        j += 1;
     }
-    Added::Held(count)
+    Some(count)
 }
 
 // The sandwiches of each term in `range` with each.
@@ -92,25 +85,22 @@ fn put_sandwiches(
     range: Range,
     rate: f64,
     p: Word,
-) -> Added
+) -> Option<usize>
     requires { SumsRoom room len lanes.old sums.old × TermsRoom range words.now numbers.now }
     ensures { PutsAll room len (pairs_over floats pauli (sandwich p rate) (terms_of words.now numbers.now range) (terms_of words.now numbers.now range)) lanes.old sums.old lanes.new sums.new result }
 {
-    let end = range.end;
     let mut count = len;
-    let mut i = range.start;
-    while i < end {
+    for i in range.start..range.end {
         let a = term_at(words, numbers, i);
         let added = put_sandwich_row(
             lanes, sums, room, count, at, words, numbers, range, a, rate, p,
         );
-        let Added::Held(m) = added else {
-            return Added::Full;
+        let Some(m) = added else {
+            return None;
         };
         count = m;
-        i += 1;
     }
-    Added::Held(count)
+    Some(count)
 }
 
 // A term c of L†L: minus its number × rate × sign onto c·p, where phase is even.
@@ -123,7 +113,7 @@ fn put_dampen_term(
     c: Term,
     rate: f64,
     p: Word,
-) -> Added
+) -> Option<usize>
     requires { SumsRoom room len lanes.old sums.old }
     ensures { PutsAll room len (dampen p rate (onto c)) lanes.old sums.old lanes.new sums.new result }
 {
@@ -131,7 +121,7 @@ fn put_dampen_term(
     let product = pauli_mul(v, p);
     let phase = product.phase;
     if phase % 2 == 1 {
-        return Added::Held(len);
+        return Some(len);
     }
     let w = product.word;
     let z = mul(neg(c.number), real(rate));
@@ -150,23 +140,20 @@ fn put_dampen(
     range: Range,
     rate: f64,
     p: Word,
-) -> Added
+) -> Option<usize>
     requires { SumsRoom room len lanes.old sums.old × TermsRoom range words.now numbers.now }
     ensures { PutsAll room len (gather_over floats pauli (dampen p rate) (terms_of words.now numbers.now range)) lanes.old sums.old lanes.new sums.new result }
 {
-    let end = range.end;
     let mut count = len;
-    let mut i = range.start;
-    while i < end {
+    for i in range.start..range.end {
         let c = term_at(words, numbers, i);
         let added = put_dampen_term(lanes, sums, room, count, at, c, rate, p);
-        let Added::Held(m) = added else {
-            return Added::Full;
+        let Some(m) = added else {
+            return None;
         };
         count = m;
-        i += 1;
     }
-    Added::Held(count)
+    Some(count)
 }
 
 // A general jump with its terms in `terms` and those of L†L in `product`, where one of its terms
@@ -183,16 +170,16 @@ pub fn put_general(
     terms: Range,
     product: Range,
     p: Word,
-) -> Added
+) -> Option<usize>
     requires { SumsRoom room len lanes.old sums.old × TermsRoom terms words.now numbers.now × TermsRoom product words.now numbers.now }
     ensures { (t : ModelTables) → (t.t_words ≡ words.now) → (t.t_numbers ≡ numbers.now) → PutsAll room len (jump_adds p t (General rate terms product)) lanes.old sums.old lanes.new sums.new result }
 {
     if !overlaps(words, terms, p) {
-        return Added::Held(len);
+        return Some(len);
     }
     let added = put_sandwiches(lanes, sums, room, len, at, words, numbers, terms, rate, p);
-    let Added::Held(m) = added else {
-        return Added::Full;
+    let Some(m) = added else {
+        return None;
     };
     put_dampen(lanes, sums, room, m, at, words, numbers, product, rate, p)
 }

@@ -17,7 +17,6 @@ ghost use Rattle.word.specs.Count.{up_to};
 use crate::general::put_general;
 use model::stored::{Jump, jump_at};
 use rule_terms::accumulate::{put_hamiltonian, put_pauli};
-use sums::sums::Added;
 use word::flat::word_at;
 use word::word::Word;
 
@@ -30,23 +29,21 @@ pub fn put_reals(
     h_coeffs: &[f64],
     count: usize,
     p: Word,
-) -> Added
+) -> Option<usize>
     requires { SumsRoom room 0 lanes.old sums.old × (word_lanes * count ≤ length h_words.now) × (count ≤ length h_coeffs.now) }
     ensures { (t : ModelTables) → (t.h_words ≡ h_words.now) → (t.h_coeffs ≡ h_coeffs.now) → PutsAll room 0 (terms_over floats pauli (map (real_at t) (up_to 0 count)) p) lanes.old sums.old lanes.new sums.new result }
 {
     let mut held = 0;
-    let mut i = 0;
-    while i < count {
+    for i in 0..count {
         let h = word_at(h_words, i);
         let x = h_coeffs[i];
         let added = put_hamiltonian(lanes, sums, room, held, h, x, p);
-        let Added::Held(m) = added else {
-            return Added::Full;
+        let Some(m) = added else {
+            return None;
         };
         held = m;
-        i += 1;
     }
-    Added::Held(held)
+    Some(held)
 }
 
 // One jump whose ranges lie inside a terms table of so many places, where p may stand at `at`. A pair adds
@@ -62,7 +59,7 @@ pub fn put_jump(
     t_numbers: &[f64],
     places: usize,
     p: Word,
-) -> Added
+) -> Option<usize>
     requires { SumsRoom room len lanes.old sums.old × (bad_jump places jump ≡ false) × (word_lanes * places ≤ length t_words.now) × (2 * places ≤ length t_numbers.now) }
     ensures { (t : ModelTables) → (t.t_words ≡ t_words.now) → (t.t_numbers ≡ t_numbers.now) → PutsAll room len (jump_adds p t jump) lanes.old sums.old lanes.new sums.new result }
 {
@@ -83,7 +80,7 @@ pub fn put_jump(
             right: _,
             factors: _,
             product: _,
-        } => Added::Held(len),
+        } => Some(len),
     }
 }
 
@@ -100,22 +97,20 @@ pub fn put_jumps(
     t_numbers: &[f64],
     places: usize,
     p: Word,
-) -> Added
+) -> Option<usize>
     requires { SumsRoom room len lanes.old sums.old × (8 * count ≤ length jumps.now) × (count ≤ length rates.now) × (word_lanes * places ≤ length t_words.now) × (2 * places ≤ length t_numbers.now) × ((j : ℕ) → j < count → bad_jump places (jump_at jumps.now rates.now j) ≡ false) }
     ensures { (t : ModelTables) → (t.t_words ≡ t_words.now) → (t.t_numbers ≡ t_numbers.now) → PutsAll room len (gather_jumps (jump_adds p t) (map (jump_at jumps.now rates.now) (up_to 0 count))) lanes.old sums.old lanes.new sums.new result }
 {
     let mut held = len;
-    let mut j = 0;
-    while j < count {
+    for j in 0..count {
         let jump = jump_at(jumps, rates, j);
         let added = put_jump(
             lanes, sums, room, held, 0, jump, t_words, t_numbers, places, p,
         );
-        let Added::Held(m) = added else {
-            return Added::Full;
+        let Some(m) = added else {
+            return None;
         };
         held = m;
-        j += 1;
     }
-    Added::Held(held)
+    Some(held)
 }

@@ -19,7 +19,7 @@ use model::stored::Range;
 use model::term::{Term, term_at};
 use number::scalar::{mul, neg, phase_factor, real, slight};
 use rule_terms::terms::factor_term;
-use sums::sums::{Added, put};
+use sums::sums::put;
 use word::algebra::{comm_product, pauli_mul};
 use word::word::Word;
 
@@ -31,7 +31,7 @@ fn put_diagonal_term(
     len: usize,
     c: Term,
     p: Word,
-) -> Added
+) -> Option<usize>
     requires { SumsRoom room len lanes.old sums.old }
     ensures { PutsAll room len (diagonal p (onto c)) lanes.old sums.old lanes.new sums.new result }
 {
@@ -41,7 +41,7 @@ fn put_diagonal_term(
     // The real part of i^phase is the sign, 0 where the phase is odd.
     let sign = unit.re;
     if sign == 0.0 {
-        return Added::Held(len);
+        return Some(len);
     }
     let target = product.word;
     let z = neg(mul(c.number, real(sign)));
@@ -58,23 +58,20 @@ pub fn put_diagonal(
     t_numbers: &[f64],
     product: Range,
     p: Word,
-) -> Added
+) -> Option<usize>
     requires { SumsRoom room len lanes.old sums.old × TermsRoom product t_words.now t_numbers.now }
     ensures { PutsAll room len (gather_over floats pauli (diagonal p) (terms_of t_words.now t_numbers.now product)) lanes.old sums.old lanes.new sums.new result }
 {
-    let end = product.end;
     let mut count = len;
-    let mut j = product.start;
-    while j < end {
+    for j in product.start..product.end {
         let c = term_at(t_words, t_numbers, j);
         let added = put_diagonal_term(lanes, sums, room, count, c, p);
-        let Added::Held(m) = added else {
-            return Added::Full;
+        let Some(m) = added else {
+            return None;
         };
         count = m;
-        j += 1;
     }
-    Added::Held(count)
+    Some(count)
 }
 
 // One word of the product where p is on both sides: minus 2 × real part × sign, where the phase is even.
@@ -85,20 +82,20 @@ fn put_both_term(
     len: usize,
     c: Term,
     p: Word,
-) -> Added
+) -> Option<usize>
     requires { SumsRoom room len lanes.old sums.old }
     ensures { PutsAll room len (both_sides p (onto c)) lanes.old sums.old lanes.new sums.new result }
 {
     let w = c.word;
     let x = c.number.re;
     if slight(x) {
-        return Added::Held(len);
+        return Some(len);
     }
     let product = pauli_mul(w, p);
     let unit = phase_factor(product.phase);
     let sign = unit.re;
     if sign == 0.0 {
-        return Added::Held(len);
+        return Some(len);
     }
     let target = product.word;
     put(lanes, sums, room, len, target, real(-(2.0 * x * sign)))
@@ -114,23 +111,20 @@ pub fn put_both(
     t_numbers: &[f64],
     product: Range,
     p: Word,
-) -> Added
+) -> Option<usize>
     requires { SumsRoom room len lanes.old sums.old × TermsRoom product t_words.now t_numbers.now }
     ensures { PutsAll room len (gather_over floats pauli (both_sides p) (terms_of t_words.now t_numbers.now product)) lanes.old sums.old lanes.new sums.new result }
 {
-    let end = product.end;
     let mut count = len;
-    let mut j = product.start;
-    while j < end {
+    for j in product.start..product.end {
         let c = term_at(t_words, t_numbers, j);
         let added = put_both_term(lanes, sums, room, count, c, p);
-        let Added::Held(m) = added else {
-            return Added::Full;
+        let Some(m) = added else {
+            return None;
         };
         count = m;
-        j += 1;
     }
-    Added::Held(count)
+    Some(count)
 }
 
 // x, or minus x.
@@ -149,18 +143,18 @@ fn put_one_term(
     c: Term,
     p: Word,
     minus: bool,
-) -> Added
+) -> Option<usize>
     requires { SumsRoom room len lanes.old sums.old }
     ensures { PutsAll room len (one_side p (λ x. cond minus (floats.opposite x) x) (onto c)) lanes.old sums.old lanes.new sums.new result }
 {
     let w = c.word;
     let x = c.number.im;
     if slight(x) {
-        return Added::Held(len);
+        return Some(len);
     }
     let k = comm_product(w, p);
     if k.eps == 0.0 {
-        return Added::Held(len);
+        return Some(len);
     }
     let target = k.word;
     let y = turned(x, minus);
@@ -178,23 +172,20 @@ pub fn put_one(
     product: Range,
     p: Word,
     minus: bool,
-) -> Added
+) -> Option<usize>
     requires { SumsRoom room len lanes.old sums.old × TermsRoom product t_words.now t_numbers.now }
     ensures { PutsAll room len (gather_over floats pauli (one_side p (λ x. cond minus (floats.opposite x) x)) (terms_of t_words.now t_numbers.now product)) lanes.old sums.old lanes.new sums.new result }
 {
-    let end = product.end;
     let mut count = len;
-    let mut j = product.start;
-    while j < end {
+    for j in product.start..product.end {
         let c = term_at(t_words, t_numbers, j);
         let added = put_one_term(lanes, sums, room, count, c, p, minus);
-        let Added::Held(m) = added else {
-            return Added::Full;
+        let Some(m) = added else {
+            return None;
         };
         count = m;
-        j += 1;
     }
-    Added::Held(count)
+    Some(count)
 }
 
 // The factors of one left word a, from place `start` to before `end`.
@@ -210,26 +201,24 @@ fn put_factor_row(
     a: Word,
     p: Word,
     double: bool,
-) -> Added
+) -> Option<usize>
     requires { SumsRoom room len lanes.old sums.old × TermsRoom (range start end) t_words.now t_numbers.now }
     ensures { PutsAll room len (map (cond double (doubled p) (folded p) a) (terms_in t_words.now t_numbers.now start end)) lanes.old sums.old lanes.new sums.new result }
 {
     let ap = pauli_mul(a, p);
     let mut count = len;
-    let mut j = start;
-    while j < end {
+    for j in start..end {
         let f = term_at(t_words, t_numbers, j);
         let t = factor_term(ap, f, double);
         let w = t.word;
         let z = t.number;
         let added = put(lanes, sums, room, count, w, z);
-        let Added::Held(m) = added else {
-            return Added::Full;
+        let Some(m) = added else {
+            return None;
         };
         count = m;
-        j += 1;
     }
-    Added::Held(count)
+    Some(count)
 }
 
 // The factors of each word in `left`, so many for each as `right` has, from place `factors` on.
@@ -245,28 +234,25 @@ pub fn put_factors(
     factors: usize,
     p: Word,
     double: bool,
-) -> Added
+) -> Option<usize>
     requires { SumsRoom room len lanes.old sums.old × TermsRoom left t_words.now t_numbers.now × (right.start ≤ right.end) × TermsRoom (range factors (factors + width left * width right)) t_words.now t_numbers.now }
     ensures { PutsAll room len (each_factor p (cond double (doubled p) (folded p)) (width right) (terms_of t_words.now t_numbers.now left) (terms_in t_words.now t_numbers.now factors (factors + width left * width right))) lanes.old sums.old lanes.new sums.new result }
 {
     let row = right.end - right.start;
-    let end = left.end;
     let mut count = len;
-    let mut i = left.start;
     let mut place = factors;
-    while i < end {
+    for i in left.start..left.end {
         let t = term_at(t_words, t_numbers, i);
         let a = t.word;
         let next = place + row;
         let added = put_factor_row(
             lanes, sums, room, count, t_words, t_numbers, place, next, a, p, double,
         );
-        let Added::Held(m) = added else {
-            return Added::Full;
+        let Some(m) = added else {
+            return None;
         };
         count = m;
         place = next;
-        i += 1;
     }
-    Added::Held(count)
+    Some(count)
 }

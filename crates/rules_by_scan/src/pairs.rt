@@ -19,7 +19,6 @@ ghost use Rattle.word.specs.Count.{up_to};
 use crate::general::overlaps;
 use crate::pair::{put_both, put_diagonal, put_factors, put_one};
 use model::stored::{Jump, Range, jump_at};
-use sums::sums::Added;
 use word::word::Word;
 
 // A diagonal pair: its factors, then the words of its product.
@@ -35,15 +34,15 @@ fn put_folded(
     factors: usize,
     product: Range,
     p: Word,
-) -> Added
+) -> Option<usize>
     requires { SumsRoom room len lanes.old sums.old × TermsRoom left t_words.now t_numbers.now × (right.start ≤ right.end) × TermsRoom (range factors (factors + width left * width right)) t_words.now t_numbers.now × TermsRoom product t_words.now t_numbers.now }
     ensures { PutsAll room len (each_factor p (folded p) (width right) (terms_of t_words.now t_numbers.now left) (terms_in t_words.now t_numbers.now factors (factors + width left * width right)) ++ gather_over floats pauli (diagonal p) (terms_of t_words.now t_numbers.now product)) lanes.old sums.old lanes.new sums.new result }
 {
     let added = put_factors(
         lanes, sums, room, len, t_words, t_numbers, left, right, factors, p, false,
     );
-    let Added::Held(m) = added else {
-        return Added::Full;
+    let Some(m) = added else {
+        return None;
     };
     put_diagonal(lanes, sums, room, m, t_words, t_numbers, product, p)
 }
@@ -61,15 +60,15 @@ fn put_doubled(
     factors: usize,
     product: Range,
     p: Word,
-) -> Added
+) -> Option<usize>
     requires { SumsRoom room len lanes.old sums.old × TermsRoom left t_words.now t_numbers.now × (right.start ≤ right.end) × TermsRoom (range factors (factors + width left * width right)) t_words.now t_numbers.now × TermsRoom product t_words.now t_numbers.now }
     ensures { PutsAll room len (each_factor p (doubled p) (width right) (terms_of t_words.now t_numbers.now left) (terms_in t_words.now t_numbers.now factors (factors + width left * width right)) ++ gather_over floats pauli (both_sides p) (terms_of t_words.now t_numbers.now product)) lanes.old sums.old lanes.new sums.new result }
 {
     let added = put_factors(
         lanes, sums, room, len, t_words, t_numbers, left, right, factors, p, true,
     );
-    let Added::Held(m) = added else {
-        return Added::Full;
+    let Some(m) = added else {
+        return None;
     };
     put_both(lanes, sums, room, m, t_words, t_numbers, product, p)
 }
@@ -98,7 +97,7 @@ pub fn put_pair(
     factors: usize,
     product: Range,
     p: Word,
-) -> Added
+) -> Option<usize>
     requires { SumsRoom room len lanes.old sums.old × TermsRoom left t_words.now t_numbers.now × TermsRoom right t_words.now t_numbers.now × TermsRoom (range factors (factors + width left * width right)) t_words.now t_numbers.now × TermsRoom product t_words.now t_numbers.now }
     ensures { (t : ModelTables) → (t.t_words ≡ t_words.now) → (t.t_numbers ≡ t_numbers.now) → PutsAll room len (pair_adds p t (Pair left right factors product)) lanes.old sums.old lanes.new sums.new result }
 {
@@ -109,7 +108,7 @@ pub fn put_pair(
                 lanes, sums, room, len, t_words, t_numbers, left, right, factors, product, p,
             );
         }
-        return Added::Held(len);
+        return Some(len);
     }
     let on_right = overlaps(t_words, right, p);
     if on_left {
@@ -125,7 +124,7 @@ pub fn put_pair(
     if on_right {
         return put_one(lanes, sums, room, len, t_words, t_numbers, product, p, true);
     }
-    Added::Held(len)
+    Some(len)
 }
 
 // One entry whose ranges lie inside a terms table of so many places. A jump adds nothing here.
@@ -139,17 +138,17 @@ pub fn put_pair_entry(
     t_numbers: &[f64],
     places: usize,
     p: Word,
-) -> Added
+) -> Option<usize>
     requires { SumsRoom room len lanes.old sums.old × (bad_jump places jump ≡ false) × (word_lanes * places ≤ length t_words.now) × (2 * places ≤ length t_numbers.now) }
     ensures { (t : ModelTables) → (t.t_words ≡ t_words.now) → (t.t_numbers ≡ t_numbers.now) → PutsAll room len (pair_adds p t jump) lanes.old sums.old lanes.new sums.new result }
 {
     match jump {
-        Jump::Pauli { rate: _, term: _ } => Added::Held(len),
+        Jump::Pauli { rate: _, term: _ } => Some(len),
         Jump::General {
             rate: _,
             terms: _,
             product: _,
-        } => Added::Held(len),
+        } => Some(len),
         Jump::Pair {
             left,
             right,
@@ -174,20 +173,18 @@ pub fn put_pairs(
     t_numbers: &[f64],
     places: usize,
     p: Word,
-) -> Added
+) -> Option<usize>
     requires { SumsRoom room len lanes.old sums.old × (8 * count ≤ length jumps.now) × (count ≤ length rates.now) × (word_lanes * places ≤ length t_words.now) × (2 * places ≤ length t_numbers.now) × ((j : ℕ) → j < count → bad_jump places (jump_at jumps.now rates.now j) ≡ false) }
     ensures { (t : ModelTables) → (t.t_words ≡ t_words.now) → (t.t_numbers ≡ t_numbers.now) → PutsAll room len (gather_jumps (pair_adds p t) (map (jump_at jumps.now rates.now) (up_to 0 count))) lanes.old sums.old lanes.new sums.new result }
 {
     let mut held = len;
-    let mut j = 0;
-    while j < count {
+    for j in 0..count {
         let jump = jump_at(jumps, rates, j);
         let added = put_pair_entry(lanes, sums, room, held, jump, t_words, t_numbers, places, p);
-        let Added::Held(m) = added else {
-            return Added::Full;
+        let Some(m) = added else {
+            return None;
         };
         held = m;
-        j += 1;
     }
-    Added::Held(held)
+    Some(held)
 }

@@ -4,7 +4,6 @@
 // All that a model that passed its test adds for a word p, put to a table of sums that starts empty:
 // the Hamiltonian terms, then the jumps, then the pairs.
 ghost use Rattle.std.specs.Prelude.{◌≡◌};
-ghost use Rattle.refusal.specs.declared.Answer.TheVariants.{Accepted};
 ghost use Rattle.model.specs.Between.{model_tables};
 ghost use Rattle.model.specs.Tested.{test_model};
 ghost use Rattle.rule_terms.specs.Adds.{rules_stored};
@@ -13,7 +12,6 @@ ghost use Rattle.rule_terms.specs.Sums.{SumsRoom, PutsAll};
 use crate::items::{put_jumps, put_reals};
 use crate::pairs::put_pairs;
 use model::stored::Model;
-use sums::sums::Added;
 use word::word::Word;
 
 pub fn put_rules(
@@ -28,22 +26,22 @@ pub fn put_rules(
     t_words: &[u64],
     t_numbers: &[f64],
     p: Word,
-) -> Added
-    requires { SumsRoom room 0 lanes.old sums.old × (test_model m (model_tables h_words.now h_coeffs.now jumps.now rates.now t_words.now t_numbers.now) ≡ Accepted) }
+) -> Option<usize>
+    requires { SumsRoom room 0 lanes.old sums.old × (test_model m (model_tables h_words.now h_coeffs.now jumps.now rates.now t_words.now t_numbers.now) ≡ (Ok tt)) }
     ensures { PutsAll room 0 (rules_stored m (model_tables h_words.now h_coeffs.now jumps.now rates.now t_words.now t_numbers.now) p) lanes.old sums.old lanes.new sums.new result }
 {
     let reals = m.hamiltonian;
     let count = m.jumps;
     let places = m.terms;
     let first = put_reals(lanes, sums, room, h_words, h_coeffs, reals, p);
-    let Added::Held(held) = first else {
-        return Added::Full;
+    let Some(held) = first else {
+        return None;
     };
     let second = put_jumps(
         lanes, sums, room, held, count, jumps, rates, t_words, t_numbers, places, p,
     );
-    let Added::Held(more) = second else {
-        return Added::Full;
+    let Some(more) = second else {
+        return None;
     };
     put_pairs(
         lanes, sums, room, more, count, jumps, rates, t_words, t_numbers, places, p,

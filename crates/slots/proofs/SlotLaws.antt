@@ -142,9 +142,6 @@ holds w (v ∷ ws) = holds_from w v ws (length ws) ∙ ap (λ (c : Bool). same v
 -- ---- laying chains
 -- the chains of the first i places
 pub record Laying (ws : List Word) (heads₀ nexts₀ heads nexts : List ℕ) (i : ℕ) : Type 0 where
-  pub heads_same : length heads ≡ length heads₀
-  pub nexts_same : length nexts ≡ length nexts₀
-  pub high : i ≤ length ws
   pub heads_laid : (s : ℕ) → s < length heads₀ → get_or heads s 0 ≡ last_in (length heads₀) s ws i
   pub nexts_laid : (k : ℕ) → k < i → get_or nexts k 0 ≡ last_in (length heads₀) (slot_of (length heads₀) (get_or ws k identity)) ws k
 
@@ -157,22 +154,16 @@ module _ (ws : List Word) (heads₀ nexts₀ : List ℕ) where
   lay_start m e =
       let k : length heads₀ ≡ m = ap length e ∙ length-replicate m 0 in
       record {
-        heads_same = refl;
-        nexts_same = refl;
-        high = omega arith;
         heads_laid = λ s h. ap (λ (l : List ℕ). get_or l s 0) e ∙ get_or-replicate m s 0 0 (omega (arith, k));
         nexts_laid = λ j h. absurd (omega arith);
       }
 
-  module _ (heads nexts : List ℕ) (i : ℕ) (l : Laying ws heads₀ nexts₀ heads nexts i) where
+  module _ (heads nexts : List ℕ) (i : ℕ) (heads_same : length heads ≡ length heads₀) (nexts_same : length nexts ≡ length nexts₀) (l : Laying ws heads₀ nexts₀ heads nexts i) where
     pub lay_more : (s : ℕ) → s ≡ slot_of n (get_or ws i identity) → s < n → i < length ws → length nexts₀ ≡ length ws
         → Laying ws heads₀ nexts₀ (set heads s (i + 1)) (set nexts i (get_or heads s 0)) (i + 1)
     unfolding last_in
     lay_more s e h k m =
         record {
-          heads_same = length-set heads s (i + 1) ∙ l.heads_same;
-          nexts_same = length-set nexts i (get_or heads s 0) ∙ l.nexts_same;
-          high = omega arith;
           heads_laid = λ t u. rw (add-one i) (head t u (ℕ_discrete t s));
           nexts_laid = λ j u. next j (omega arith) (ℕ_discrete j i);
         }
@@ -180,7 +171,7 @@ module _ (ws : List Word) (heads₀ nexts₀ : List ℕ) where
         head : (t : ℕ) → t < n → Dec (t ≡ s) → get_or (set heads s (suc i)) t 0 ≡ last_in n t ws (suc i)
         head t u (yes q) =
             rw (q, eq-eqb (slot_of n (get_or ws i identity)) s (sym e))
-            (get_or-set_same heads s (suc i) 0 (omega (arith, l.heads_same)))
+            (get_or-set_same heads s (suc i) 0 (omega arith))
         head t u (no q) =
             rw (ne_eqb (slot_of n (get_or ws i identity)) t (λ z. q (sym z ∙ sym e)))
             (get_or-set_other heads s t (suc i) 0 q ∙ l.heads_laid t u)
@@ -188,17 +179,16 @@ module _ (ws : List Word) (heads₀ nexts₀ : List ℕ) where
         next : (j : ℕ) → j < suc i → Dec (j ≡ i) → get_or (set nexts i (get_or heads s 0)) j 0 ≡ last_in n (slot_of n (get_or ws j identity)) ws j
         next j u (yes q) =
             rw q
-            (get_or-set_same nexts i (get_or heads s 0) 0 (omega (arith, l.nexts_same)) ∙ l.heads_laid s h ∙ ap (λ (t : ℕ). last_in n t ws i) e)
+            (get_or-set_same nexts i (get_or heads s 0) 0 (omega arith) ∙ l.heads_laid s h ∙ ap (λ (t : ℕ). last_in n t ws i) e)
         next j u (no q) = get_or-set_other nexts i j (get_or heads s 0) 0 q ∙ l.nexts_laid j (omega arith)
 
-    pub lay_done : length nexts ≤ i → length nexts₀ ≡ length ws → length ws ≤ n → Slotted ws heads nexts
+    pub lay_done : i ≡ length ws → length nexts₀ ≡ length ws → length ws ≤ n → Slotted ws heads nexts
     lay_done h m r =
-        let z : i ≡ length ws = omega (arith, l.high, l.nexts_same) in
         record {
-          each = l.nexts_same ∙ m;
-          enough = omega (arith, l.heads_same);
-          heads_are = λ s u. rw (l.heads_same, ← z) (l.heads_laid s (omega (arith, l.heads_same)));
-          nexts_are = λ k u. rw l.heads_same (l.nexts_laid k (omega arith));
+          each = nexts_same ∙ m;
+          enough = omega arith;
+          heads_are = λ s u. rw (heads_same, ← h) (l.heads_laid s (omega arith));
+          nexts_are = λ k u. rw heads_same (l.nexts_laid k (omega arith));
         }
 
 -- ---- no word

@@ -56,13 +56,11 @@ pub fn lay_slots(lanes: &[u64], heads: &mut [u64], nexts: &mut [u64])
 {
     clear_lanes(heads);
     let slots = heads.len();
-    let mut i = 0;
-    while i < nexts.len() {
+    for i in 0..nexts.len() {
         let w = word_at(lanes, i);
         let s = slot_of(w, slots);
         nexts[i] = heads[s];
         heads[s] = i as u64 + 1;
-        i += 1;
     }
 }
 
@@ -85,13 +83,11 @@ pub fn lay_slots_of_both(first: &[u64], second: &[u64], heads: &mut [u64], nexts
 {
     clear_lanes(heads);
     let slots = heads.len();
-    let mut k = 0;
-    while k < nexts.len() {
+    for k in 0..nexts.len() {
         let w = word_of_both(first, second, k);
         let s = slot_of(w, slots);
         nexts[k] = heads[s];
         heads[s] = k as u64 + 1;
-        k += 1;
     }
 }
 
@@ -116,6 +112,7 @@ pub fn last_place(lanes: &[u64], heads: &[u64], nexts: &[u64], w: Word) -> usize
     }
     let s = slot_of(w, slots);
     let mut at = heads[s] as usize;
+    // Along the chain of the slot.
     while 0 < at {
         let v = word_at(lanes, at - 1);
         if same_word(v, w) {
@@ -133,6 +130,7 @@ pub fn place_before(lanes: &[u64], heads: &[u64], nexts: &[u64], i: usize) -> us
 {
     let w = word_at(lanes, i);
     let mut at = nexts[i] as usize;
+    // Along the chain of the slot.
     while 0 < at {
         let v = word_at(lanes, at - 1);
         if same_word(v, w) {
@@ -169,6 +167,7 @@ pub fn has_word_in_both(
     }
     let s = slot_of(w, slots);
     let mut at = heads[s] as usize;
+    // Along the chain of the slot.
     while 0 < at {
         let v = word_of_both(first, second, at - 1);
         if same_word(v, w) {

@@ -23,8 +23,8 @@ use Rattle.step_laws.proofs.CourseLaws.{no_value, same_value, through}
 use Rattle.step_laws.proofs.GrownLaws.{zeros_again}
 use Rattle.step_parts.specs.Lent.{Work}
 use Rattle.step_parts.specs.Between.{shared_of, none, Holds, leg_by, Ended, Ends, grown}
+use Rattle.std.specs.Prelude.{Result, Err, Ok}
 use Rattle.step_parts.specs.declared.taken.Step.{Step}
-use Rattle.step_parts.specs.declared.taken.Step.TheVariants.{Taken, Refused}
 use Rattle.step.specs.Between.{Start, grown_to, given_words, given_numbers, entering, evolving, first_leg, course, Courses, products_in, added_to}
 
 -- ---- over plain lists
@@ -104,15 +104,17 @@ module _ (entering : List Word → List Float → Read (List Word)) (evolving : 
       rw (a.before, b.before) (predicted long a.value b.value ∙ ap rest (same_value _ s b.behind))
 
 -- ---- over tables
-pub taken_not : (q : Refusal) (k products : ℕ) → Refused q ≡ Taken k products → ⊥
+pub taken_not : (q : Refusal) (k products : ℕ) → ◌≡◌ {A = Result Step Refusal} (Err q) (Ok (record { entries = k; products = products })) → ⊥
 taken_not q k products e = let z : ◌≡◌ {A = ℕ} 0 1 = cc in omega arith
 
-pub same_taken : (j k a b : ℕ) → Taken j a ≡ Taken k b → (j ≡ k) × (a ≡ b)
-same_taken j k a b e = (cc, cc)
+pub same_taken : (j k a b : ℕ) → ◌≡◌ {A = Result Step Refusal} (Ok (record { entries = j; products = a })) (Ok (record { entries = k; products = b })) → (j ≡ k) × (a ≡ b)
+same_taken j k a b e =
+    let h : ◌≡◌ {A = Step} (record { entries = j; products = a }) (record { entries = k; products = b }) = cc in
+    (ap (λ (x : Step). x.entries) h, ap (λ (x : Step). x.products) h)
 
 module _ (s : Start) (w' : Work) (clear : shared_of w' ≡ none (shared_of s.work)) where
   -- a refusal of a leg is that of the course
-  stopped : (r : Step) (q : Refusal) → r ≡ Refused q → ((p : Refusal) → r ≡ Refused p → course s ≡ refused p) → Courses s r w'
+  stopped : (r : Result Step Refusal) (q : Refusal) → r ≡ Err q → ((p : Refusal) → r ≡ Err p → course s ≡ refused p) → Courses s r w'
   stopped r q e f = record {
     told = record { taken = λ k products i. absurd (taken_not q k products (sym e ∙ i)); stops = f };
     holds = λ k products i. absurd (taken_not q k products (sym e ∙ i));
@@ -120,7 +122,7 @@ module _ (s : Start) (w' : Work) (clear : shared_of w' ≡ none (shared_of s.wor
   }
 
   -- what a leg left is what the course leaves
-  ended : (k products : ℕ) → course s ≡ got (grown k w'.grown_words w'.evolved products) → Holds s.model.qubits (grown_to s) k w'.grown_words w'.start w'.evolved → (0 < k → 0 < s.len) → Courses s (Taken k products) w'
+  ended : (k products : ℕ) → course s ≡ got (grown k w'.grown_words w'.evolved products) → Holds s.model.qubits (grown_to s) k w'.grown_words w'.start w'.evolved → (0 < k → 0 < s.len) → Courses s (Ok (record { entries = k; products = products })) w'
   ended k products is h any = record {
     told = record {
       taken = λ j more e.
@@ -134,11 +136,11 @@ module _ (s : Start) (w' : Work) (clear : shared_of w' ≡ none (shared_of s.wor
     clear = clear;
   }
 
-module _ (s : Start) (each : length (given_numbers s) ≤ length (given_words s)) (w₁ : Work) (r₁ : Step) (l : Ends (first_leg s) s.model.qubits (grown_to s) s.len (given_numbers s) r₁ w₁) where
-  pub course_refused : shared_of w₁ ≡ none (shared_of s.work) → (q : Refusal) → r₁ ≡ Refused q → Courses s r₁ w₁
+module _ (s : Start) (each : length (given_numbers s) ≤ length (given_words s)) (w₁ : Work) (r₁ : Result Step Refusal) (l : Ends (first_leg s) s.model.qubits (grown_to s) s.len (given_numbers s) r₁ w₁) where
+  pub course_refused : shared_of w₁ ≡ none (shared_of s.work) → (q : Refusal) → r₁ ≡ Err q → Courses s r₁ w₁
   course_refused clear q e = stopped s w₁ clear r₁ q e (λ p i. course_stops (entering s) (evolving s) (limit_of s.limits) (given_words s) (given_numbers s) p (l.stops p i))
 
-  module _ (k products : ℕ) (told : r₁ ≡ Taken k products) (long : word_lanes * k ≤ length w₁.grown_words) where
+  module _ (k products : ℕ) (told : r₁ ≡ Ok (record { entries = k; products = products })) (long : word_lanes * k ≤ length w₁.grown_words) where
     h : Ended (first_leg s) s.model.qubits (grown_to s) s.len k products (given_numbers s) w₁
     h = l.ended k products told
 
@@ -157,7 +159,7 @@ module _ (s : Start) (each : length (given_numbers s) ≤ length (given_words s)
     -- no room for a second hop
     pub course_full : shared_of w₁ ≡ none (shared_of s.work) → limit_of s.limits ≤ k → Courses s r₁ w₁
     course_full clear full =
-        subst (λ (r : Step). Courses s r w₁) (sym told)
+        subst (λ (r : Result Step Refusal). Courses s r w₁) (sym told)
         (ended s w₁ clear k products
         (course_rest ∙ ap (λ (b : Bool). cond b again (got stood)) (le-ltb (length stood.words) (limit_of s.limits) (omega (arith, full, words_count))))
         h.holds h.any)
@@ -169,13 +171,13 @@ module _ (s : Start) (each : length (given_numbers s) ≤ length (given_words s)
       second_is : second (entering s) (evolving s) (limit_of s.limits) (given_words s) (given_numbers s) stood ≡ leg_by (entering s) (evolving s) false (take k (words w₁.grown_words)) (take k w₁.start) (take k w₁.evolved)
       second_is = ap (λ (xs : List Float). leg_by (entering s) (evolving s) false (take k (words w₁.grown_words)) xs (take k w₁.evolved)) (sym h.start_is)
 
-      pub course_both : (r₂ : Step) → Ends (leg_by (entering s) (evolving s) false (take k (words w₁.grown_words)) (take k w₁.start) (take k w₁.evolved)) s.model.qubits (grown_to s) k (take k w₁.start) r₂ w₂ → Courses s (added_to r₁ r₂) w₂
-      course_both (Refused q) l₂ =
-          stopped s w₂ clear (Refused q) q refl
+      pub course_both : (r₂ : Result Step Refusal) → Ends (leg_by (entering s) (evolving s) false (take k (words w₁.grown_words)) (take k w₁.start) (take k w₁.evolved)) s.model.qubits (grown_to s) k (take k w₁.start) r₂ w₂ → Courses s (added_to r₁ r₂) w₂
+      course_both (Err q) l₂ =
+          stopped s w₂ clear (Err q) q refl
           (λ p i. course_second ∙ ap (λ (x : Read Stepped). onward x (λ r. got (both (entering s) (evolving s) (limit_of s.limits) (given_words s) (given_numbers s) products r))) (second_is ∙ l₂.stops p i))
-      course_both (Taken j more) l₂ =
-          let h₂ = l₂.ended j more refl in
-          subst (λ (i : ℕ). Courses s (Taken j (i + more)) w₂) (sym (ap products_in told))
-          (ended s w₂ clear j (products + more)
+      course_both (Ok step) l₂ =
+          let h₂ = l₂.ended step.entries step.products refl in
+          subst (λ (i : ℕ). Courses s (Ok (record { entries = step.entries; products = (i + step.products) })) w₂) (sym (ap products_in told))
+          (ended s w₂ clear step.entries (products + step.products)
           (course_second ∙ ap (λ (x : Read Stepped). onward x (λ r. got (both (entering s) (evolving s) (limit_of s.limits) (given_words s) (given_numbers s) products r))) (second_is ∙ h₂.is))
           h₂.holds (λ a. h.any (h₂.any a)))

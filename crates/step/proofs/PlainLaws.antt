@@ -3,14 +3,15 @@
 
 -- What the call of a step answers is what the step over plain lists says: so what holds of that, who stays and how many, holds of the call.
 -- And what a refusal leaves. Assumes nothing.
+use Rattle.std.specs.Prelude.{Result}
 use mathlib.Core.Path.{◌≡◌, refl, sym, ap, ◌∙◌}
 use mathlib.Core.List.{List}
 use Prim.Native.Nat.{ℕ}
 use lib.Ieee.{Float}
 use lib.ListN.{length, take}
 use Rattle.refusal.specs.declared.Refusal.{Refusal}
-use Rattle.refusal.specs.declared.Answer.{Answer}
-use Rattle.refusal.specs.declared.Answer.TheVariants as Tests
+use Rattle.std.specs.Prelude.{Ok, Err}
+use Rattle.refusal.specs.Cause.{Answer}
 use Rattle.word.specs.Flat.{words}
 use Rattle.model.specs.Stored.{ModelTables}
 use Rattle.model.specs.declared.stored.Model.{Model}
@@ -19,12 +20,11 @@ use Rattle.limits.specs.declared.Limits.{Limits}
 use Rattle.step_laws.specs.Steps.{Stepped, course_of, before_cap, step_of}
 use Rattle.step_parts.specs.Lent.{Work, zeroed, places_of}
 use Rattle.step_parts.specs.Ends.{kept, ending}
-use Rattle.step_parts.specs.declared.taken.Step.TheVariants.{Taken, Refused}
 use Rattle.step.specs.Between.{start_of, tests_of}
 use Rattle.step.specs.Calls.{Stepping, tested, step}
 use Rattle.step.proofs.CourseLaws.{taken_not, same_taken}
 
-same_refusal : (q r : Refusal) → Refused q ≡ Refused r → q ≡ r
+same_refusal : {A : Type 0} (q r : Refusal) → ◌≡◌ {A = Result A Refusal} (Err q) (Err r) → q ≡ r
 same_refusal q r e = cc
 
 module _ (m : Model) (t : ModelTables) (lanes : List ℕ) (coeffs : List Float) (len : ℕ) (protected : List ℕ) (l : Limits) (dt dropTol : Float) (w : Work) where
@@ -54,32 +54,32 @@ module _ (m : Model) (t : ModelTables) (lanes : List ℕ) (coeffs : List Float) 
 
   -- refused by a test, with nothing changed, or by a part, with zero in the work tables and nothing else changed
   pub data Turned (q : Refusal) : Type 0 where
-    by_test : tests ≡ Tests.Refused q → call ≡ record { answer = Refused q; lanes = lanes; coeffs = coeffs; work = w } → Turned q
-    by_part : plain ≡ refused q → call ≡ record { answer = Refused q; lanes = lanes; coeffs = coeffs; work = zeroed w } → Turned q
+    by_test : tests ≡ Err q → call ≡ record { answer = Err q; lanes = lanes; coeffs = coeffs; work = w } → Turned q
+    by_part : plain ≡ refused q → call ≡ record { answer = Err q; lanes = lanes; coeffs = coeffs; work = zeroed w } → Turned q
 
   call_is : (a : Answer) (c : Read Stepped) → tests ≡ a → course ≡ c → call ≡ tested lanes coeffs w a (ending (words protected) dropTol l.max_basis lanes coeffs c)
   unfolding step
   call_is a c e f = rw (e, f)
 
-  pub step_takes : (k products : ℕ) → call.answer ≡ Taken k products → Takes k products
+  pub step_takes : (k products : ℕ) → call.answer ≡ Ok (record { entries = k; products = products }) → Takes k products
   step_takes k products e = go tests course refl refl
     where
       go : (a : Answer) (c : Read Stepped) → tests ≡ a → course ≡ c → Takes k products
-      go (Tests.Refused q) c f g = absurd (taken_not q k products (sym (ap (λ (x : Stepping). x.answer) (call_is (Tests.Refused q) c f g)) ∙ e))
-      go Tests.Accepted (refused q) f g = absurd (taken_not q k products (sym (ap (λ (x : Stepping). x.answer) (call_is Tests.Accepted (refused q) f g)) ∙ e))
-      go Tests.Accepted (got s) f g =
+      go (Err q) c f g = absurd (taken_not q k products (sym (ap (λ (x : Stepping). x.answer) (call_is (Err q) c f g)) ∙ e))
+      go (Ok _) (refused q) f g = absurd (taken_not q k products (sym (ap (λ (x : Stepping). x.answer) (call_is (Ok tt) (refused q) f g)) ∙ e))
+      go (Ok _) (got s) f g =
           let b : Stepped = kept (words protected) dropTol l.max_basis s in
-          let h = same_taken (length b.words) k b.products products (sym (ap (λ (x : Stepping). x.answer) (call_is Tests.Accepted (got s) f g)) ∙ e) in
+          let h = same_taken (length b.words) k b.products products (sym (ap (λ (x : Stepping). x.answer) (call_is (Ok tt) (got s) f g)) ∙ e) in
           record { basis = b; is = plain_is (got s) g; count = sym h.0; took = sym h.1 }
 
-  pub step_turned : (q : Refusal) → call.answer ≡ Refused q → Turned q
+  pub step_turned : (q : Refusal) → call.answer ≡ Err q → Turned q
   step_turned q e = go tests course refl refl
     where
       go : (a : Answer) (c : Read Stepped) → tests ≡ a → course ≡ c → Turned q
-      go (Tests.Refused r) c f g =
-          let h : r ≡ q = same_refusal r q (sym (ap (λ (x : Stepping). x.answer) (call_is (Tests.Refused r) c f g)) ∙ e) in
-          by_test (f ∙ ap Tests.Refused h) (call_is (Tests.Refused r) c f g ∙ ap (λ (x : Refusal). record { answer = Refused x; lanes = lanes; coeffs = coeffs; work = w }) h)
-      go Tests.Accepted (refused r) f g =
-          let h : r ≡ q = same_refusal r q (sym (ap (λ (x : Stepping). x.answer) (call_is Tests.Accepted (refused r) f g)) ∙ e) in
-          by_part (plain_is (refused r) g ∙ ap refused h) (call_is Tests.Accepted (refused r) f g ∙ ap (λ (x : Refusal). record { answer = Refused x; lanes = lanes; coeffs = coeffs; work = zeroed w }) h)
-      go Tests.Accepted (got s) f g = absurd (taken_not q _ _ (sym e ∙ ap (λ (x : Stepping). x.answer) (call_is Tests.Accepted (got s) f g)))
+      go (Err r) c f g =
+          let h : r ≡ q = same_refusal r q (sym (ap (λ (x : Stepping). x.answer) (call_is (Err r) c f g)) ∙ e) in
+          by_test (f ∙ ap Err h) (call_is (Err r) c f g ∙ ap (λ (x : Refusal). record { answer = Err x; lanes = lanes; coeffs = coeffs; work = w }) h)
+      go (Ok _) (refused r) f g =
+          let h : r ≡ q = same_refusal r q (sym (ap (λ (x : Stepping). x.answer) (call_is (Ok tt) (refused r) f g)) ∙ e) in
+          by_part (plain_is (refused r) g ∙ ap refused h) (call_is (Ok tt) (refused r) f g ∙ ap (λ (x : Refusal). record { answer = Err x; lanes = lanes; coeffs = coeffs; work = zeroed w }) h)
+      go (Ok _) (got s) f g = absurd (taken_not q _ _ (sym e ∙ ap (λ (x : Stepping). x.answer) (call_is (Ok tt) (got s) f g)))

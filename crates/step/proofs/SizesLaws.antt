@@ -12,8 +12,8 @@ use native.Mathlib.Omega.{arith}
 use borrow.Author.Tests.{le-ltb}
 use lib.Ieee.{Float}
 use lib.ListN.{length}
-use Rattle.refusal.specs.declared.Answer.{Answer}
-use Rattle.refusal.specs.declared.Answer.TheVariants.{Accepted, Refused}
+use Rattle.std.specs.Prelude.{Ok, Err}
+use Rattle.refusal.specs.Cause.{Answer}
 use Rattle.word.specs.Flat.{word_lanes}
 use Rattle.word.specs.Word.{max_qubits}
 use Rattle.model.specs.Stored.{ModelTables}
@@ -143,7 +143,7 @@ module _ (qubits words protected touched candidates entries : ℕ) (w : Work) (a
 
     -- no work table is refused
     pub work_accepted : qubits ≤ max_qubits
-        → work_tests qubits k count (length w.h_index) (length w.j_index) (length w.mask) (length w.order) (length w.heads) (length w.nexts) (length w.place_order) (length w.cand_sums) (length w.list_values) (length w.work_sums) (length w.grown_words) (length w.start) (length w.evolved) ≡ Accepted
+        → work_tests qubits k count (length w.h_index) (length w.j_index) (length w.mask) (length w.order) (length w.heads) (length w.nexts) (length w.place_order) (length w.cand_sums) (length w.list_values) (length w.work_sums) (length w.grown_words) (length w.start) (length w.evolved) ≡ Ok tt
     unfolding step_sizes work_tests
     work_accepted q =
         let f = enough in
@@ -202,9 +202,9 @@ module _ (qubits words protected touched candidates entries : ℕ) (w : Work) (a
 
 -- ---- the tests of a step
 -- what comes after a test need agree only where the test is passed
-then_alike : (a : Answer) {b c : Answer} → (a ≡ Accepted → b ≡ c) → and_then a b ≡ and_then a c
-then_alike Accepted h = h refl
-then_alike (Refused r) h = refl
+then_alike : (a : Answer) {b c : Answer} → (a ≡ Ok tt → b ≡ c) → and_then a b ≡ and_then a c
+then_alike (Ok _) h = h refl
+then_alike (Err r) h = refl
 
 module _ (m : Model) (t : ModelTables) (lanes : List ℕ) (coeffs : List Float) (len : ℕ) (protected : List ℕ) (l : Limits) (dt dropTol : Float) where
   abbrev tests : Work → Answer

@@ -14,8 +14,9 @@ use lib.Ieee.{Float}
 use lib.ListN.{length, take, replicate, length-replicate}
 use lib.Seq.{length-take-le}
 use Rattle.refusal.specs.declared.Refusal.{Refusal}
-use Rattle.refusal.specs.declared.Answer.{Answer}
-use Rattle.refusal.specs.declared.Answer.TheVariants as Tests
+use Rattle.std.specs.Prelude.{Result, Ok, Err}
+use Rattle.step_parts.specs.declared.taken.Step.{Step}
+use Rattle.refusal.specs.Cause.{Answer}
 use Rattle.word.specs.Flat.{words, word_lanes}
 use Rattle.word.specs.declared.word.Word.{Word}
 use Rattle.word.proofs.FlatLaws.{words_high}
@@ -24,15 +25,11 @@ use Rattle.model.specs.Tested.{test_model}
 use Rattle.expm.specs.Selects.{max_products}
 use Rattle.lent.specs.Read.{Read}
 use Rattle.limits.specs.Defaults.{limit_of, tau_of}
-use Rattle.truncate.specs.declared.kept.Kept.{Kept}
-use Rattle.truncate.specs.declared.kept.Kept.TheVariants.{Entries}
 use Rattle.step_laws.specs.Steps.{Places, Stepped, hop, evolution, course_of}
 use Rattle.step_laws.specs.Passing.{GoodWords, AreFinite}
 use Rattle.step_parts.specs.Lent.{Work, work_of, zeroed, step_tests}
 use Rattle.step_parts.specs.Ends.{Ending, ending}
 use Rattle.step_parts.specs.Between.{Given, FiniteStep, EvolveLong, Long, SameLong, Shared, shared_of, none, Holds, HopPlaces, Hops, EvolvePlaces, EvolvesTo, PlacesOf, leg_by, Ends, EndReady, Told}
-use Rattle.step_parts.specs.declared.taken.Step.{Step}
-use Rattle.step_parts.specs.declared.taken.Step.TheVariants.{Taken, Refused}
 use Rattle.step_parts.proofs.ReadyLaws.{Within, within, StepPassed, step_passed, ready_given, ready_step, ready_holds, given_within, ready_long, long_same, places_same, same_twice, ready_end}
 use Rattle.step_legs.specs.Between.{Follows}
 use Rattle.step_legs.proofs.LegLaws.{leg_is, clear_evolved}
@@ -55,7 +52,7 @@ none_same : {w w' : Work} → SameLong w w' → none (shared_of w') ≡ none (sh
 none_same s = rw (s.h_index, s.j_index, s.mask, s.work_words, s.work_sums, s.order, s.heads, s.nexts, s.cand_words, s.cand_sums, s.place_order, s.place_work, s.list_words, s.list_values)
 
 -- ---- a step that passed its tests
-module _ (s : Start) (ok : tests_of s ≡ Tests.Accepted) where
+module _ (s : Start) (ok : tests_of s ≡ Ok tt) where
   passed : StepPassed s.model s.tables s.lanes s.coeffs s.len s.protected s.limits s.dt s.drop_tol (length s.work.h_index) (length s.work.j_index) (length s.work.mask) (length s.work.order) (length s.work.heads) (length s.work.nexts) (length s.work.place_order) (length s.work.cand_sums) (length s.work.list_values) (length s.work.work_sums) (length s.work.grown_words) (length s.work.start) (length s.work.evolved)
   passed = step_passed s.model s.tables s.lanes s.coeffs s.len s.protected s.limits s.dt s.drop_tol (length s.work.h_index) (length s.work.j_index) (length s.work.mask) (length s.work.order) (length s.work.heads) (length s.work.nexts) (length s.work.place_order) (length s.work.cand_sums) (length s.work.list_values) (length s.work.work_sums) (length s.work.grown_words) (length s.work.start) (length s.work.evolved) ok
 
@@ -85,11 +82,11 @@ module _ (s : Start) (ok : tests_of s ≡ Tests.Accepted) where
   within_grown : (w : Work) → SameLong s.work w → (k : ℕ) → k ≤ grown_to s → word_lanes * k ≤ length w.grown_words
   within_grown w same k h = omega (arith, h, inner.grown_within, same.grown_words)
 
-  copied_holds : (taken : Step) (w : Work) → Copied s taken w → Holds s.model.qubits (grown_to s) s.len w.grown_words w.start w.evolved
+  copied_holds : (taken : Result Step Refusal) (w : Work) → Copied s taken w → Holds s.model.qubits (grown_to s) s.len w.grown_words w.start w.evolved
   copied_holds taken w c = ready_holds s.model s.tables s.lanes s.coeffs s.len s.protected s.limits s.dt s.drop_tol passed.given passed.numbers passed.apart (grown_to s) fits w.grown_words w.start w.evolved c.words_are c.start_is c.evolved_is
 
 -- ---- the next part
-module _ (s : Start) (taken : Step) (hopped : Kept) (w : Work) (same : SameLong s.work w) (accepted : tests_of s ≡ Tests.Accepted) where
+module _ (s : Start) (taken : Result Step Refusal) (hopped : Result ℕ Refusal) (w : Work) (same : SameLong s.work w) (accepted : tests_of s ≡ Ok tt) where
   stands_1 : Copied s taken w → Standing s 1 taken hopped s.lanes s.coeffs w
   stands_1 h = record {
     few = omega arith;
@@ -182,19 +179,19 @@ module _ (s : Start) (taken : Step) (hopped : Kept) (w : Work) (same : SameLong 
 
 -- ---- which part is due
 -- there is room for a second hop
-pub record Room (s : Start) (taken : Step) : Type 0 where
+pub record Room (s : Start) (taken : Result Step Refusal) : Type 0 where
   pub k : ℕ
   pub products : ℕ
-  pub taken_is : taken ≡ Taken k products
+  pub taken_is : taken ≡ Ok (record { entries = k; products = products })
   pub room : k < limit_of s.limits
 
-pub record Due (s : Start) (part due : ℕ) (taken : Step) (hopped : Kept) (w : Work) : Type 0 where
+pub record Due (s : Start) (part due : ℕ) (taken : Result Step Refusal) (hopped : Result ℕ Refusal) (w : Work) : Type 0 where
   pub stands : Standing s due taken hopped s.lanes s.coeffs w
   pub onward : part ≤ due
   pub below : due < 6
   pub room : due ≡ 3 → Room s taken
 
-pub due_stands : (s : Start) (part : ℕ) (taken : Step) (hopped : Kept) (lanes : List ℕ) (coeffs : List Float) (w : Work) → Standing s part taken hopped lanes coeffs w → part < 6
+pub due_stands : (s : Start) (part : ℕ) (taken : Result Step Refusal) (hopped : Result ℕ Refusal) (lanes : List ℕ) (coeffs : List Float) (w : Work) → Standing s part taken hopped lanes coeffs w → part < 6
     → (limit due : ℕ) → limit ≡ limit_of s.limits → due ≡ due_of part limit taken → Due s part due taken hopped w
 unfolding due_of
 due_stands s part taken hopped lanes coeffs w st below limit due is e = go (eqb part 3) refl
@@ -202,7 +199,7 @@ due_stands s part taken hopped lanes coeffs w st below limit due is e = go (eqb 
     here : Standing s part taken hopped s.lanes s.coeffs w
     here = subst (λ (l : List ℕ). Standing s part taken hopped l s.coeffs w) (st.lanes_stay below) (subst (λ (c : List Float). Standing s part taken hopped lanes c w) (st.coeffs_stay below) st)
 
-    ended : (r : Step) → taken ≡ r → (due ≡ 5) → part ≡ 3 → Courses s taken w → Due s part due taken hopped w
+    ended : (r : Result Step Refusal) → taken ≡ r → (due ≡ 5) → part ≡ 3 → Courses s taken w → Due s part due taken hopped w
     ended r i f p c = record {
       stands = subst (λ (d : ℕ). Standing s d taken hopped s.lanes s.coeffs w) (sym f) (stands_5 s taken hopped w st.same (st.accepted (omega (arith, p))) c);
       onward = omega (arith, f, p);
@@ -210,27 +207,27 @@ due_stands s part taken hopped lanes coeffs w st below limit due is e = go (eqb 
       room = λ g. absurd (omega (arith, f, g));
     }
 
-    three : part ≡ 3 → (r : Step) → taken ≡ r → due ≡ after_first limit r → Due s part due taken hopped w
-    three p (Refused q) i f =
+    three : part ≡ 3 → (r : Result Step Refusal) → taken ≡ r → due ≡ after_first limit r → Due s part due taken hopped w
+    three p (Err q) i f =
         let ok = st.accepted (omega (arith, p)) in
         let d = st.predicted p in
-        ended (Refused q) i f p (course_refused s (each s ok) w taken d.first d.clear q i)
-    three p (Taken k products) i f = room (leb limit k) refl
+        ended (Err q) i f p (course_refused s (each s ok) w taken d.first d.clear q i)
+    three p (Ok step) i f = room (leb limit step.entries) refl
       where
-        room : (b : Bool) → leb limit k ≡ b → Due s part due taken hopped w
+        room : (b : Bool) → leb limit step.entries ≡ b → Due s part due taken hopped w
         room true g =
             let ok = st.accepted (omega (arith, p)) in
             let d = st.predicted p in
-            let h = d.first.ended k products i in
-            ended (Taken k products) i (f ∙ ap (λ (b : Bool). cond b 5 3) g) p
-            (course_full s (each s ok) w taken d.first k products i (within_grown s ok w st.same k h.holds.inside) d.clear (omega (arith, is, leb-true limit k g)))
+            let h = d.first.ended step.entries step.products i in
+            ended (Ok step) i (f ∙ ap (λ (b : Bool). cond b 5 3) g) p
+            (course_full s (each s ok) w taken d.first step.entries step.products i (within_grown s ok w st.same step.entries h.holds.inside) d.clear (omega (arith, is, leb-true limit step.entries g)))
         room false g =
             let z : due ≡ 3 = f ∙ ap (λ (b : Bool). cond b 5 3) g in
             record {
               stands = subst (λ (d : ℕ). Standing s d taken hopped s.lanes s.coeffs w) (p ∙ sym z) here;
               onward = omega (arith, z, p);
               below = omega (arith, z);
-              room = λ y. record { k = k; products = products; taken_is = i; room = omega (arith, is, leb-false limit k g) };
+              room = λ y. record { k = step.entries; products = step.products; taken_is = i; room = omega (arith, is, leb-false limit step.entries g) };
             }
 
     go : (b : Bool) → eqb part 3 ≡ b → Due s part due taken hopped w
@@ -245,7 +242,7 @@ due_stands s part taken hopped lanes coeffs w st below limit due is e = go (eqb 
         }
 
 -- the lent basis is the given one as long as nothing is handed over
-pub back : (s : Start) (k : ℕ) (taken : Step) (hopped : Kept) (lanes : List ℕ) (coeffs : List Float) (w : Work) → lanes ≡ s.lanes → coeffs ≡ s.coeffs → Standing s k taken hopped s.lanes s.coeffs w → Standing s k taken hopped lanes coeffs w
+pub back : (s : Start) (k : ℕ) (taken : Result Step Refusal) (hopped : Result ℕ Refusal) (lanes : List ℕ) (coeffs : List Float) (w : Work) → lanes ≡ s.lanes → coeffs ≡ s.coeffs → Standing s k taken hopped s.lanes s.coeffs w → Standing s k taken hopped lanes coeffs w
 back s k taken hopped lanes coeffs w e f h = subst (λ (c : List Float). Standing s k taken hopped lanes c w) (sym f) (subst (λ (l : List ℕ). Standing s k taken hopped l s.coeffs w) (sym e) h)
 
 -- tables that the beginning left as they were
@@ -254,7 +251,7 @@ pub work_same : (w : Work) (heads nexts grownWords : List ℕ) (start evolved : 
 work_same w heads nexts grownWords start evolved eh en eg es ee = rw (eh, en, eg, es, ee)
 
 -- ---- before anything
-pub starts : (s : Start) (hopped : Kept) → Standing s 0 (Taken s.len 0) hopped s.lanes s.coeffs s.work
+pub starts : (s : Start) (hopped : Result ℕ Refusal) → Standing s 0 (Ok (record { entries = s.len; products = 0 })) hopped s.lanes s.coeffs s.work
 starts s hopped = record {
   few = omega arith;
   same = record { h_index = refl; j_index = refl; mask = refl; work_words = refl; work_sums = refl; order = refl; heads = refl; nexts = refl; cand_words = refl; cand_sums = refl; place_order = refl; place_work = refl; list_words = refl; list_values = refl; stage_rows = refl; stage_columns = refl; columns = refl; values = refl; grown_words = refl; start = refl; evolved = refl };
@@ -273,25 +270,25 @@ starts s hopped = record {
 }
 
 -- ---- the tests and the copy
-module _ (s : Start) (due : ℕ) (taken : Step) (hopped : Kept) (w : Work) (st : Standing s due taken hopped s.lanes s.coeffs w) (is : due ≡ 0) (a : Answer)
+module _ (s : Start) (due : ℕ) (taken : Result Step Refusal) (hopped : Result ℕ Refusal) (w : Work) (st : Standing s due taken hopped s.lanes s.coeffs w) (is : due ≡ 0) (a : Answer)
     (told : a ≡ step_tests s.model s.tables s.lanes s.coeffs s.len s.protected s.limits s.dt s.drop_tol (length w.h_index) (length w.j_index) (length w.mask) (length w.order) (length w.heads) (length w.nexts) (length w.place_order) (length w.cand_sums) (length w.list_values) (length w.work_sums) (length w.grown_words) (length w.start) (length w.evolved)) where
   tests_are : a ≡ tests_of s
   tests_are = told ∙ ap (λ (v : Work). step_tests s.model s.tables s.lanes s.coeffs s.len s.protected s.limits s.dt s.drop_tol (length v.h_index) (length v.j_index) (length v.mask) (length v.order) (length v.heads) (length v.nexts) (length v.place_order) (length v.cand_sums) (length v.list_values) (length v.work_sums) (length v.grown_words) (length v.start) (length v.evolved)) (st.nothing is).1
 
-  pub begun : a ≡ Tests.Accepted → (w' : Work) → SameLong w w' → take s.len (words w'.grown_words) ≡ given_words s → take s.len w'.start ≡ given_numbers s → take s.len w'.evolved ≡ given_numbers s
+  pub begun : a ≡ Ok tt → (w' : Work) → SameLong w w' → take s.len (words w'.grown_words) ≡ given_words s → take s.len w'.start ≡ given_numbers s → take s.len w'.evolved ≡ given_numbers s
       → Standing s (due + 1) taken hopped s.lanes s.coeffs w'
   begun ok w' same ew es ee =
       let z : 1 ≡ due + 1 = omega (arith, is) in
       subst (λ (d : ℕ). Standing s d taken hopped s.lanes s.coeffs w') z
       (stands_1 s taken hopped w' (same_twice st.same same) (sym tests_are ∙ ok) (record { taken_is = (st.nothing is).0; words_are = ew; start_is = es; evolved_is = ee }))
 
-  pub turned_away : (q : Refusal) → a ≡ Tests.Refused q → (w' : Work) → w' ≡ w → (r : SteppedBasis) → r ≡ stepped_of (Refused q)
+  pub turned_away : (q : Refusal) → a ≡ Err q → (w' : Work) → w' ≡ w → (r : SteppedBasis) → r ≡ stepped_of (Err q)
       → LeavesStep (step s.model s.tables s.lanes s.coeffs s.len s.protected s.limits s.dt s.drop_tol s.work) r s.lanes s.coeffs w'
   unfolding step
   turned_away q e w' i r f = rw (← tests_are, e) (record { answers = f; words_are = refl; coeffs_are = refl; work_is = i ∙ (st.nothing is).1 })
 
 -- ---- a hop
-module _ (s : Start) (due : ℕ) (taken : Step) (hopped : Kept) (w : Work) (st : Standing s due taken hopped s.lanes s.coeffs w) (hops : (eqb due 1 || eqb due 3) ≡ true) (room : due ≡ 3 → Room s taken) where
+module _ (s : Start) (due : ℕ) (taken : Result Step Refusal) (hopped : Result ℕ Refusal) (w : Work) (st : Standing s due taken hopped s.lanes s.coeffs w) (hops : (eqb due 1 || eqb due 3) ≡ true) (room : due ≡ 3 → Room s taken) where
   hop_some : 0 < due
   hop_some = go (eqb due 1) refl hops
     where
@@ -299,7 +296,7 @@ module _ (s : Start) (due : ℕ) (taken : Step) (hopped : Kept) (w : Work) (st :
       go true e f = omega (arith, eqb-true due 1 e)
       go false e f = omega (arith, eqb-true due 3 f)
 
-  hop_ok : tests_of s ≡ Tests.Accepted
+  hop_ok : tests_of s ≡ Ok tt
   hop_ok = st.accepted hop_some
 
   pub record Poised : Type 0 where
@@ -327,7 +324,7 @@ module _ (s : Start) (due : ℕ) (taken : Step) (hopped : Kept) (w : Work) (st :
   pub hop_given : Given s.model s.tables s.protected s.limits
   hop_given = given s hop_ok
 
-  module _ (hopped' : Kept) (w' : Work) (same : SameLong w w')
+  module _ (hopped' : Result ℕ Refusal) (w' : Work) (same : SameLong w w')
       (hops' : (p : Places) (dt : Float) → HopPlaces p (grown_to s) w.work_words w.work_sums w.cand_words w.cand_sums w.place_order w.place_work w.list_words w.list_values
       → Hops (hop s.model s.tables (words s.protected) dt p (limit_of s.limits) (tau_of s.limits) (take (entries_in taken) (words w.grown_words)) (take (entries_in taken) w.evolved)) s.model.qubits (grown_to s) (entries_in taken) w.grown_words w.start hopped' w'.grown_words w'.start)
       (unchanged : w'.evolved ≡ w.evolved) (clear : shared_of w' ≡ none (shared_of w)) where
@@ -374,11 +371,11 @@ last (suc (suc (suc (suc zero)))) h a b c d e = refl
 last (suc (suc (suc (suc (suc zero))))) h a b c d e = absurd (e refl)
 last (suc (suc (suc (suc (suc (suc n)))))) h a b c d e = absurd (omega (arith, h))
 
-products_few : (plain : Read Stepped) (n places len : ℕ) (start : List Float) (r : Step) (w : Work) → Ends plain n places len start r w → products_in r ≤ max_products
-products_few plain n places len start (Refused q) w e = omega arith
-products_few plain n places len start (Taken k products) w e = (e.ended k products refl).few
+products_few : (plain : Read Stepped) (n places len : ℕ) (start : List Float) (r : Result Step Refusal) (w : Work) → Ends plain n places len start r w → products_in r ≤ max_products
+products_few plain n places len start (Err q) w e = omega arith
+products_few plain n places len start (Ok step) w e = (e.ended step.entries step.products refl).few
 
-module _ (s : Start) (due : ℕ) (taken : Step) (hopped : Kept) (w : Work) (st : Standing s due taken hopped s.lanes s.coeffs w) (below : due < 6) (not-0 : due ≡ 0 → ⊥) (not-5 : due ≡ 5 → ⊥) (not-hop : (eqb due 1 || eqb due 3) ≡ false) where
+module _ (s : Start) (due : ℕ) (taken : Result Step Refusal) (hopped : Result ℕ Refusal) (w : Work) (st : Standing s due taken hopped s.lanes s.coeffs w) (below : due < 6) (not-0 : due ≡ 0 → ⊥) (not-5 : due ≡ 5 → ⊥) (not-hop : (eqb due 1 || eqb due 3) ≡ false) where
   -- what is left: the predictor and the corrector
   either : (due ≡ 2 → ⊥) → due ≡ 4
   either n = last due below not-0 (no_1 (eqb due 1) refl not-hop) n (no_3 (eqb due 1) (eqb due 3) refl not-hop) not-5
@@ -399,7 +396,7 @@ module _ (s : Start) (due : ℕ) (taken : Step) (hopped : Kept) (w : Work) (st :
   evolve_some : 0 < due
   evolve_some = omega (arith, not-0)
 
-  evolve_ok : tests_of s ≡ Tests.Accepted
+  evolve_ok : tests_of s ≡ Ok tt
   evolve_ok = st.accepted evolve_some
 
   -- the hop before it
@@ -425,10 +422,10 @@ module _ (s : Start) (due : ℕ) (taken : Step) (hopped : Kept) (w : Work) (st :
           let p : products_in taken ≡ h.products = ap products_in h.taken_is in
           record { before = h.before; leaves = subst (λ (k : ℕ). Hopped s k hopped h.before w) (sym n) h.leaves; any = λ a. d.any (omega (arith, a, n)); few = omega (arith, p, d.few) }
 
-  pub evolve_given : (test_model s.model s.tables ≡ Tests.Accepted) × (is_finite s.dt ≡ true) × (is_finite s.drop_tol ≡ true)
+  pub evolve_given : (test_model s.model s.tables ≡ Ok tt) × (is_finite s.dt ≡ true) × (is_finite s.drop_tol ≡ true)
   evolve_given = ((given s evolve_ok).model, (finite s evolve_ok).dt_finite, (finite s evolve_ok).drop_finite)
 
-  pub evolve_ready : (k : ℕ) → hopped ≡ Entries k
+  pub evolve_ready : (k : ℕ) → hopped ≡ Ok k
       → EvolveLong s.model.qubits (grown_to s) k w.h_index w.j_index w.mask w.heads w.nexts w.place_order w.grown_words w.cand_sums w.list_values w.work_sums w.start w.evolved
       × GoodWords s.model.qubits (take k (words w.grown_words)) × AreFinite (take k w.start) × (k ≤ grown_to s)
   evolve_ready k e =
@@ -465,9 +462,9 @@ module _ (s : Start) (due : ℕ) (taken : Step) (hopped : Kept) (w : Work) (st :
   pub zero_list_values : w.list_values ≡ replicate (length w.list_values) float0
   zero_list_values = own float0 (length s.work.list_values) w.list_values (ap (λ (x : Shared). x.list_values) before_it.leaves.clear)
 
-  module _ (always : Bool) (told : always ≡ eqb due 2) (done : Step) (w' : Work) (same : SameLong w w') (eg : w'.grown_words ≡ w.grown_words) (es : w'.start ≡ w.start)
+  module _ (always : Bool) (told : always ≡ eqb due 2) (done : Result Step Refusal) (w' : Work) (same : SameLong w w') (eg : w'.grown_words ≡ w.grown_words) (es : w'.start ≡ w.start)
       (follows : Follows hopped always (entries_in taken) done w.evolved w'.evolved)
-      (goes : (p : Places) (protected : List Word) (k : ℕ) → EvolvePlaces p w.work_words w.work_sums w.stage_rows w.stage_columns w.cand_sums w.columns w.values → hopped ≡ Entries k → (not always && eqb k (entries_in taken)) ≡ false
+      (goes : (p : Places) (protected : List Word) (k : ℕ) → EvolvePlaces p w.work_words w.work_sums w.stage_rows w.stage_columns w.cand_sums w.columns w.values → hopped ≡ Ok k → (not always && eqb k (entries_in taken)) ≡ false
       → EvolvesTo (evolution s.model s.tables protected s.dt p s.drop_tol (take k (words w.grown_words)) (take k w.start)) k done w'.evolved) where
     leg_of : (k : ℕ) → entries_in taken ≡ k → (before : Work) → Hopped s k hopped before w
         → Ends (leg_by (entering s) (evolving s) always (take k (words before.grown_words)) (take k before.start) (take k before.evolved)) s.model.qubits (grown_to s) k (take k before.start) done w'
@@ -511,11 +508,11 @@ module _ (s : Start) (due : ℕ) (taken : Step) (hopped : Kept) (w : Work) (st :
       pub evolve_stands : Standing s (due + 1) (added_to taken done) hopped s.lanes s.coeffs w'
       evolve_stands = go (eqb due 2) refl
         where
-          added_first : products_in taken ≡ 0 → (d : Step) → Ends (first_leg s) s.model.qubits (grown_to s) s.len (given_numbers s) d w' → Ends (first_leg s) s.model.qubits (grown_to s) s.len (given_numbers s) (added_to taken d) w'
-          added_first i (Refused q) l = l
-          added_first i (Taken k products) l =
-              let z : products_in taken + products ≡ products = omega (arith, i) in
-              subst (λ (j : ℕ). Ends (first_leg s) s.model.qubits (grown_to s) s.len (given_numbers s) (Taken k j) w') (sym z) l
+          added_first : products_in taken ≡ 0 → (d : Result Step Refusal) → Ends (first_leg s) s.model.qubits (grown_to s) s.len (given_numbers s) d w' → Ends (first_leg s) s.model.qubits (grown_to s) s.len (given_numbers s) (added_to taken d) w'
+          added_first i (Err q) l = l
+          added_first i (Ok step) l =
+              let z : products_in taken + step.products ≡ step.products = omega (arith, i) in
+              subst (λ (j : ℕ). Ends (first_leg s) s.model.qubits (grown_to s) s.len (given_numbers s) (Ok (record { entries = step.entries; products = j })) w') (sym z) l
 
           go : (b : Bool) → eqb due 2 ≡ b → Standing s (due + 1) (added_to taken done) hopped s.lanes s.coeffs w'
           go true e =
@@ -533,14 +530,14 @@ module _ (s : Start) (due : ℕ) (taken : Step) (hopped : Kept) (w : Work) (st :
               (course_both s (each s evolve_ok) h.before taken h.first h.k h.products h.taken_is (within_grown s evolve_ok h.before h.leaves.same h.k inside) h.room w' clear done (second_leg y e)))
 
 -- ---- the end
-module _ (s : Start) (due : ℕ) (taken : Step) (hopped : Kept) (w : Work) (st : Standing s due taken hopped s.lanes s.coeffs w) (is : due ≡ 5) where
-  end_ok : tests_of s ≡ Tests.Accepted
+module _ (s : Start) (due : ℕ) (taken : Result Step Refusal) (hopped : Result ℕ Refusal) (w : Work) (st : Standing s due taken hopped s.lanes s.coeffs w) (is : due ≡ 5) where
+  end_ok : tests_of s ≡ Ok tt
   end_ok = st.accepted (omega (arith, is))
 
   courses : Courses s taken w
   courses = st.course_done is
 
-  pub end_ready : (k products : ℕ) → taken ≡ Taken k products
+  pub end_ready : (k products : ℕ) → taken ≡ Ok (record { entries = k; products = products })
       → EndReady s.model.qubits s.protected s.drop_tol s.limits.max_basis k w.grown_words w.evolved w.order w.heads w.nexts w.place_order × (word_lanes * k ≤ length s.lanes) × (k ≤ length s.coeffs)
   end_ready k products e =
       let h = courses.holds k products e in
@@ -558,7 +555,7 @@ module _ (s : Start) (due : ℕ) (taken : Step) (hopped : Kept) (w : Work) (st :
   pub end_zero_place_order : w.place_order ≡ replicate (length w.place_order) 0
   end_zero_place_order = own 0 (length s.work.place_order) w.place_order (ap (λ (x : Shared). x.place_order) courses.clear)
 
-  module _ (r : Step) (lanes' : List ℕ) (coeffs' : List Float) (w' : Work) (same : SameLong w w') (lanes-same : length lanes' ≡ length s.lanes) (coeffs-same : length coeffs' ≡ length s.coeffs)
+  module _ (r : Result Step Refusal) (lanes' : List ℕ) (coeffs' : List Float) (w' : Work) (same : SameLong w w') (lanes-same : length lanes' ≡ length s.lanes) (coeffs-same : length coeffs' ≡ length s.coeffs)
       (ends : (c : Read Stepped) → Told c taken w.grown_words w.evolved → record { answer = r; lanes = lanes'; coeffs = coeffs' } ≡ ending (words s.protected) s.drop_tol s.limits.max_basis s.lanes s.coeffs c)
       (z0 : w'.order ≡ replicate (length w.order) 0) (z1 : w'.heads ≡ replicate (length w.heads) 0) (z2 : w'.nexts ≡ replicate (length w.nexts) 0) (z3 : w'.place_order ≡ replicate (length w.place_order) 0) (z4 : w'.stage_rows ≡ replicate (length w.stage_rows) 0) (z5 : w'.stage_columns ≡ replicate (length w.stage_columns) 0) (z6 : w'.columns ≡ replicate (length w.columns) 0) (z7 : w'.values ≡ replicate (length w.values) float0) (z8 : w'.grown_words ≡ replicate (length w.grown_words) 0) (z9 : w'.start ≡ replicate (length w.start) float0) (z10 : w'.evolved ≡ replicate (length w.evolved) float0) (k0 : w'.h_index ≡ w.h_index) (k1 : w'.j_index ≡ w.j_index) (k2 : w'.mask ≡ w.mask) (k3 : w'.work_words ≡ w.work_words) (k4 : w'.work_sums ≡ w.work_sums) (k5 : w'.cand_words ≡ w.cand_words) (k6 : w'.cand_sums ≡ w.cand_sums) (k7 : w'.place_work ≡ w.place_work) (k8 : w'.list_words ≡ w.list_words) (k9 : w'.list_values ≡ w.list_values) where
     work_zero : w' ≡ zeroed s.work
@@ -612,7 +609,7 @@ module _ (s : Start) (due : ℕ) (taken : Step) (hopped : Kept) (w : Work) (st :
         })
 
 -- ---- all parts taken
-pub leaves_step : (s : Start) (part : ℕ) (taken : Step) (hopped : Kept) (lanes : List ℕ) (coeffs : List Float) (w : Work) → Standing s part taken hopped lanes coeffs w → 6 ≤ part → (r : SteppedBasis) → r ≡ stepped_of taken
+pub leaves_step : (s : Start) (part : ℕ) (taken : Result Step Refusal) (hopped : Result ℕ Refusal) (lanes : List ℕ) (coeffs : List Float) (w : Work) → Standing s part taken hopped lanes coeffs w → 6 ≤ part → (r : SteppedBasis) → r ≡ stepped_of taken
     → LeavesStep (step s.model s.tables s.lanes s.coeffs s.len s.protected s.limits s.dt s.drop_tol s.work) r lanes coeffs w
 leaves_step s part taken hopped lanes coeffs w st all r e =
     let z : part ≡ 6 = omega (arith, st.few, all) in

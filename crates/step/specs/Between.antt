@@ -2,9 +2,10 @@
 -- SPDX-License-Identifier: Apache-2.0
 
 -- Contracts between functions: which part of a step is due, and how far it has come.
-use Rattle.std.specs.Prelude.{ℕ, ◌+◌, ◌/◌, ◌≤◌, ◌<◌, ◌≡◌, true, cond, List, eqb, leb, Float, length, take}
-use Rattle.refusal.specs.declared.Answer.{Answer}
-use Rattle.refusal.specs.declared.Answer.TheVariants as Tests
+use Rattle.std.specs.Prelude.{ℕ, ◌+◌, ◌/◌, ◌≤◌, ◌<◌, ◌≡◌, true, cond, List, eqb, leb, Float, length, take, Result, Ok, Err}
+use Rattle.refusal.specs.declared.Refusal.{Refusal}
+use Rattle.step_parts.specs.declared.taken.Step.{Step}
+use Rattle.refusal.specs.Cause.{Answer}
 use Rattle.word.specs.Flat.{words, word_lanes}
 use Rattle.word.specs.declared.word.Word.{Word}
 use Rattle.model.specs.Stored.{ModelTables}
@@ -12,34 +13,31 @@ use Rattle.model.specs.declared.stored.Model.{Model}
 use Rattle.lent.specs.Read.{Read}
 use Rattle.limits.specs.Defaults.{limit_of, tau_of}
 use Rattle.limits.specs.declared.Limits.{Limits}
-use Rattle.truncate.specs.declared.kept.Kept.{Kept}
 use Rattle.step_laws.specs.Steps.{Places, Outcome, Stepped, course_by, hop, evolution}
 use Rattle.step_parts.specs.Lent.{Work, places_of, grown_places, step_tests}
 use Rattle.step_parts.specs.Between.{SameLong, shared_of, none, Holds, Hops, leg_by, Ends, Told}
-use Rattle.step_parts.specs.declared.taken.Step.{Step}
-use Rattle.step_parts.specs.declared.taken.Step.TheVariants.{Taken, Refused}
 use Rattle.step.specs.Calls.{step}
 
 -- ---- the parts by their numbers
 -- after the predictor, part 2: the second hop if there is room, else the end
-abbrev pub after_first : ℕ → Step → ℕ
-after_first limit (Taken entries products) = cond (leb limit entries) 5 3
-after_first limit (Refused q) = 5
+abbrev pub after_first : ℕ → Result Step Refusal → ℕ
+after_first limit (Ok step) = cond (leb limit step.entries) 5 3
+after_first limit (Err q) = 5
 
-unfoldable pub due_of : (part limit : ℕ) → Step → ℕ
+unfoldable pub due_of : (part limit : ℕ) → Result Step Refusal → ℕ
 due_of part limit taken = cond (eqb part 3) (after_first limit taken) part
 
-abbrev pub entries_in : Step → ℕ
-entries_in (Taken entries products) = entries
-entries_in (Refused q) = 0
+abbrev pub entries_in : Result Step Refusal → ℕ
+entries_in (Ok step) = step.entries
+entries_in (Err q) = 0
 
-abbrev pub products_in : Step → ℕ
-products_in (Taken entries products) = products
-products_in (Refused q) = 0
+abbrev pub products_in : Result Step Refusal → ℕ
+products_in (Ok step) = step.products
+products_in (Err q) = 0
 
-abbrev pub added_to : Step → Step → Step
-added_to taken (Taken entries products) = Taken entries (products_in taken + products)
-added_to taken (Refused q) = Refused q
+abbrev pub added_to : Result Step Refusal → Result Step Refusal → Result Step Refusal
+added_to taken (Ok step) = Ok (record { entries = step.entries; products = (products_in taken + step.products) })
+added_to taken (Err q) = Err q
 
 -- ---- what a step was given
 pub record Start : Type 0 where
@@ -87,54 +85,54 @@ module _ (s : Start) where
 
   -- ---- how far it has come
   -- the copy holds the given basis
-  pub record Copied (taken : Step) (w : Work) : Type 0 where
-    pub taken_is : taken ≡ Taken s.len 0
+  pub record Copied (taken : Result Step Refusal) (w : Work) : Type 0 where
+    pub taken_is : taken ≡ Ok (record { entries = s.len; products = 0 })
     pub words_are : take s.len (words w.grown_words) ≡ given_words
     pub start_is : take s.len w.start ≡ given_numbers
     pub evolved_is : take s.len w.evolved ≡ given_numbers
 
   -- a hop from k words, which stood in other tables
-  pub record Hopped (k : ℕ) (hopped : Kept) (before w : Work) : Type 0 where
+  pub record Hopped (k : ℕ) (hopped : Result ℕ Refusal) (before w : Work) : Type 0 where
     pub same : SameLong s.work before
     pub held : Holds s.model.qubits grown_to k before.grown_words before.start before.evolved
     pub hops : Hops (entering (take k (words before.grown_words)) (take k before.evolved)) s.model.qubits grown_to k before.grown_words before.start hopped w.grown_words w.start
     pub unchanged : w.evolved ≡ before.evolved
     pub clear : shared_of w ≡ none (shared_of s.work)
 
-  pub record FirstHop (taken : Step) (hopped : Kept) (w : Work) : Type 0 where
+  pub record FirstHop (taken : Result Step Refusal) (hopped : Result ℕ Refusal) (w : Work) : Type 0 where
     pub before : Work
     pub copied : Copied taken before
     pub leaves : Hopped s.len hopped before w
 
-  pub record SecondHop (taken : Step) (hopped : Kept) (w : Work) : Type 0 where
+  pub record SecondHop (taken : Result Step Refusal) (hopped : Result ℕ Refusal) (w : Work) : Type 0 where
     pub before : Work
     pub k : ℕ
     pub products : ℕ
-    pub taken_is : taken ≡ Taken k products
+    pub taken_is : taken ≡ Ok (record { entries = k; products = products })
     pub room : k < limit_of s.limits
     pub first : Ends first_leg s.model.qubits grown_to s.len given_numbers taken before
     pub leaves : Hopped k hopped before w
 
   -- the predictor is done
-  pub record Predicted (taken : Step) (w : Work) : Type 0 where
+  pub record Predicted (taken : Result Step Refusal) (w : Work) : Type 0 where
     pub first : Ends first_leg s.model.qubits grown_to s.len given_numbers taken w
     pub clear : shared_of w ≡ none (shared_of s.work)
 
   -- all is done but the end
-  pub record Courses (taken : Step) (w : Work) : Type 0 where
+  pub record Courses (taken : Result Step Refusal) (w : Work) : Type 0 where
     pub told : Told course taken w.grown_words w.evolved
-    pub holds : (k products : ℕ) → taken ≡ Taken k products → Holds s.model.qubits grown_to k w.grown_words w.start w.evolved × (0 < k → 0 < s.len)
+    pub holds : (k products : ℕ) → taken ≡ Ok (record { entries = k; products = products }) → Holds s.model.qubits grown_to k w.grown_words w.start w.evolved × (0 < k → 0 < s.len)
     pub clear : shared_of w ≡ none (shared_of s.work)
 
-  pub record Standing (part : ℕ) (taken : Step) (hopped : Kept) (lanes : List ℕ) (coeffs : List Float) (w : Work) : Type 0 where
+  pub record Standing (part : ℕ) (taken : Result Step Refusal) (hopped : Result ℕ Refusal) (lanes : List ℕ) (coeffs : List Float) (w : Work) : Type 0 where
     pub few : part ≤ 6
     pub same : SameLong s.work w
     pub lanes_long : length lanes ≡ length s.lanes
     pub coeffs_long : length coeffs ≡ length s.coeffs
     pub lanes_stay : part < 6 → lanes ≡ s.lanes
     pub coeffs_stay : part < 6 → coeffs ≡ s.coeffs
-    pub accepted : 0 < part → tests_of ≡ Tests.Accepted
-    pub nothing : part ≡ 0 → (taken ≡ Taken s.len 0) × (w ≡ s.work)
+    pub accepted : 0 < part → tests_of ≡ Ok tt
+    pub nothing : part ≡ 0 → (taken ≡ Ok (record { entries = s.len; products = 0 })) × (w ≡ s.work)
     pub copied : part ≡ 1 → Copied taken w
     pub first_hop : part ≡ 2 → FirstHop taken hopped w
     pub predicted : part ≡ 3 → Predicted taken w

@@ -3,9 +3,10 @@
 
 -- The predictor-corrector step over a lent model, basis and protected list: refusals in their order, the answer, and every lent table
 -- afterwards.
-use Rattle.std.specs.Prelude.{ℕ, List, Float, length, take}
-use Rattle.refusal.specs.declared.Answer.{Answer}
-use Rattle.refusal.specs.declared.Answer.TheVariants as Tests
+use Rattle.std.specs.Prelude.{ℕ, List, Float, length, take, Result, Ok, Err}
+use Rattle.refusal.specs.declared.Refusal.{Refusal}
+use Rattle.step_parts.specs.declared.taken.Step.{Step}
+use Rattle.refusal.specs.Cause.{Answer}
 use Rattle.word.specs.Flat.{words}
 use Rattle.model.specs.Stored.{ModelTables}
 use Rattle.model.specs.declared.stored.Model.{Model}
@@ -13,19 +14,17 @@ use Rattle.limits.specs.declared.Limits.{Limits}
 use Rattle.step_laws.specs.Steps.{course_of}
 use Rattle.step_parts.specs.Lent.{Work, zeroed, places_of, step_tests}
 use Rattle.step_parts.specs.Ends.{Ending, ending}
-use Rattle.step_parts.specs.declared.taken.Step.{Step}
-use Rattle.step_parts.specs.declared.taken.Step.TheVariants.{Refused}
 
 pub record Stepping : Type 0 where
-  pub answer : Step
+  pub answer : Result Step Refusal
   pub lanes : List ℕ
   pub coeffs : List Float
   pub work : Work
 
 -- a refusal by a test changes nothing; work tables are zero after acceptance, 13, 14 and 16
 abbrev pub tested : List ℕ → List Float → Work → Answer → Ending → Stepping
-tested lanes coeffs w Tests.Accepted e = record { answer = e.answer; lanes = e.lanes; coeffs = e.coeffs; work = zeroed w }
-tested lanes coeffs w (Tests.Refused q) e = record { answer = Refused q; lanes = lanes; coeffs = coeffs; work = w }
+tested lanes coeffs w (Ok _) e = record { answer = e.answer; lanes = e.lanes; coeffs = e.coeffs; work = zeroed w }
+tested lanes coeffs w (Err q) e = record { answer = Err q; lanes = lanes; coeffs = coeffs; work = w }
 
 -- the course over the first len words and coefficients, and what prune and cap keep of the basis that it leaves
 unfoldable pub step : Model → ModelTables → List ℕ → List Float → ℕ → List ℕ → Limits → Float → Float → Work → Stepping

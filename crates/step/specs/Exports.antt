@@ -2,25 +2,24 @@
 -- SPDX-License-Identifier: Apache-2.0
 
 -- What a step answers in plain numbers, and the lengths of its work tables.
-use Rattle.std.specs.Prelude.{ℕ, ◌+◌, ◌*◌, min, max, ◌≡◌, List, Float}
+use Rattle.std.specs.Prelude.{ℕ, ◌+◌, ◌*◌, min, max, ◌≡◌, List, Float, Result, Ok, Err}
 use Rattle.refusal.specs.Cause.{status_of, answer_status}
-use Rattle.refusal.specs.declared.Answer.TheVariants.{Accepted}
+use Rattle.refusal.specs.declared.Refusal.{Refusal}
+use Rattle.step_parts.specs.declared.taken.Step.{Step}
 use Rattle.word.specs.Flat.{word_lanes}
 use Rattle.word.specs.Word.{max_qubits}
 use Rattle.lent.specs.Tests.{where_any}
 use Rattle.lent.specs.Words.{max_words}
 use Rattle.action.specs.Counts.{row_lanes}
 use Rattle.step_parts.specs.Lent.{Work}
-use Rattle.step_parts.specs.declared.taken.Step.{Step}
-use Rattle.step_parts.specs.declared.taken.Step.TheVariants.{Taken, Refused}
 use Rattle.step.specs.Calls.{Stepping}
 use Rattle.step.specs.declared.steps.SteppedBasis.{SteppedBasis}
 use Rattle.step.specs.declared.sizes.StepSizes.{StepSizes}
 
 -- the number of entries and of products, or the refusal and 0
-abbrev pub stepped_of : Step → SteppedBasis
-stepped_of (Taken entries products) = record { status = answer_status Accepted; entries = entries; products = products }
-stepped_of (Refused refusal) = record { status = status_of refusal; entries = 0; products = 0 }
+abbrev pub stepped_of : Result Step Refusal → SteppedBasis
+stepped_of (Ok step) = record { status = answer_status (Ok tt); entries = step.entries; products = step.products }
+stepped_of (Err refusal) = record { status = status_of refusal; entries = 0; products = 0 }
 
 -- what a step answers, and the lent tables afterwards
 pub record LeavesStep (s : Stepping) (r : SteppedBasis) (lanes : List ℕ) (coeffs : List Float) (w : Work) : Type 0 where

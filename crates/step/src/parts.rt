@@ -7,27 +7,24 @@ ghost use Rattle.std.specs.Prelude.{◌≡◌, ◌||◌, ◌≤◌, eqb};
 ghost use Rattle.expm.specs.Selects.{max_products};
 ghost use Rattle.step.specs.Between.{after_first, due_of, entries_in, products_in, added_to};
 
+use refusal::Refusal;
 use step_parts::taken::Step;
 
 // What comes after the predictor: the second hop if there is room, else the end.
-fn after_first(taken: Step, limit: usize) -> usize
+fn after_first(taken: Result<Step, Refusal>, limit: usize) -> usize
     ensures { result ≡ after_first limit taken }
 {
-    let Step::Taken {
-        entries,
-        products: _,
-    } = taken
-    else {
+    let Ok(step) = taken else {
         return 5;
     };
-    if limit <= entries {
+    if limit <= step.entries {
         return 5;
     }
     3
 }
 
 // The part that is due.
-pub fn due_part(part: usize, taken: Step, limit: usize) -> usize
+pub fn due_part(part: usize, taken: Result<Step, Refusal>, limit: usize) -> usize
     ensures { result ≡ due_of part limit taken }
 {
     if part == 3 {
@@ -46,43 +43,36 @@ pub fn is_hop(part: usize) -> bool
 }
 
 // How many words stand.
-pub fn entries_of(taken: Step) -> usize
+pub fn entries_of(taken: Result<Step, Refusal>) -> usize
     ensures { result ≡ entries_in taken }
 {
-    let Step::Taken {
-        entries,
-        products: _,
-    } = taken
-    else {
+    let Ok(step) = taken else {
         return 0;
     };
-    entries
+    step.entries
 }
 
-fn products_of(taken: Step) -> usize
+fn products_of(taken: Result<Step, Refusal>) -> usize
     ensures { result ≡ products_in taken }
 {
-    let Step::Taken {
-        entries: _,
-        products,
-    } = taken
-    else {
+    let Ok(step) = taken else {
         return 0;
     };
-    products
+    step.products
 }
 
 // What an evolution left, with the products of before.
-pub fn add_products(taken: Step, done: Step) -> Step
+pub fn add_products(
+    taken: Result<Step, Refusal>,
+    done: Result<Step, Refusal>,
+) -> Result<Step, Refusal>
     requires { (products_in taken ≤ max_products) × (products_in done ≤ max_products) }
     ensures { result ≡ added_to taken done }
 {
     let before = products_of(taken);
-    match done {
-        Step::Taken { entries, products } => Step::Taken {
-            entries,
-            products: before + products,
-        },
-        Step::Refused(refusal) => Step::Refused(refusal),
-    }
+    let Step { entries, products } = done?;
+    Ok(Step {
+        entries,
+        products: before + products,
+    })
 }

@@ -10,14 +10,13 @@ ghost use Rattle.step.specs.Exports.{stepped_of, LeavesStep};
 use crate::parts::{add_products, due_part, entries_of, is_hop};
 use limits::{Limits, word_limit};
 use model::stored::Model;
-use refusal::{Answer, Status};
+use refusal::{ACCEPTED, Refusal, Status};
 use step_legs::evolve::evolve_after;
 use step_legs::hop::hop;
 use step_parts::begin::begin_step;
 use step_parts::finish::end_step;
 use step_parts::places::grown_places;
 use step_parts::taken::Step;
-use truncate::kept::Kept;
 use word::flat::WORD_LANES;
 
 // How many entries the basis has, and the number of products; both 0 where the status is a refusal.
@@ -29,24 +28,22 @@ pub struct SteppedBasis {
     pub products: usize,
 }
 
-fn stepped_of(answer: Step) -> SteppedBasis
-    ensures { result ≡ stepped_of answer }
-{
-    match answer {
-        Step::Taken { entries, products } => SteppedBasis {
-            status: Status {
-                refusal: 0,
-                first: 0,
-                second: 0,
+impl From<Result<Step, Refusal>> for SteppedBasis {
+    ghost from_gives = { λ answer made. made ≡ stepped_of answer };
+
+    fn from(answer: Result<Step, Refusal>) -> SteppedBasis {
+        match answer {
+            Ok(Step { entries, products }) => SteppedBasis {
+                status: ACCEPTED,
+                entries,
+                products,
             },
-            entries,
-            products,
-        },
-        Step::Refused(refusal) => SteppedBasis {
-            status: refusal::status_of(refusal),
-            entries: 0,
-            products: 0,
-        },
+            Err(refusal) => SteppedBasis {
+                status: Status::from(refusal),
+                entries: 0,
+                products: 0,
+            },
+        }
     }
 }
 
@@ -105,11 +102,11 @@ pub fn pebblelinen_step(
         protected.len() / WORD_LANES,
     );
     let limit = word_limit(limits);
-    let mut taken = Step::Taken {
+    let mut taken = Ok(Step {
         entries: len,
         products: 0,
-    };
-    let mut hopped = Kept::Entries(len);
+    });
+    let mut hopped = Ok(len);
     let mut part = 0;
     while part < 6 {
         let due = due_part(part, taken, limit);
@@ -143,8 +140,8 @@ pub fn pebblelinen_step(
                 start,
                 evolved,
             );
-            if let Answer::Refused(refusal) = tests {
-                return stepped_of(Step::Refused(refusal));
+            if let Err(refusal) = tests {
+                return SteppedBasis::from(Err(refusal));
             }
             part = due + 1;
             continue;
@@ -245,5 +242,5 @@ pub fn pebblelinen_step(
         taken = add_products(taken, done);
         part = due + 1;
     }
-    stepped_of(taken)
+    SteppedBasis::from(taken)
 }

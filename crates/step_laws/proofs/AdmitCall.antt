@@ -3,6 +3,7 @@
 
 -- The admission of a step is that of the call: over lent tables a basis and a list that pass are accepted, and behind the basis stand
 -- the words that enter plain lists, each with a zero. Assumes nothing.
+use Rattle.std.specs.Prelude.{Result}
 use mathlib.Core.Path.{◌≡◌, refl, sym, ap, ap₂, subst, ◌∙◌}
 use mathlib.Core.Bool.{Bool, true, false, cond}
 use mathlib.Core.List.{List, ◌++◌, append_assoc}
@@ -15,7 +16,7 @@ use lib.ListN.{length, take, drop, replicate, length-append, length-drop, length
 use lib.Seq.{take_all, take_at, take-length, length-take-le}
 use Rattle.refusal.specs.declared.Refusal.{Refusal}
 use Rattle.refusal.specs.declared.Refusal.TheVariants.{TableFull}
-use Rattle.refusal.specs.declared.Answer.TheVariants as Tests
+use Rattle.std.specs.Prelude.{Ok, Err}
 use Rattle.word.specs.Word.{max_qubits}
 use Rattle.word.specs.Flat.{words, flat_lanes, word_lanes}
 use Rattle.word.specs.declared.word.Word.{Word}
@@ -29,7 +30,6 @@ use Rattle.lent.specs.Words.{max_words}
 use Rattle.model.specs.Stored.{ModelTables}
 use Rattle.model.specs.declared.stored.Model.{Model}
 use Rattle.truncate.specs.Admissions.{admit_flags, Admitting, left, basis_places, admit_tests, admit}
-use Rattle.truncate.specs.declared.kept.Kept.TheVariants.{Entries, Refused}
 use Rattle.truncate.proofs.AdmissionLaws.{words_after, coeffs_after}
 use Rattle.truncate_laws.proofs.StaysLaws.{admit_long}
 use Rattle.truncate_laws.proofs.AcceptedCalls.{entries_same}
@@ -40,10 +40,10 @@ use Rattle.step_laws.specs.Passing.{Fit, Held, AdmitCall}
 use Rattle.step_laws.proofs.CourseLaws.{no_value, same_value, same_refused}
 use Rattle.step_laws.proofs.HeldLaws.{held_words, held_numbers, inside_passes, finite_passes, lanes_count}
 
-pub no_entries : (q : Refusal) (r : ℕ) → Refused q ≡ Entries r → ⊥
+pub no_entries : (q : Refusal) (r : ℕ) → ◌≡◌ {A = Result ℕ Refusal} (Err q) (Ok r) → ⊥
 no_entries q r e = let z : ◌≡◌ {A = ℕ} 0 1 = cc in omega arith
 
-pub same_answer : (q r : Refusal) → Refused q ≡ Refused r → q ≡ r
+pub same_answer : (q r : Refusal) → ◌≡◌ {A = Result ℕ Refusal} (Err q) (Err r) → q ≡ r
 same_answer q r e = cc
 
 -- a basis, and a list of k words in the first places of other tables
@@ -74,7 +74,7 @@ module _ (n : ℕ) (lanes : List ℕ) (coeffs : List Float) (len : ℕ) (ws : Li
 
   module _ (register : n ≤ max_qubits) (fit : Fit n ws cs) (list-fit : Fit n (words_of R) (sums_of R)) (limit-low : limit ≤ max_words)
       (order-long : k ≤ length order) (work-long : k ≤ length work) (kept-long : k ≤ length kept) where
-    pub admit_accepted : admit_tests len lanes coeffs list values order work kept n limit ≡ Tests.Accepted
+    pub admit_accepted : admit_tests len lanes coeffs list values order work kept n limit ≡ Ok tt
     unfolding admit_tests
     admit_accepted =
         rw (
@@ -93,7 +93,7 @@ module _ (n : ℕ) (lanes : List ℕ) (coeffs : List Float) (len : ℕ) (ws : Li
         (inside_passes lanes coeffs len ws cs h n _ fit.inside
         ∙ inside_passes list values (length values) (words_of R) (sums_of R) list_held n _ list-fit.inside
         ∙ finite_passes lanes coeffs len ws cs h 0 _ fit.finite
-        ∙ finite_passes list values (length values) (words_of R) (sums_of R) list_held len Tests.Accepted list-fit.finite)
+        ∙ finite_passes list values (length values) (words_of R) (sums_of R) list_held len (Ok tt) list-fit.finite)
 
     module _ (m : Model) (t : ModelTables) (protected : List Word) (dt : Float) (places : Places) (basis : places.basis ≡ basis_places len lanes coeffs list values order work kept) where
       abbrev after : Admitting
@@ -126,8 +126,8 @@ module _ (n : ℕ) (lanes : List ℕ) (coeffs : List Float) (len : ℕ) (ws : Li
 
       after_is : (b : Bool) → ltb room (len + flagged flags) ≡ b
           → after
-          ≡ cond b (left len lanes coeffs list values order work kept (Refused (TableFull 3 room)) lanes coeffs)
-          (left len lanes coeffs list values order work kept (Entries (len + flagged flags)) (appended_lanes len (picked (length values) flags list) lanes) (appended_zeros len (flagged flags) coeffs))
+          ≡ cond b (left len lanes coeffs list values order work kept (Err (TableFull 3 room)) lanes coeffs)
+          (left len lanes coeffs list values order work kept (Ok (len + flagged flags)) (appended_lanes len (picked (length values) flags list) lanes) (appended_zeros len (flagged flags) coeffs))
       unfolding admit
       after_is b e = rw (admit_accepted, e)
 
@@ -141,7 +141,7 @@ module _ (n : ℕ) (lanes : List ℕ) (coeffs : List Float) (len : ℕ) (ws : Li
       call_full e =
           let a = after_is true e in
           let p : plain ≡ refused (TableFull 3 room) = plain_is true e in
-          let answer : after.answer ≡ Refused (TableFull 3 room) = ap (λ (x : Admitting). x.answer) a in
+          let answer : after.answer ≡ Err (TableFull 3 room) = ap (λ (x : Admitting). x.answer) a in
           record {
             order_zero = ap (λ (x : Admitting). x.order) a;
             work_zero = ap (λ (x : Admitting). x.work) a;
@@ -149,7 +149,7 @@ module _ (n : ℕ) (lanes : List ℕ) (coeffs : List Float) (len : ℕ) (ws : Li
             lanes_long = ap (λ (x : Admitting). length x.lanes) a;
             coeffs_long = ap (λ (x : Admitting). length x.coeffs) a;
             entered = λ vs f. absurd (no_value (TableFull 3 room) vs (sym p ∙ f));
-            turned = λ q f. (answer ∙ ap Refused (same_refused (TableFull 3 room) q (sym p ∙ f)), ap (λ (x : Admitting). x.lanes) a, ap (λ (x : Admitting). x.coeffs) a);
+            turned = λ q f. (answer ∙ ap Err (same_refused (TableFull 3 room) q (sym p ∙ f)), ap (λ (x : Admitting). x.lanes) a, ap (λ (x : Admitting). x.coeffs) a);
             by_entries = λ r f. absurd (no_entries (TableFull 3 room) r (sym answer ∙ f));
             by_refusal = λ q f. p ∙ ap refused (same_answer (TableFull 3 room) q (sym answer ∙ f));
           }
@@ -164,16 +164,16 @@ module _ (n : ℕ) (lanes : List ℕ) (coeffs : List Float) (len : ℕ) (ws : Li
             kept_zero = ap (λ (x : Admitting). x.kept) a;
             lanes_long = long_lanes;
             coeffs_long = long_coeffs;
-            entered = λ vs f. subst (λ (l : List Word). (after.answer ≡ Entries (len + length l)) × Held after.lanes after.coeffs (len + length l) (ws ++ l) (cs ++ replicate (length l) float0)) (same_value us vs (sym p ∙ f)) (answer ∙ ap (λ (j : ℕ). Entries (len + j)) (sym us_long), holds);
+            entered = λ vs f. subst (λ (l : List Word). (after.answer ≡ Ok (len + length l)) × Held after.lanes after.coeffs (len + length l) (ws ++ l) (cs ++ replicate (length l) float0)) (same_value us vs (sym p ∙ f)) (answer ∙ ap (λ (j : ℕ). Ok (len + j)) (sym us_long), holds);
             turned = λ q f. absurd (no_value q us (sym f ∙ p));
-            by_entries = λ r f. (us, (p, entries_same r (len + length us) (sym f ∙ answer ∙ ap (λ (j : ℕ). Entries (len + j)) (sym us_long))));
+            by_entries = λ r f. (us, (p, entries_same r (len + length us) (sym f ∙ answer ∙ ap (λ (j : ℕ). Ok (len + j)) (sym us_long))));
             by_refusal = λ q f. absurd (no_entries q (len + flagged flags) (sym f ∙ answer));
           }
         where
           fits : len + flagged flags ≤ room
           fits = ltb-false room (len + flagged flags) e
 
-          answer : after.answer ≡ Entries (len + flagged flags)
+          answer : after.answer ≡ Ok (len + flagged flags)
           answer = ap (λ (x : Admitting). x.answer) (after_is false e)
 
           long_lanes : length after.lanes ≡ length lanes

@@ -16,7 +16,7 @@ use Rattle.word.proofs.FlatLaws.{words_high}
 use Rattle.number.specs.Floats.{float0}
 use Rattle.keep.specs.Retained.{pick, flagged}
 use Rattle.truncate.specs.Prunes.{protected_flags, prune_flags, cap_flags, Keeping, prune, cap}
-use Rattle.truncate.specs.declared.kept.Kept.TheVariants.{Entries}
+use Rattle.std.specs.Prelude.{Ok}
 use Rattle.truncate.proofs.CapLaws.{cap_room}
 use Rattle.truncate_laws.specs.Keeps.{pruned_flags, capped_flags, Stays}
 use Rattle.truncate_laws.proofs.AcceptedCalls.{entries_same, cap_accepted}
@@ -34,7 +34,7 @@ module _ (len : ℕ) (lanes : List ℕ) (coeffs : List Float) (order work fixed 
   lent_basis = record { words = take len (words lanes); numbers = take len coeffs; products = products }
 
   -- flags that are all raised where a call does nothing
-  picks : (b : Bool) (flags : List ℕ) (r : ℕ) (after : Keeping) → Stays len lanes coeffs (cond b (replicate len 1) flags) after → after.answer ≡ Entries r
+  picks : (b : Bool) (flags : List ℕ) (r : ℕ) (after : Keeping) → Stays len lanes coeffs (cond b (replicate len 1) flags) after → after.answer ≡ Ok r
       → Leaves r after (cond b lent_basis (kept_by (words protected) flags lent_basis))
   picks b flags r after st answer =
       let is : r ≡ flagged (cond b (replicate len 1) flags) = entries_same r (flagged (cond b (replicate len 1) flags)) (sym answer ∙ st.answers) in
@@ -51,13 +51,13 @@ module _ (len : ℕ) (lanes : List ℕ) (coeffs : List Float) (order work fixed 
       as_numbers true = ones_pick len (take len coeffs) (omega (arith, length-take len coeffs))
       as_numbers false = refl
 
-  pub prune_leaves : (tol : Float) (r : ℕ) → (prune len lanes coeffs order work fixed kept n protected tol).answer ≡ Entries r
+  pub prune_leaves : (tol : Float) (r : ℕ) → (prune len lanes coeffs order work fixed kept n protected tol).answer ≡ Ok r
       → Leaves r (prune len lanes coeffs order work fixed kept n protected tol) (pruned_by (words protected) tol (lent_basis))
   unfolding pruned_flags prune_flags protected_flags pruned_by
   prune_leaves tol r answer =
       picks (le tol float0) (prune_flags len lanes coeffs protected tol) r (prune len lanes coeffs order work fixed kept n protected tol) (prune_stays len lanes coeffs order work fixed kept n protected tol r answer) answer
 
-  pub cap_leaves : (limit r : ℕ) → (cap len lanes coeffs order work fixed kept n protected limit).answer ≡ Entries r
+  pub cap_leaves : (limit r : ℕ) → (cap len lanes coeffs order work fixed kept n protected limit).answer ≡ Ok r
       → Leaves r (cap len lanes coeffs order work fixed kept n protected limit) (capped_by (words protected) limit (lent_basis))
   unfolding capped_flags cap_flags protected_flags capped_by
   cap_leaves limit r answer =

@@ -13,7 +13,7 @@ use lib.Dec.{eqb, leb}
 use lib.Ieee.{Float, nan, le}
 use lib.ListN.{length, take, replicate, length-append, length-replicate}
 use lib.Seq.{take_all, take_at}
-use Rattle.refusal.specs.declared.Answer.TheVariants as Tests
+use Rattle.std.specs.Prelude.{Ok}
 use Rattle.word.specs.Word.{max_qubits, identity}
 use Rattle.word.specs.Flat.{words, flat_lanes, word_lanes}
 use Rattle.word.specs.Register.{reaches}
@@ -30,7 +30,6 @@ use Rattle.keep.proofs.RetainLaws.{retained_words}
 use Rattle.lent.specs.Tests.{where_any}
 use Rattle.lent.specs.Words.{max_words}
 use Rattle.truncate.specs.Prunes.{protected_flags, prune_flags, cap_flags, Keeping, left, retained, prune_tests, cap_tests, prune, cap}
-use Rattle.truncate.specs.declared.kept.Kept.TheVariants.{Entries}
 use Rattle.truncate_laws.proofs.StaysLaws.{prune_long, cap_long}
 use Rattle.step_laws.specs.Steps.{Stepped, protected_in, kept_by, pruned_by, capped_by}
 use Rattle.step_laws.specs.Passing.{Fit, Held, GoodProtected, EndPlaces, EndCall}
@@ -79,7 +78,7 @@ module _ (n : ℕ) (lanes : List ℕ) (coeffs : List Float) (len : ℕ) (ws : Li
   idle =
       let e : length ws ≡ len = held_words lanes coeffs len ws cs h in
       record {
-        answers = ap Entries (sym e);
+        answers = ap Ok (sym e);
         holds = subst (λ (k : ℕ). Held lanes coeffs k ws cs) (sym e) h;
         fewer = omega (arith, e);
         lanes_long = refl;
@@ -121,7 +120,7 @@ module _ (n : ℕ) (lanes : List ℕ) (coeffs : List Float) (len : ℕ) (ws : Li
 
     acted : EndCall lanes coeffs len order work fixed kept after (kept_by (words protected) flags given)
     acted = record {
-      answers = ap Entries (sym words_count);
+      answers = ap Ok (sym words_count);
       holds = record {
         lanes_long = omega (arith, lanes_same, words_count, few, h.lanes_long);
         numbers_long = omega (arith, coeffs_same, words_count, few, h.numbers_long);
@@ -165,7 +164,7 @@ module _ (n : ℕ) (lanes : List ℕ) (coeffs : List Float) (len : ℕ) (ws : Li
     work_room : where_any len (max len count) ≤ length work
     work_room = need_none len (max len count) (length work) (λ a. omega (arith, lent.work_long, lent.work_protected a))
 
-    pub prune_accepted : (tol : Float) → is_finite tol ≡ true → prune_tests len lanes coeffs order work fixed kept n protected tol ≡ Tests.Accepted
+    pub prune_accepted : (tol : Float) → is_finite tol ≡ true → prune_tests len lanes coeffs order work fixed kept n protected tol ≡ Ok tt
     unfolding prune_tests
     prune_accepted tol tol-finite =
         rw (
@@ -182,7 +181,7 @@ module _ (n : ℕ) (lanes : List ℕ) (coeffs : List Float) (len : ℕ) (ws : Li
         )
         (inside_passes lanes coeffs len ws cs h n _ fit.inside ∙ protected_passes n protected _ good ∙ finite_passes lanes coeffs len ws cs h 0 _ fit.finite ∙ rw tol-finite)
 
-    pub cap_accepted : (limit : ℕ) → limit ≤ max_words → cap_tests len lanes coeffs order work fixed kept n protected limit ≡ Tests.Accepted
+    pub cap_accepted : (limit : ℕ) → limit ≤ max_words → cap_tests len lanes coeffs order work fixed kept n protected limit ≡ Ok tt
     unfolding cap_tests
     cap_accepted limit low =
         rw (
@@ -198,7 +197,7 @@ module _ (n : ℕ) (lanes : List ℕ) (coeffs : List Float) (len : ℕ) (ws : Li
           le-ltb (length fixed) len lent.fixed_long,
           le-ltb (length kept) len lent.kept_long,
         )
-        (inside_passes lanes coeffs len ws cs h n _ fit.inside ∙ protected_passes n protected _ good ∙ finite_passes lanes coeffs len ws cs h 0 Tests.Accepted fit.finite)
+        (inside_passes lanes coeffs len ws cs h n _ fit.inside ∙ protected_passes n protected _ good ∙ finite_passes lanes coeffs len ws cs h 0 (Ok tt) fit.finite)
 
     pub prune_call : (tol : Float) → is_finite tol ≡ true → EndCall lanes coeffs len order work fixed kept (prune len lanes coeffs order work fixed kept n protected tol) (pruned_by (words protected) tol given)
     unfolding prune pruned_by

@@ -16,8 +16,9 @@ use lib.Ieee.Fits.{add-fits}
 use lib.ListN.{length, get_or, drop, replicate, length-append, length-replicate, get_or-replicate, drop_of_length-le, get_or-append}
 use lib.Seq.{get_or-append-add}
 use Rattle.refusal.specs.declared.Refusal.{Refusal}
-use Rattle.refusal.specs.declared.Answer.{Answer}
-use Rattle.refusal.specs.declared.Answer.TheVariants as Tests
+use Rattle.std.specs.Prelude.{Result, Ok, Err}
+use Rattle.expm.specs.declared.Degree.{Degree}
+use Rattle.refusal.specs.Cause.{Answer}
 use Rattle.word.specs.declared.word.Word.{Word}
 use Rattle.number.specs.Floats.{floats, float0, magnitude, is_finite}
 use Rattle.lent.specs.Read.{got}
@@ -26,13 +27,9 @@ use Rattle.lent.specs.Numbers.{not_finite}
 use Rattle.lent.proofs.Firsts.{first_before}
 use Rattle.expm.specs.Theta.{Row, decimal}
 use Rattle.expm.specs.Selects.{degree_by, table_for, under_ceiling, chosen}
-use Rattle.expm.specs.declared.Chosen.{Chosen}
-use Rattle.expm.specs.declared.Chosen.TheVariants as Choice
 use Rattle.csr.proofs.PassLaws.{product_length}
 use Rattle.taylor.specs.Stages.{Evolution, evolved, stopped, swept, added, product_of, next_of, terms, stage, stages}
 use Rattle.taylor.specs.Evolves.{Evolves, answer_after, out_after, evolve_with, evolve_by}
-use Rattle.taylor.specs.declared.evolve.Evolved.{Evolved}
-use Rattle.taylor.specs.declared.evolve.Evolved.TheVariants.{Products, Refused}
 use Rattle.taylor.proofs.SweepLaws.{scaled_long, added_long, added_at}
 use Rattle.model.specs.Stored.{ModelTables}
 use Rattle.model.specs.declared.stored.Model.{Model}
@@ -129,25 +126,25 @@ module _ (P : Float → Type 0) (of-sums : OfSums P) (offsets columns : List ℕ
 
 -- ---- the degree chosen, and what is written out
 module _ (P : Float → Type 0) (of-sums : OfSums P) (offsets columns : List ℕ) (values : List Float) (dt : Float) (cs : List Float) (f : (i : ℕ) → i < length cs → P (get_or cs i nan)) where
-  no_products : (q : Refusal) (k : ℕ) → Refused q ≡ Products k → ⊥
+  no_products : (q : Refusal) (k : ℕ) → ◌≡◌ {A = Result ℕ Refusal} (Err q) (Ok k) → ⊥
   no_products q k e = let z : ◌≡◌ {A = ℕ} 0 1 = cc in omega arith
 
-  with_leaves : (c : Chosen) (k : ℕ) → (evolve_with offsets columns values dt cs cs c).answer ≡ Products k → Numbers P cs (evolve_with offsets columns values dt cs cs c).out
-  with_leaves (Choice.Pair d) k e = go (stages offsets columns values d.m d.s dt d.s cs) refl e
+  with_leaves : (c : Result Degree Refusal) (k : ℕ) → (evolve_with offsets columns values dt cs cs c).answer ≡ Ok k → Numbers P cs (evolve_with offsets columns values dt cs cs c).out
+  with_leaves (Ok d) k e = go (stages offsets columns values d.m d.s dt d.s cs) refl e
     where
-      go : (x : Evolution) → stages offsets columns values d.m d.s dt d.s cs ≡ x → answer_after (d.m * d.s) x ≡ Products k → Numbers P cs (out_after (length cs) cs x)
+      go : (x : Evolution) → stages offsets columns values d.m d.s dt d.s cs ≡ x → answer_after (d.m * d.s) x ≡ Ok k → Numbers P cs (out_after (length cs) cs x)
       go (evolved v) t a =
           let i : v ++ drop (length cs) cs ≡ v = ap (λ (l : List Float). v ++ l) (drop_of_length-le cs {i = length cs} (omega arith)) ∙ append-nil v in
           subst (Numbers P cs) (sym i) (stages_leave P of-sums offsets columns values d.m d.s dt d.s cs v f t)
       go (stopped r) t a = absurd (no_products _ k a)
-  with_leaves (Choice.Refused q) k e = absurd (no_products q k e)
+  with_leaves (Err q) k e = absurd (no_products q k e)
 
-  evolve_leaves : (norm dropTol : Float) (k : ℕ) → (evolve_by offsets columns values dt cs cs norm dropTol).answer ≡ Products k → Numbers P cs (evolve_by offsets columns values dt cs cs norm dropTol).out
+  evolve_leaves : (norm dropTol : Float) (k : ℕ) → (evolve_by offsets columns values dt cs cs norm dropTol).answer ≡ Ok k → Numbers P cs (evolve_by offsets columns values dt cs cs norm dropTol).out
   unfolding evolve_by
   evolve_leaves norm dropTol k e = go (eqb (length cs) 0) e
     where
-      go : (b : Bool) → (cond b (record { answer = Products 0; out = cs }) (evolve_with offsets columns values dt cs cs (chosen dropTol (floats.times (magnitude dt) norm)))).answer ≡ Products k
-          → Numbers P cs (cond b (record { answer = Products 0; out = cs }) (evolve_with offsets columns values dt cs cs (chosen dropTol (floats.times (magnitude dt) norm)))).out
+      go : (b : Bool) → (cond b (record { answer = Ok 0; out = cs }) (evolve_with offsets columns values dt cs cs (chosen dropTol (floats.times (magnitude dt) norm)))).answer ≡ Ok k
+          → Numbers P cs (cond b (record { answer = Ok 0; out = cs }) (evolve_with offsets columns values dt cs cs (chosen dropTol (floats.times (magnitude dt) norm)))).out
       go true e = record { long = refl; each = f }
       go false e = with_leaves (chosen dropTol (floats.times (magnitude dt) norm)) k e
 
@@ -158,13 +155,13 @@ module _ (m : Model) (t : ModelTables) (protected : List Word) (dt : Float) (pla
   unfolding evolution
   evolution_each P of-sums dropTol ws cs o f e = go (generator_room m t ws places.touched places.entries) e
     where
-      answers : (x : Evolves) (a : Evolved) → x.answer ≡ a → ((k : ℕ) → x.answer ≡ Products k → Numbers P cs x.out) → outcome_of m t protected dt places x.out a ≡ got o → Numbers P cs o.numbers
-      answers x (Products k) i h g = subst (Numbers P cs) (ap (λ (r : Outcome). r.numbers) (same_value _ o g)) (h k i)
-      answers x (Refused q) i h g = absurd (no_value q o g)
+      answers : (x : Evolves) (a : Result ℕ Refusal) → x.answer ≡ a → ((k : ℕ) → x.answer ≡ Ok k → Numbers P cs x.out) → outcome_of m t protected dt places x.out a ≡ got o → Numbers P cs o.numbers
+      answers x (Ok k) i h g = subst (Numbers P cs) (ap (λ (r : Outcome). r.numbers) (same_value _ o g)) (h k i)
+      answers x (Err q) i h g = absurd (no_value q o g)
 
       go : (a : Answer) → outcome_of m t protected dt places (room_then m t ws (length ws) cs dt dropTol a cs).out (room_then m t ws (length ws) cs dt dropTol a cs).answer ≡ got o → Numbers P cs o.numbers
-      go Tests.Accepted g = answers (by_generator m t ws (length ws) cs dt dropTol cs) _ refl (λ k i. evolve_leaves P of-sums _ _ _ dt cs f _ dropTol k i) g
-      go (Tests.Refused q) g = absurd (no_value q o g)
+      go (Ok _) g = answers (by_generator m t ws (length ws) cs dt dropTol cs) _ refl (λ k i. evolve_leaves P of-sums _ _ _ dt cs f _ dropTol k i) g
+      go (Err q) g = absurd (no_value q o g)
 
   pub evolution_leaves : (dropTol : Float) (ws : List Word) (cs : List Float) (o : Outcome) → AllFinite cs → evolution m t protected dt places dropTol ws cs ≡ got o → Numbers Finite cs o.numbers
   evolution_leaves = evolution_each Finite (λ x y h. record { fitting = add-fits binary64 x y; finite = h })
@@ -182,11 +179,11 @@ module _ (m : Model) (t : ModelTables) (protected : List Word) (dt : Float) (pla
     evolve_same : (offsets columns : List ℕ) (values : List Float) (cs out : List Float) (norm : Float) → evolve_by offsets columns values dt cs out norm dropTol ≡ evolve_by offsets columns values dt cs out norm dropTol'
     unfolding evolve_by chosen
     evolve_same offsets columns values cs out norm =
-        ap (λ (table : List Row). cond (eqb (length cs) 0) (record { answer = Products 0; out = out }) (evolve_with offsets columns values dt cs out (under_ceiling (degree_by table (floats.times (magnitude dt) norm))))) table_same
+        ap (λ (table : List Row). cond (eqb (length cs) 0) (record { answer = Ok 0; out = out }) (evolve_with offsets columns values dt cs out (under_ceiling (degree_by table (floats.times (magnitude dt) norm))))) table_same
 
     room_same : (ws : List Word) (cs : List Float) (a : Answer) → room_then m t ws (length ws) cs dt dropTol a cs ≡ room_then m t ws (length ws) cs dt dropTol' a cs
-    room_same ws cs Tests.Accepted = evolve_same _ _ _ cs cs _
-    room_same ws cs (Tests.Refused q) = refl
+    room_same ws cs (Ok _) = evolve_same _ _ _ cs cs _
+    room_same ws cs (Err q) = refl
 
     pub evolution_same : evolution m t protected dt places dropTol ≡ evolution m t protected dt places dropTol'
     unfolding evolution

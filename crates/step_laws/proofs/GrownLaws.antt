@@ -15,7 +15,7 @@ use lib.Ieee.{Float, nan}
 use lib.ListN.{length, get_or, take, drop, replicate, replicate-append-replicate, length-append, length-map, get_or-append, get_or-eq_default}
 use lib.Seq.{take-append-le, take-append-add, get_or-append-add}
 use Rattle.refusal.specs.declared.Refusal.TheVariants.{TableFull}
-use Rattle.refusal.specs.declared.Answer.TheVariants.{Accepted}
+use Rattle.std.specs.Prelude.{Ok}
 use Rattle.word.specs.Order.{before, same}
 use Rattle.word.specs.Word.{identity}
 use Rattle.word.specs.Register.{reaches}
@@ -217,7 +217,7 @@ pub record Lists (n : ℕ) (ws : List Word) (list : Rows) : Type 0 where
   pub finite : AreFinite (sums_of list)
   pub apart : first_repeat ws ≡ length ws → first_repeat (ws ++ words_of list) ≡ length (ws ++ words_of list)
 
-module _ (m : Model) (t : ModelTables) (ok : test_model m t ≡ Accepted) (protected : List Word) (dt : Float) (places : Places) (limit : ℕ) (tau : Float) (ws : List Word) (cs : List Float) (below : Inside m.qubits ws) where
+module _ (m : Model) (t : ModelTables) (ok : test_model m t ≡ Ok tt) (protected : List Word) (dt : Float) (places : Places) (limit : ℕ) (tau : Float) (ws : List Word) (cs : List Float) (below : Inside m.qubits ws) where
   -- inside the register, and not in the basis
   abbrev New : Word → Type 0
   New w = (reaches w m.qubits ≡ false) × (is_among w ws ≡ false)

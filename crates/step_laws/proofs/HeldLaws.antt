@@ -13,8 +13,8 @@ use lib.Ieee.{Float, nan}
 use lib.ListN.{length, get_or, length-append}
 use lib.Seq.{get_or-take, length-take-le}
 use Rattle.refusal.specs.declared.Refusal.TheVariants.{RepeatedBasisWord}
-use Rattle.refusal.specs.declared.Answer.{Answer}
-use Rattle.refusal.specs.declared.Answer.TheVariants.{Accepted}
+use Rattle.std.specs.Prelude.{Ok}
+use Rattle.refusal.specs.Cause.{Answer}
 use Rattle.word.specs.Word.{identity}
 use Rattle.word.specs.Flat.{words, flat_lanes, word_lanes}
 use Rattle.word.specs.Register.{reaches}
@@ -69,14 +69,14 @@ need_none zero places have h = omega arith
 need_none (suc count) places have h = h (omega arith)
 
 -- ---- 12 is not given exactly where the words differ
-pub apart_passes : (ws : List Word) → first_repeat ws ≡ length ws → distinct ws ≡ Accepted
+pub apart_passes : (ws : List Word) → first_repeat ws ≡ length ws → distinct ws ≡ Ok tt
 unfolding distinct
 apart_passes ws e = rw (le-ltb (first_repeat ws) (length ws) (omega (arith, e)))
 
-pub passes_apart : (ws : List Word) → distinct ws ≡ Accepted → first_repeat ws ≡ length ws
+pub passes_apart : (ws : List Word) → distinct ws ≡ Ok tt → first_repeat ws ≡ length ws
 unfolding distinct first_repeat
 passes_apart ws e =
-    let p = passed (ltb (first_repeat ws) (length ws)) (RepeatedBasisWord (first_repeat ws)) Accepted e in
+    let p = passed (ltb (first_repeat ws) (length ws)) (RepeatedBasisWord (first_repeat ws)) (Ok tt) e in
     omega (arith, ltb-false (first_repeat ws) (length ws) p.0, first_inside (length ws) (repeats_at ws))
 
 -- ---- the lanes of whole words

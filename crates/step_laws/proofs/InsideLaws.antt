@@ -6,7 +6,7 @@ use mathlib.Core.Path.{◌≡◌, ◌∙◌}
 use mathlib.Core.Bool.{false}
 use mathlib.Core.List.{List, [], ◌∷◌}
 use Prim.Native.Nat.{ℕ, ◌≤◌, ◌<◌}
-use Rattle.refusal.specs.declared.Answer.TheVariants.{Accepted}
+use Rattle.std.specs.Prelude.{Ok}
 use Rattle.word.specs.Word.{max_qubits, letter_at}
 use Rattle.word.specs.Register.{reaches}
 use Rattle.word.specs.declared.word.Word.{Word}
@@ -28,7 +28,7 @@ each_inside n [] h = tt
 each_inside n (c ∷ A) h = (none_reaches c.word n (λ q l k. (h q l k).0), each_inside n A (λ q l k. (h q l k).1))
 
 -- from n on no stored word has a letter, so that each word listed has p's, which is none
-pub action_inside : (m : Model) (t : ModelTables) → test_model m t ≡ Accepted → (p : Word) → reaches p m.qubits ≡ false → Every (λ c. reaches c.word m.qubits ≡ false) (action_of m t p)
+pub action_inside : (m : Model) (t : ModelTables) → test_model m t ≡ Ok tt → (p : Word) → reaches p m.qubits ≡ false → Every (λ c. reaches c.word m.qubits ≡ false) (action_of m t p)
 action_inside m t ok p below =
     let n : ℕ = m.qubits in
     let s : Stands m t = tested_stands m t ok in

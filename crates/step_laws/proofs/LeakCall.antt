@@ -3,6 +3,7 @@
 
 -- The leakage of a step is that of the call: over lent tables that have their places, a basis that passes is accepted, and what is listed
 -- are the words and sums that plain lists give. Assumes nothing.
+use Rattle.std.specs.Prelude.{Result}
 use mathlib.Core.Path.{◌≡◌, refl, sym, ap, subst, ◌∙◌}
 use mathlib.Core.Bool.{Bool, true, false, cond}
 use mathlib.Core.List.{List, [], ◌∷◌}
@@ -14,7 +15,7 @@ use lib.Ieee.{Float}
 use lib.ListN.{length, take, drop, set, length-set}
 use Rattle.refusal.specs.declared.Refusal.{Refusal}
 use Rattle.refusal.specs.declared.Refusal.TheVariants.{TableFull}
-use Rattle.refusal.specs.declared.Answer.TheVariants as Tests
+use Rattle.std.specs.Prelude.{Ok, Err}
 use Rattle.word.specs.Flat.{words, lay_word, word_lanes}
 use Rattle.word.specs.declared.word.Word.{Word}
 use Rattle.word.proofs.FlatLaws.{words_high}
@@ -28,7 +29,6 @@ use Rattle.model.specs.declared.stored.Model.{Model}
 use Rattle.model_laws.proofs.LaidLaws.{word_length}
 use Rattle.action.specs.Acts.{list_places}
 use Rattle.action.specs.Counts.{row_lanes}
-use Rattle.action.specs.declared.act.Acted.TheVariants.{Listed, Refused}
 use Rattle.candidates.specs.Tables.{Rows, rows, candidate_rows, put_rows}
 use Rattle.limits.specs.Defaults.{limit_of, tau_of, limit_tests, tau_tests}
 use Rattle.limits.specs.declared.Limits.{Limits}
@@ -79,23 +79,23 @@ table_words (suc n) (w ∷ ws) [] h l = absurd (omega arith)
 table_words (suc n) (w ∷ ws) (x ∷ xs) h l = ap (λ (t : List Word). w ∷ t) (table_words n ws xs (omega arith) (omega arith))
 
 -- ---- answers
-pub no_list : (q : Refusal) (k : ℕ) → Refused q ≡ Listed k → ⊥
+pub no_list : (q : Refusal) (k : ℕ) → ◌≡◌ {A = Result ℕ Refusal} (Err q) (Ok k) → ⊥
 no_list q k e = let z : ◌≡◌ {A = ℕ} 0 1 = cc in omega arith
 
-pub same_count : (j k : ℕ) → Listed j ≡ Listed k → j ≡ k
+pub same_count : (j k : ℕ) → ◌≡◌ {A = Result ℕ Refusal} (Ok j) (Ok k) → j ≡ k
 same_count j k e = cc
 
-pub same_answer : (q r : Refusal) → Refused q ≡ Refused r → q ≡ r
+pub same_answer : (q r : Refusal) → ◌≡◌ {A = Result ℕ Refusal} (Err q) (Err r) → q ≡ r
 same_answer q r e = cc
 
 -- ---- the tests
-module _ (m : Model) (t : ModelTables) (ok : test_model m t ≡ Tests.Accepted) (lanes : List ℕ) (coeffs : List Float) (len : ℕ) (ws : List Word) (cs : List Float) (h : Held lanes coeffs len ws cs)
+module _ (m : Model) (t : ModelTables) (ok : test_model m t ≡ Ok tt) (lanes : List ℕ) (coeffs : List Float) (len : ℕ) (ws : List Word) (cs : List Float) (h : Held lanes coeffs len ws cs)
     (fit : Fit m.qubits ws cs) (protected : List ℕ) (good : GoodProtected m.qubits protected)
-    (l : Limits) (limits-ok : limit_tests l ≡ Tests.Accepted) (tau-ok : tau_tests len l ≡ Tests.Accepted) (w : Work) (lent : LeakPlaces m.qubits len (length protected / word_lanes) w) where
+    (l : Limits) (limits-ok : limit_tests l ≡ Ok tt) (tau-ok : tau_tests len l ≡ Ok tt) (w : Work) (lent : LeakPlaces m.qubits len (length protected / word_lanes) w) where
   abbrev b : Basis
   b = basis_of lanes coeffs len protected
 
-  tables_ok : work_tests m.qubits len (length protected / word_lanes) w ≡ Tests.Accepted
+  tables_ok : work_tests m.qubits len (length protected / word_lanes) w ≡ Ok tt
   unfolding work_tests
   tables_ok =
       rw (
@@ -107,12 +107,12 @@ module _ (m : Model) (t : ModelTables) (ok : test_model m t ≡ Tests.Accepted) 
         le-ltb (length w.nexts) _ (need_none len (len + length protected / word_lanes) (length w.nexts) lent.nexts_long),
       )
 
-  entries_ok : entry_tests m.qubits b ≡ Tests.Accepted
+  entries_ok : entry_tests m.qubits b ≡ Ok tt
   unfolding entry_tests
   entries_ok =
-      inside_passes lanes coeffs len ws cs h m.qubits _ fit.inside ∙ protected_passes m.qubits protected _ good ∙ finite_passes lanes coeffs len ws cs h 0 Tests.Accepted fit.finite
+      inside_passes lanes coeffs len ws cs h m.qubits _ fit.inside ∙ protected_passes m.qubits protected _ good ∙ finite_passes lanes coeffs len ws cs h 0 (Ok tt) fit.finite
 
-  pub leak_accepted : leak_tests m t b l w ≡ Tests.Accepted
+  pub leak_accepted : leak_tests m t b l w ≡ Ok tt
   unfolding leak_tests
   leak_accepted =
       rw (
@@ -147,15 +147,15 @@ module _ (m : Model) (t : ModelTables) (ok : test_model m t ≡ Tests.Accepted) 
     after_is c e = rw (leak_accepted, course_is, e)
 
     -- 13 or 14
-    call_stops : (q : Refusal) → plain ≡ refused q → after ≡ record { out = record { answer = Refused q; out_words = outWords; out_values = outValues }; work = zeroed w } → LeakCall w outWords outValues after plain
+    call_stops : (q : Refusal) → plain ≡ refused q → after ≡ record { out = record { answer = Err q; out_words = outWords; out_values = outValues }; work = zeroed w } → LeakCall w outWords outValues after plain
     call_stops q p a =
-        let answer : after.out.answer ≡ Refused q = ap (λ (x : Leaking). x.out.answer) a in
+        let answer : after.out.answer ≡ Err q = ap (λ (x : Leaking). x.out.answer) a in
         record {
           work_zero = ap (λ (x : Leaking). x.work) a;
           words_long = ap (λ (x : Leaking). length x.out.out_words) a;
           values_long = ap (λ (x : Leaking). length x.out.out_values) a;
           listed = λ R f. absurd (no_value q R (sym p ∙ f));
-          turned = λ r f. (answer ∙ ap Refused (same_refused q r (sym p ∙ f)), ap (λ (x : Leaking). x.out.out_words) a, ap (λ (x : Leaking). x.out.out_values) a);
+          turned = λ r f. (answer ∙ ap Err (same_refused q r (sym p ∙ f)), ap (λ (x : Leaking). x.out.out_words) a, ap (λ (x : Leaking). x.out.out_values) a);
           by_listed = λ k f. absurd (no_list q k (sym answer ∙ f));
           by_refusal = λ r f. p ∙ ap refused (same_answer q r (sym answer ∙ f));
         }
@@ -171,8 +171,8 @@ module _ (m : Model) (t : ModelTables) (ok : test_model m t ≡ Tests.Accepted) 
       lists_is : (c : Bool) → ltb (list_places outWords outValues) (length R) ≡ c
           → after
           ≡ record {
-            out = cond {A = Out} c (record { answer = Refused (TableFull 3 (list_places outWords outValues)); out_words = outWords; out_values = outValues })
-                (record { answer = Listed (length R); out_words = laid lay_word 0 (words_of R) outWords; out_values = laid set 0 (sums_of R) outValues });
+            out = cond {A = Out} c (record { answer = Err (TableFull 3 (list_places outWords outValues)); out_words = outWords; out_values = outValues })
+                (record { answer = Ok (length R); out_words = laid lay_word 0 (words_of R) outWords; out_values = laid set 0 (sums_of R) outValues });
             work = zeroed w;
           }
       unfolding listing
@@ -182,7 +182,7 @@ module _ (m : Model) (t : ModelTables) (ok : test_model m t ≡ Tests.Accepted) 
         fits : length R ≤ list_places outWords outValues
         fits = ltb-false (list_places outWords outValues) (length R) f
 
-        answer : after.out.answer ≡ Listed (length R)
+        answer : after.out.answer ≡ Ok (length R)
         answer = ap (λ (x : Leaking). x.out.answer) (lists_is false f)
 
         words_same : length after.out.out_words ≡ length outWords
@@ -221,7 +221,7 @@ module _ (m : Model) (t : ModelTables) (ok : test_model m t ≡ Tests.Accepted) 
               work_zero = ap (λ (x : Leaking). x.work) (lists_is false f);
               words_long = words_same;
               values_long = values_same;
-              listed = λ S g. subst (λ (q : Rows). (after.out.answer ≡ Listed (length q)) × Held after.out.out_words after.out.out_values (length q) (words_of q) (sums_of q) × (length q ≤ candidate_places w)) (same_value R S (sym p ∙ g)) (answer, holds, few_rows);
+              listed = λ S g. subst (λ (q : Rows). (after.out.answer ≡ Ok (length q)) × Held after.out.out_words after.out.out_values (length q) (words_of q) (sums_of q) × (length q ≤ candidate_places w)) (same_value R S (sym p ∙ g)) (answer, holds, few_rows);
               turned = λ q g. absurd (no_value q R (sym g ∙ p));
               by_listed = λ k g. (R, (p, same_count k (length R) (sym g ∙ answer)));
               by_refusal = λ q g. absurd (no_list q (length R) (sym g ∙ answer));

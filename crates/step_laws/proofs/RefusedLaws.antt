@@ -11,8 +11,8 @@ use lib.Ieee.{Float}
 use lib.ListN.{length, take, drop}
 use Rattle.refusal.specs.declared.Refusal.{Refusal}
 use Rattle.refusal.specs.declared.Refusal.TheVariants.{TableFull, SumNotFinite, TooManyProducts}
-use Rattle.refusal.specs.declared.Answer.{Answer}
-use Rattle.refusal.specs.declared.Answer.TheVariants as Tests
+use Rattle.std.specs.Prelude.{Result, Ok, Err}
+use Rattle.refusal.specs.Cause.{Answer}
 use Rattle.word.specs.declared.word.Word.{Word}
 use Rattle.number.specs.Floats.{floats, magnitude}
 use Rattle.keep.specs.Retained.{pick}
@@ -35,11 +35,8 @@ use Rattle.action.specs.Acts.{action_of}
 use Rattle.action.specs.Counts.{touched_by}
 use Rattle.expm.specs.Selects.{under_ceiling, degree_by, table_for, max_products, cost, chosen}
 use Rattle.expm.specs.declared.Degree.{Degree}
-use Rattle.expm.specs.declared.Chosen.TheVariants as Choice
 use Rattle.taylor.specs.Stages.{Evolution, evolved, stopped, stages}
 use Rattle.taylor.specs.Evolves.{answer_after, evolve_with, evolve_by}
-use Rattle.taylor.specs.declared.evolve.Evolved.{Evolved}
-use Rattle.taylor.specs.declared.evolve.Evolved.TheVariants.{Products, Refused}
 use Rattle.evolution.specs.Evolutions.{room_then, by_generator}
 use Rattle.step_laws.specs.Steps.{Places, Outcome, Stepped, with_zeros, second_hop, corrector, predictor, course_by, admitted, leakage, hop, outcome_of, evolution, course_of, before_cap, step_of}
 use Rattle.step_laws.specs.Kept.{Turned, full, sum_not_finite, many_products}
@@ -50,12 +47,12 @@ Turns (got a) = Unit {0}
 Turns (refused q) = Turned q
 
 abbrev AnswerTurns : Answer → Type 0
-AnswerTurns Tests.Accepted = Unit {0}
-AnswerTurns (Tests.Refused q) = Turned q
+AnswerTurns (Ok _) = Unit {0}
+AnswerTurns (Err q) = Turned q
 
-abbrev EvolvedTurns : Evolved → Type 0
-EvolvedTurns (Products k) = Unit {0}
-EvolvedTurns (Refused q) = Turned q
+abbrev EvolvedTurns : Result ℕ Refusal → Type 0
+EvolvedTurns (Ok k) = Unit {0}
+EvolvedTurns (Err q) = Turned q
 
 onward_turns : {A B : Type 0} (r : Read A) (f : A → Read B) → Turns r → ((a : A) → Turns (f a)) → Turns (onward r f)
 onward_turns (got a) f h g = g a
@@ -95,7 +92,7 @@ column_turns touched act bs sumRoom entryRoom c before (p ∷ ps) =
     room : (table places needed : ℕ) (after : Answer) → AnswerTurns after → AnswerTurns (room_for table places needed after)
     room table places needed after h = go (ltb places needed)
       where
-        go : (b : Bool) → AnswerTurns (cond b (Tests.Refused (TableFull table places)) after)
+        go : (b : Bool) → AnswerTurns (cond b (Err (TableFull table places)) after)
         go true = full table places
         go false = h
 
@@ -108,11 +105,11 @@ evolve_turns offsets columns values dt cs out norm dropTol = go (eqb (length cs)
     stage_turns k (evolved v) = tt
     stage_turns k (stopped r) = sum_not_finite r
 
-    pair : (d : Degree) (b : Bool) → EvolvedTurns (evolve_with offsets columns values dt cs out (cond b (Choice.Refused (TooManyProducts d.m d.s)) (Choice.Pair d))).answer
+    pair : (d : Degree) (b : Bool) → EvolvedTurns (evolve_with offsets columns values dt cs out (cond b (Err (TooManyProducts d.m d.s)) (Ok d))).answer
     pair d true = many_products d.m d.s
     pair d false = stage_turns (d.m * d.s) (stages offsets columns values d.m d.s dt d.s cs)
 
-    go : (b : Bool) → EvolvedTurns (cond b (record { answer = Products 0; out = out }) (evolve_with offsets columns values dt cs out (chosen dropTol (floats.times (magnitude dt) norm)))).answer
+    go : (b : Bool) → EvolvedTurns (cond b (record { answer = Ok 0; out = out }) (evolve_with offsets columns values dt cs out (chosen dropTol (floats.times (magnitude dt) norm)))).answer
     go true = tt
     go false = pair (degree_by (table_for dropTol) (floats.times (magnitude dt) norm)) (ltb max_products (cost (degree_by (table_for dropTol) (floats.times (magnitude dt) norm))))
 
@@ -167,16 +164,16 @@ module _ (m : Model) (t : ModelTables) (protected : List Word) (dt : Float) (pla
   evolution_turns dropTol ws cs =
       go (generator_room m t ws places.touched places.entries) (column_turns (touched_by m t) (action_of m t) ws places.touched places.entries 0 0 ws)
     where
-      answers : (out : List Float) (a : Evolved) → EvolvedTurns a → Turns (outcome_of m t protected dt places out a)
-      answers out (Products k) h = tt
-      answers out (Refused q) h = h
+      answers : (out : List Float) (a : Result ℕ Refusal) → EvolvedTurns a → Turns (outcome_of m t protected dt places out a)
+      answers out (Ok k) h = tt
+      answers out (Err q) h = h
 
       go : (a : Answer) → AnswerTurns a → Turns (outcome_of m t protected dt places (room_then m t ws (length ws) cs dt dropTol a cs).out (room_then m t ws (length ws) cs dt dropTol a cs).answer)
-      go Tests.Accepted h =
+      go (Ok _) h =
           let E : List Entry = generator_of m t ws in
           answers (by_generator m t ws (length ws) cs dt dropTol cs).out (by_generator m t ws (length ws) cs dt dropTol cs).answer
           (evolve_turns (offsets_of (length ws) E) (map (λ e. e.column) (rows_to (length ws) E)) (map (λ e. e.value) (rows_to (length ws) E)) dt cs cs (unshifted_norm m t ws) dropTol)
-      go (Tests.Refused q) h = h
+      go (Err q) h = h
 
   step_turns : (l : Limits) (dropTol : Float) (ws : List Word) (cs : List Float) → Turns (step_of m t protected dt places l dropTol ws cs)
   unfolding step_of before_cap course_of

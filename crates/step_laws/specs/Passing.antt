@@ -3,7 +3,7 @@
 
 -- Statements between laws: a basis that passes the tests of a step's calls, how it stands in lent tables, and that a call which passes
 -- does to those tables what the step says of plain lists.
-use Rattle.std.specs.Prelude.{ℕ, ◌+◌, ◌*◌, ◌/◌, ◌≤◌, ◌<◌, ◌≡◌, true, false, List, ◌++◌, Float, length, get_or, take, drop, replicate}
+use Rattle.std.specs.Prelude.{ℕ, ◌+◌, ◌*◌, ◌/◌, ◌≤◌, ◌<◌, ◌≡◌, true, false, List, ◌++◌, Float, length, get_or, take, drop, replicate, Ok, Err}
 use Rattle.std.specs.Float.{nan}
 use Rattle.refusal.specs.declared.Refusal.{Refusal}
 use Rattle.word.specs.Word.{identity}
@@ -16,15 +16,12 @@ use Rattle.lent.specs.Read.{Read, got, refused}
 use Rattle.lent.specs.Words.{max_words}
 use Rattle.truncate.specs.Prunes.{Keeping}
 use Rattle.truncate.specs.Admissions.{Admitting}
-use Rattle.truncate.specs.declared.kept.Kept.TheVariants as Kept
 use Rattle.candidates.specs.Tables.{Rows}
 use Rattle.passes.specs.Leaks.{words_of, sums_of}
 use Rattle.action.specs.Counts.{row_lanes}
-use Rattle.action.specs.declared.act.Acted.TheVariants as Acted
 use Rattle.leakage.specs.Leakages as Leakage
 use Rattle.leakage.specs.Leakages.{Leaking}
 use Rattle.columns.specs.Repeats.{first_repeat}
-use Rattle.taylor.specs.declared.evolve.Evolved.TheVariants as Evolved
 use Rattle.evolution.specs.Lent.{Work, zeroed}
 use Rattle.evolution.specs.Evolutions.{Evolving}
 use Rattle.step_laws.specs.Steps.{Outcome, Stepped}
@@ -74,10 +71,10 @@ pub record EvolveCall (w : Work) (out : List Float) (len : ℕ) (after : Evolvin
   pub work_zero : after.work ≡ zeroed w
   pub out_long : length after.out ≡ length out
   pub rest_stays : drop len after.out ≡ drop len out
-  pub evolved : (o : Outcome) → plain ≡ got o → (after.answer ≡ Evolved.Products o.products) × (take len after.out ≡ o.numbers)
-  pub turned : (q : Refusal) → plain ≡ refused q → (after.answer ≡ Evolved.Refused q) × (after.out ≡ out)
-  pub by_products : (k : ℕ) → after.answer ≡ Evolved.Products k → plain ≡ got (record { numbers = take len after.out; products = k })
-  pub by_refusal : (q : Refusal) → after.answer ≡ Evolved.Refused q → plain ≡ refused q
+  pub evolved : (o : Outcome) → plain ≡ got o → (after.answer ≡ Ok o.products) × (take len after.out ≡ o.numbers)
+  pub turned : (q : Refusal) → plain ≡ refused q → (after.answer ≡ Err q) × (after.out ≡ out)
+  pub by_products : (k : ℕ) → after.answer ≡ Ok k → plain ≡ got (record { numbers = take len after.out; products = k })
+  pub by_refusal : (q : Refusal) → after.answer ≡ Err q → plain ≡ refused q
 
 -- an admission of lent tables that passes, beside that of plain lists
 pub record AdmitCall (lanes : List ℕ) (coeffs : List Float) (len : ℕ) (ws : List Word) (cs : List Float) (order work kept : List ℕ) (after : Admitting) (plain : Read (List Word)) : Type 0 where
@@ -86,10 +83,10 @@ pub record AdmitCall (lanes : List ℕ) (coeffs : List Float) (len : ℕ) (ws : 
   pub kept_zero : after.kept ≡ replicate (length kept) 0
   pub lanes_long : length after.lanes ≡ length lanes
   pub coeffs_long : length after.coeffs ≡ length coeffs
-  pub entered : (us : List Word) → plain ≡ got us → (after.answer ≡ Kept.Entries (len + length us)) × Held after.lanes after.coeffs (len + length us) (ws ++ us) (cs ++ replicate (length us) float0)
-  pub turned : (q : Refusal) → plain ≡ refused q → (after.answer ≡ Kept.Refused q) × (after.lanes ≡ lanes) × (after.coeffs ≡ coeffs)
-  pub by_entries : (r : ℕ) → after.answer ≡ Kept.Entries r → (us : List Word) × ((plain ≡ got us) × (r ≡ len + length us))
-  pub by_refusal : (q : Refusal) → after.answer ≡ Kept.Refused q → plain ≡ refused q
+  pub entered : (us : List Word) → plain ≡ got us → (after.answer ≡ Ok (len + length us)) × Held after.lanes after.coeffs (len + length us) (ws ++ us) (cs ++ replicate (length us) float0)
+  pub turned : (q : Refusal) → plain ≡ refused q → (after.answer ≡ Err q) × (after.lanes ≡ lanes) × (after.coeffs ≡ coeffs)
+  pub by_entries : (r : ℕ) → after.answer ≡ Ok r → (us : List Word) × ((plain ≡ got us) × (r ≡ len + length us))
+  pub by_refusal : (q : Refusal) → after.answer ≡ Err q → plain ≡ refused q
 
 -- places for a leakage over a register of n qubits, beside count protected words; a basis without words asks for none
 pub record LeakPlaces (n len count : ℕ) (w : Leakage.Work) : Type 0 where
@@ -105,10 +102,10 @@ pub record LeakCall (w : Leakage.Work) (outWords : List ℕ) (outValues : List F
   pub work_zero : after.work ≡ Leakage.zeroed w
   pub words_long : length after.out.out_words ≡ length outWords
   pub values_long : length after.out.out_values ≡ length outValues
-  pub listed : (R : Rows) → plain ≡ got R → (after.out.answer ≡ Acted.Listed (length R)) × Held after.out.out_words after.out.out_values (length R) (words_of R) (sums_of R) × (length R ≤ Leakage.candidate_places w)
-  pub turned : (q : Refusal) → plain ≡ refused q → (after.out.answer ≡ Acted.Refused q) × (after.out.out_words ≡ outWords) × (after.out.out_values ≡ outValues)
-  pub by_listed : (k : ℕ) → after.out.answer ≡ Acted.Listed k → (R : Rows) × ((plain ≡ got R) × (k ≡ length R))
-  pub by_refusal : (q : Refusal) → after.out.answer ≡ Acted.Refused q → plain ≡ refused q
+  pub listed : (R : Rows) → plain ≡ got R → (after.out.answer ≡ Ok (length R)) × Held after.out.out_words after.out.out_values (length R) (words_of R) (sums_of R) × (length R ≤ Leakage.candidate_places w)
+  pub turned : (q : Refusal) → plain ≡ refused q → (after.out.answer ≡ Err q) × (after.out.out_words ≡ outWords) × (after.out.out_values ≡ outValues)
+  pub by_listed : (k : ℕ) → after.out.answer ≡ Ok k → (R : Rows) × ((plain ≡ got R) × (k ≡ length R))
+  pub by_refusal : (q : Refusal) → after.out.answer ≡ Err q → plain ≡ refused q
 
 -- places for a prune or a cap beside count protected words
 pub record EndPlaces (len count : ℕ) (order work fixed kept : List ℕ) : Type 0 where
@@ -121,7 +118,7 @@ pub record EndPlaces (len count : ℕ) (order work fixed kept : List ℕ) : Type
 
 -- a prune or a cap of lent tables that passes, beside that of a plain basis
 pub record EndCall (lanes : List ℕ) (coeffs : List Float) (len : ℕ) (order work fixed kept : List ℕ) (after : Keeping) (s : Stepped) : Type 0 where
-  pub answers : after.answer ≡ Kept.Entries (length s.words)
+  pub answers : after.answer ≡ Ok (length s.words)
   pub holds : Held after.lanes after.coeffs (length s.words) s.words s.numbers
   pub fewer : length s.words ≤ len
   pub lanes_long : length after.lanes ≡ length lanes

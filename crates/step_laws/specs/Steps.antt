@@ -3,7 +3,7 @@
 
 -- The predictor-corrector step over plain lists: leakage, admission, predictor, second leakage if there is room, corrector if anything
 -- entered, prune, cap. Each part is what the call of its own does; here stands the order in which they follow one another.
-use Rattle.std.specs.Prelude.{ℕ, ◌+◌, ◌-◌, cond, List, [], ◌++◌, map, eqb, ltb, leb, Float, length, replicate}
+use Rattle.std.specs.Prelude.{ℕ, ◌+◌, ◌-◌, cond, List, [], ◌++◌, map, eqb, ltb, leb, Float, length, replicate, Result, Ok, Err}
 use Rattle.std.specs.Float.Ieee.{le}
 use Rattle.refusal.specs.declared.Refusal.TheVariants.{TableFull}
 use Rattle.word.specs.declared.word.Word.{Word}
@@ -23,8 +23,7 @@ use Rattle.limits.specs.Defaults.{limit_of, tau_of}
 use Rattle.limits.specs.declared.Limits.{Limits}
 use Rattle.columns.specs.Columns.{generator_room}
 use Rattle.taylor.specs.Evolves.{Evolves}
-use Rattle.taylor.specs.declared.evolve.Evolved.{Evolved}
-use Rattle.taylor.specs.declared.evolve.Evolved.TheVariants.{Products, Refused}
+use Rattle.refusal.specs.declared.Refusal.{Refusal}
 use Rattle.evolution.specs.Evolutions.{room_then}
 
 -- ---- what is lent, and what comes out
@@ -111,9 +110,9 @@ module _ (m : Model) (t : ModelTables) (protected : List Word) (dt : Float) (pla
   hop limit tau ws cs = onward (leakage limit tau ws cs) (admitted limit ws)
 
   -- the evolution over the generator of the words
-  abbrev pub outcome_of : List Float → Evolved → Read Outcome
-  outcome_of out (Products k) = got (record { numbers = out; products = k })
-  outcome_of out (Refused r) = refused r
+  abbrev pub outcome_of : List Float → Result ℕ Refusal → Read Outcome
+  outcome_of out (Ok k) = got (record { numbers = out; products = k })
+  outcome_of out (Err r) = refused r
 
   unfoldable pub evolution : Float → List Word → List Float → Read Outcome
   evolution dropTol ws cs =

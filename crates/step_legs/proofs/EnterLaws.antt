@@ -9,18 +9,16 @@ use lib.Ieee.{Float}
 use lib.ListN.{take, drop}
 use Rattle.refusal.specs.declared.Refusal.{Refusal}
 use Rattle.word.specs.Flat.{word_lanes}
-use Rattle.action.specs.declared.act.Acted.{Acted}
-use Rattle.action.specs.declared.act.Acted.TheVariants.{Listed, Refused}
+use Rattle.std.specs.Prelude.{Result, Ok, Err}
 use Rattle.truncate.specs.Admissions.{Admitting, admit}
-use Rattle.truncate.specs.declared.kept.Kept.TheVariants as Kept
 use Rattle.step_laws.proofs.LeakCall.{no_list, same_count, same_answer}
 use Rattle.step_legs.specs.Between.{Enters}
 
-module _ (leaked : Acted) (n limit places len : ℕ) (candWords placeOrder placeWork listWords : List ℕ) (listValues : List Float) (grownWords : List ℕ) (start : List Float) where
+module _ (leaked : Result ℕ Refusal) (n limit places len : ℕ) (candWords placeOrder placeWork listWords : List ℕ) (listValues : List Float) (grownWords : List ℕ) (start : List Float) where
   abbrev entering : ℕ → Admitting
   entering k = admit len (take (places * word_lanes) grownWords) (take places start) (take (k * word_lanes) listWords) (take k listValues) placeOrder placeWork candWords n limit
 
-  pub enters_listed : (k : ℕ) → leaked ≡ Listed k → (x : Admitting) → x ≡ entering k
+  pub enters_listed : (k : ℕ) → leaked ≡ Ok k → (x : Admitting) → x ≡ entering k
       → Enters leaked n limit places len candWords placeOrder placeWork listWords listValues grownWords start x.answer x.kept x.order x.work (x.lanes ++ drop (places * word_lanes) grownWords) (x.coeffs ++ drop places start)
   enters_listed k e x a = record {
     listed = λ j f.
@@ -36,11 +34,11 @@ module _ (leaked : Acted) (n limit places len : ℕ) (candWords placeOrder place
     refused = λ q f. absurd (no_list q k (sym f ∙ e));
   }
 
-  pub enters_refused : (q : Refusal) → leaked ≡ Refused q → Enters leaked n limit places len candWords placeOrder placeWork listWords listValues grownWords start (Kept.Refused q) candWords placeOrder placeWork grownWords start
+  pub enters_refused : (q : Refusal) → leaked ≡ Err q → Enters leaked n limit places len candWords placeOrder placeWork listWords listValues grownWords start (Err q) candWords placeOrder placeWork grownWords start
   enters_refused q e = record {
     listed = λ k f. absurd (no_list q k (sym e ∙ f));
     refused = λ r f. record {
-      answers = ap Kept.Refused (same_answer q r (sym e ∙ f));
+      answers = ap Err (same_answer q r (sym e ∙ f));
       cand_same = refl;
       order_same = refl;
       work_same = refl;

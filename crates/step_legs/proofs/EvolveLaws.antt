@@ -12,7 +12,8 @@ use lib.Ieee.{Float}
 use lib.ListN.{length, take, drop}
 use lib.Seq.{get_or-take, length_front, take_at}
 use Rattle.refusal.specs.declared.Refusal.{Refusal}
-use Rattle.refusal.specs.declared.Answer.TheVariants as Tests
+use Rattle.std.specs.Prelude.{Result, Ok, Err}
+use Rattle.step_parts.specs.declared.taken.Step.{Step}
 use Rattle.word.specs.Word.{identity}
 use Rattle.word.specs.Flat.{words, word_lanes}
 use Rattle.word.specs.Register.{reaches}
@@ -33,8 +34,6 @@ use Rattle.generator.specs.Generators.{csr_places}
 use Rattle.generator.proofs.CheckLaws.{Passed}
 use Rattle.generator.proofs.LentLaws.{model_lent, basis_words, basis_lent, slots_asked}
 use Rattle.taylor.specs.Evolves as Taylor
-use Rattle.taylor.specs.declared.evolve.Evolved.{Evolved}
-use Rattle.taylor.specs.declared.evolve.Evolved.TheVariants as Evolutions
 use Rattle.evolution.specs.Between.{SlotsReady, NumbersLent}
 use Rattle.evolution.specs.Lent.{Work, work_of, zeroed, evolve_tests}
 use Rattle.evolution.specs.Evolutions.{Evolving, evolve_over, evolve}
@@ -49,8 +48,6 @@ use Rattle.step_laws.proofs.EvolvedLaws.{evolution_finite}
 use Rattle.step_laws.proofs.HeldLaws.{held_words, held_numbers}
 use Rattle.step_parts.specs.Lent.{touched_places, entry_places}
 use Rattle.step_parts.specs.Between.{EvolveLong, EvolvePlaces, Outcomes, EvolvesTo}
-use Rattle.step_parts.specs.declared.taken.Step.{Step}
-use Rattle.step_parts.specs.declared.taken.Step.TheVariants as Steps
 use Rattle.step_legs.specs.Between.{step_from}
 
 -- ---- no more products than the ceiling
@@ -59,28 +56,30 @@ took_few count dt norm dropTol k (none e z) = omega (arith, z)
 took_few count dt norm dropTol k (stages d e p h) = h
 
 -- ---- as a step
-taken_not : (q : Refusal) (k products : ℕ) → Steps.Refused q ≡ Steps.Taken k products → ⊥
+taken_not : (q : Refusal) (k products : ℕ) → ◌≡◌ {A = Result Step Refusal} (Err q) (Ok (record { entries = k; products = products })) → ⊥
 taken_not q k products e = let z : ◌≡◌ {A = ℕ} 0 1 = cc in omega arith
 
-same_taken : (j k a b : ℕ) → Steps.Taken j a ≡ Steps.Taken k b → (j ≡ k) × (a ≡ b)
-same_taken j k a b e = (cc, cc)
+same_taken : (j k a b : ℕ) → ◌≡◌ {A = Result Step Refusal} (Ok (record { entries = j; products = a })) (Ok (record { entries = k; products = b })) → (j ≡ k) × (a ≡ b)
+same_taken j k a b e =
+    let h : ◌≡◌ {A = Step} (record { entries = j; products = a }) (record { entries = k; products = b }) = cc in
+    (ap (λ (x : Step). x.entries) h, ap (λ (x : Step). x.products) h)
 
-same_refused : (p q : Refusal) → Steps.Refused p ≡ Steps.Refused q → p ≡ q
+same_refused : {A : Type 0} (p q : Refusal) → ◌≡◌ {A = Result A Refusal} (Err p) (Err q) → p ≡ q
 same_refused p q e = cc
 
 module _ (plain : Read Outcome) (len : ℕ) (out : List Float) where
-  told : (a : Evolved) → ((k : ℕ) → a ≡ Evolutions.Products k → Outcomes plain len k out) → ((q : Refusal) → a ≡ Evolutions.Refused q → plain ≡ refused q) → EvolvesTo plain len (step_from len a) out
-  told (Evolutions.Products p) evolves stops = record {
+  told : (a : Result ℕ Refusal) → ((k : ℕ) → a ≡ Ok k → Outcomes plain len k out) → ((q : Refusal) → a ≡ Err q → plain ≡ refused q) → EvolvesTo plain len (step_from len a) out
+  told (Ok p) evolves stops = record {
     taken = λ k products e. let s = same_taken len k p products e in (sym s.0, subst (λ (i : ℕ). Outcomes plain len i out) s.1 (evolves p refl));
     stops = λ q e. absurd (taken_not q len p (sym e));
   }
-  told (Evolutions.Refused r) evolves stops = record {
+  told (Err r) evolves stops = record {
     taken = λ k products e. absurd (taken_not r k products e);
     stops = λ q e. stops r refl ∙ ap refused (same_refused r q e);
   }
 
 -- ---- what is lent
-module _ (m : Model) (t : ModelTables) (ok : test_model m t ≡ Tests.Accepted) (places len : ℕ) (hIndex jIndex mask heads nexts placeOrder lanes : List ℕ) (candSums listValues workSums start out : List Float)
+module _ (m : Model) (t : ModelTables) (ok : test_model m t ≡ Ok tt) (places len : ℕ) (hIndex jIndex mask heads nexts placeOrder lanes : List ℕ) (candSums listValues workSums start out : List Float)
     (long : EvolveLong m.qubits places len hIndex jIndex mask heads nexts placeOrder lanes candSums listValues workSums start out)
     (apart : GoodWords m.qubits (take len (words lanes))) (finite : AreFinite (take len start)) (inside : len ≤ places) where
   held : Held lanes start len (take len (words lanes)) (take len start)
@@ -143,7 +142,7 @@ module _ (m : Model) (t : ModelTables) (ok : test_model m t ≡ Tests.Accepted) 
   }
 
 -- ---- the answer
-module _ (m : Model) (t : ModelTables) (ok : test_model m t ≡ Tests.Accepted) (dt dropTol : Float) (dt-finite : is_finite dt ≡ true) (drop-finite : is_finite dropTol ≡ true) (places len : ℕ) (lanes : List ℕ) (start : List Float) (w : Work) (out : List Float)
+module _ (m : Model) (t : ModelTables) (ok : test_model m t ≡ Ok tt) (dt dropTol : Float) (dt-finite : is_finite dt ≡ true) (drop-finite : is_finite dropTol ≡ true) (places len : ℕ) (lanes : List ℕ) (start : List Float) (w : Work) (out : List Float)
     (long : EvolveLong m.qubits places len w.generator.h_index w.generator.j_index w.generator.mask w.generator.heads w.generator.nexts w.offsets lanes w.v w.b w.product start out)
     (apart : GoodWords m.qubits (take len (words lanes))) (finite : AreFinite (take len start)) (inside : len ≤ places)
     (e : Taylor.Evolves) (is : e ≡ evolve_over w out m t (take len (words lanes)) start len dt dropTol) where
@@ -183,7 +182,7 @@ module _ (m : Model) (t : ModelTables) (ok : test_model m t ≡ Tests.Accepted) 
   }
 
   -- the tests, which are not asked for, would pass
-  accepted : evolve_tests m t lanes start len dt dropTol w out ≡ Tests.Accepted
+  accepted : evolve_tests m t lanes start len dt dropTol w out ≡ Ok tt
   accepted = evolve_accepted m t ok lanes start len ws cs in_tables good dt dropTol dt-finite drop-finite w out lent
 
   as_called : x ≡ after
@@ -205,13 +204,13 @@ module _ (m : Model) (t : ModelTables) (ok : test_model m t ≡ Tests.Accepted) 
         (λ k g. let given = call.by_products k g in record { is = given; few = few k g; finite = (evolution_finite m t protected dt p dropTol ws cs _ finite given).each })
         call.by_refusal
       where
-        few : (k : ℕ) → e.answer ≡ Evolutions.Products k → k ≤ max_products
+        few : (k : ℕ) → e.answer ≡ Ok k → k ≤ max_products
         few k g =
-            let f : after.answer ≡ Evolutions.Products k = sym (ap (λ (y : Evolving). y.answer) as_called) ∙ g in
+            let f : after.answer ≡ Ok k = sym (ap (λ (y : Evolving). y.answer) as_called) ∙ g in
             took_few _ dt _ dropTol k (products_taken _ _ _ dt cs out _ dropTol k (sym (ap (λ (y : Taylor.Evolves). y.answer) (evolves_generator w out m t lanes start len dt dropTol k f)) ∙ f))
 
   pub evolves_plain : (p : Places) (protected : List Word) → EvolvePlaces p w.generator.work_words w.generator.work_sums w.generator.stage_rows w.generator.stage_columns w.generator.stage_values w.columns w.values
-      → (r : Step) → r ≡ step_from len e.answer → EvolvesTo (evolution m t protected dt p dropTol ws cs) len r e.out
+      → (r : Result Step Refusal) → r ≡ step_from len e.answer → EvolvesTo (evolution m t protected dt p dropTol ws cs) len r e.out
   unfolding touched_places entry_places
   evolves_plain p protected at r s = rw s (evolves_by p protected at.touched at.entries)
 

@@ -3,6 +3,7 @@
 
 -- A hop is that of plain lists: the words that leak from a basis that passes are listed and enter it, and every other table is left zero.
 -- Assumes nothing.
+use Rattle.refusal.specs.Cause.{Answer}
 use mathlib.Core.Path.{◌≡◌, refl, sym, ap, ap₂, subst, ◌∙◌}
 use mathlib.Core.Bool.{Bool, true, false, cond}
 use mathlib.Core.List.{List, [], ◌++◌}
@@ -14,7 +15,7 @@ use lib.Ieee.{Float}
 use lib.ListN.{length, take, drop, replicate, length-replicate}
 use lib.Seq.{take-take, take-append-le, length-take-le}
 use Rattle.refusal.specs.declared.Refusal.{Refusal}
-use Rattle.refusal.specs.declared.Answer.TheVariants.{Accepted}
+use Rattle.std.specs.Prelude.{Result, Ok, Err}
 use Rattle.word.specs.Flat.{words, word_lanes}
 use Rattle.word.specs.declared.word.Word.{Word}
 use Rattle.word.proofs.FlatLaws.{words_take}
@@ -31,12 +32,8 @@ use Rattle.model.proofs.StandsLaws.{tested_stands}
 use Rattle.candidates.specs.Tables.{Rows}
 use Rattle.passes.specs.Leaks.{words_of, sums_of}
 use Rattle.action.specs.Acts.{list_places}
-use Rattle.action.specs.declared.act.Acted.{Acted}
-use Rattle.action.specs.declared.act.Acted.TheVariants.{Listed, Refused}
 use Rattle.leakage.specs.Leakages.{Work, Leaking, basis_of, action_places, row_places, sum_places, candidate_places, leak}
 use Rattle.truncate.specs.Admissions.{Admitting, admit}
-use Rattle.truncate.specs.declared.kept.Kept.{Kept}
-use Rattle.truncate.specs.declared.kept.Kept.TheVariants as Kepts
 use Rattle.step_laws.specs.Steps.{Places, leakage, admitted, hop}
 use Rattle.step_laws.specs.Passing.{AreFinite, Fit, GoodWords, Held, LeakPlaces, LeakCall, AdmitCall}
 use Rattle.step_laws.proofs.CourseLaws.{same_value}
@@ -50,15 +47,15 @@ use Rattle.step_parts.specs.Between.{Given, HopLong, Holds, HopPlaces, Entered, 
 use Rattle.step_legs.specs.Between.{Admitted, Enters}
 
 -- ---- a limit that passes its tests
-limit_low : (l : Limits) → limit_tests l ≡ Accepted → limit_of l ≤ max_words
+limit_low : (l : Limits) → limit_tests l ≡ Ok tt → limit_of l ≤ max_words
 unfolding limit_tests limit_of
 limit_low l e =
     let a = counted_passed max_words l.max_basis _ e in
     go (eqb l.admit_given 0) a.0 a.1
   where
-    go : (b : Bool) → l.max_basis ≤ max_words → cond b Accepted (counted max_words l.admit_basis Accepted) ≡ Accepted → cond b l.max_basis (max l.max_basis l.admit_basis) ≤ max_words
+    go : (b : Bool) → l.max_basis ≤ max_words → ◌≡◌ {A = Answer} (cond b (Ok tt) (counted max_words l.admit_basis (Ok tt))) (Ok tt) → cond b l.max_basis (max l.max_basis l.admit_basis) ≤ max_words
     go true h f = h
-    go false h f = omega (arith, h, (counted_passed max_words l.admit_basis Accepted f).0)
+    go false h f = omega (arith, h, (counted_passed max_words l.admit_basis (Ok tt) f).0)
 
 -- ---- the words of a table that another follows
 front_words : (k : ℕ) (part rest : List ℕ) → word_lanes * k ≤ length part → take k (words (part ++ rest)) ≡ take k (words part)
@@ -109,7 +106,7 @@ module _ (m : Model) (t : ModelTables) (protected : List ℕ) (l : Limits) (give
   leaks_own = leaking own float0 refl refl refl
 
   -- the list stands in its tables
-  pub list_stands : (k : ℕ) → x.out.answer ≡ Listed k → (word_lanes * k ≤ length x.out.out_words) × (k ≤ length x.out.out_values)
+  pub list_stands : (k : ℕ) → x.out.answer ≡ Ok k → (word_lanes * k ≤ length x.out.out_words) × (k ≤ length x.out.out_values)
   list_stands k e =
       let b = leaks_own.by_listed k e in
       let h = (leaks_own.listed b.0 b.1.0).1 in
@@ -168,7 +165,7 @@ module _ (m : Model) (t : ModelTables) (protected : List ℕ) (l : Limits) (give
             let s : hopped ≡ got [] = ap (λ (j : ℕ). hop m t (words protected) dt p (limit_of l) (tau_of l) (take j (words lanes)) (take j numbers)) z ∙ hop_none m t (words protected) dt p (limit_of l) (tau_of l) in
             omega (arith, h, ap length (same_value us [] (sym e ∙ s)))
 
-    module _ (k : ℕ) (e : x.out.answer ≡ Listed k) where
+    module _ (k : ℕ) (e : x.out.answer ≡ Ok k) where
       abbrev R : Rows
       R = (call.by_listed k e).0
 
@@ -198,8 +195,8 @@ module _ (m : Model) (t : ModelTables) (protected : List ℕ) (l : Limits) (give
       hop_leads : hopped ≡ entering R
       hop_leads = ap (λ (r : Read Rows). onward r entering) listed
 
-      module _ (r : Kept) (candWords' placeOrder' placeWork' lanes' : List ℕ) (start' : List Float) (a : Admitted after places lanes start r candWords' placeOrder' placeWork' lanes' start') where
-        enters : (j : ℕ) → r ≡ Kepts.Entries j → Entered hopped m.qubits places len j lanes start lanes' start'
+      module _ (r : Result ℕ Refusal) (candWords' placeOrder' placeWork' lanes' : List ℕ) (start' : List Float) (a : Admitted after places lanes start r candWords' placeOrder' placeWork' lanes' start') where
+        enters : (j : ℕ) → r ≡ Ok j → Entered hopped m.qubits places len j lanes start lanes' start'
         enters j f =
             let b = admits.by_entries j (sym a.answers ∙ f) in
             let us : List Word = b.0 in
@@ -222,11 +219,11 @@ module _ (m : Model) (t : ModelTables) (protected : List ℕ) (l : Limits) (give
               any = λ z. any us i (omega (arith, n, z));
             }
 
-        stops : (q : Refusal) → r ≡ Kepts.Refused q → hopped ≡ refused q
+        stops : (q : Refusal) → r ≡ Err q → hopped ≡ refused q
         stops q f = hop_leads ∙ admits.by_refusal q (sym a.answers ∙ f)
 
   -- ---- what entering answered and left
-  module _ (limit : ℕ) (limit_is : limit ≡ limit_of l) (r : Kept) (candWords' placeOrder' placeWork' lanes' : List ℕ) (start' : List Float)
+  module _ (limit : ℕ) (limit_is : limit ≡ limit_of l) (r : Result ℕ Refusal) (candWords' placeOrder' placeWork' lanes' : List ℕ) (start' : List Float)
       (left : Enters x.out.answer m.qubits limit places len x.work.cand_words x.work.place_order x.work.place_work x.out.out_words x.out.out_values lanes start r candWords' placeOrder' placeWork' lanes' start') where
     entering_is : Enters x.out.answer m.qubits (limit_of l) places len x.work.cand_words x.work.place_order x.work.place_work x.out.out_words x.out.out_values lanes start r candWords' placeOrder' placeWork' lanes' start'
     entering_is =
@@ -240,11 +237,11 @@ module _ (m : Model) (t : ModelTables) (protected : List ℕ) (l : Limits) (give
         call : LeakCall w listWords listValues x (leakage m t (words protected) dt p (limit_of l) (tau_of l) ws cs)
         call = leaking p dt at.touched at.candidates at.listed
 
-        go : (a : Acted) → x.out.answer ≡ a → Hops (hop m t (words protected) dt p (limit_of l) (tau_of l) ws cs) m.qubits places len lanes start r lanes' start'
-        go (Listed k) e =
+        go : (a : Result ℕ Refusal) → x.out.answer ≡ a → Hops (hop m t (words protected) dt p (limit_of l) (tau_of l) ws cs) m.qubits places len lanes start r lanes' start'
+        go (Ok k) e =
             let a = entering_is.listed k e in
             record { enters = enters p dt at.basis call k e r candWords' placeOrder' placeWork' lanes' start' a; stops = stops p dt at.basis call k e r candWords' placeOrder' placeWork' lanes' start' a }
-        go (Refused q) e =
+        go (Err q) e =
             let s = entering_is.refused q e in
             record {
               enters = λ j f. absurd (no_entries q j (sym s.answers ∙ f));
@@ -263,8 +260,8 @@ module _ (m : Model) (t : ModelTables) (protected : List ℕ) (l : Limits) (give
         zero : (k : ℕ) (y : List ℕ) → y ≡ replicate k 0 → replicate {A = ℕ} (length y) 0 ≡ replicate k 0
         zero k y e = ap (λ (j : ℕ). replicate {A = ℕ} j 0) (ap length e ∙ length-replicate {A = ℕ} k 0)
 
-        go : (a : Acted) → x.out.answer ≡ a → Cleared
-        go (Listed k) e =
+        go : (a : Result ℕ Refusal) → x.out.answer ≡ a → Cleared
+        go (Ok k) e =
             let a = entering_is.listed k e in
             let c = admits own float0 refl leaks_own k e in
             record {
@@ -272,7 +269,7 @@ module _ (m : Model) (t : ModelTables) (protected : List ℕ) (l : Limits) (give
               order = a.order_is ∙ c.order_zero ∙ zero (length w.place_order) x.work.place_order (ap (λ (y : Work). y.place_order) leaks_own.work_zero);
               work = a.work_is ∙ c.work_zero ∙ zero (length w.place_work) x.work.place_work (ap (λ (y : Work). y.place_work) leaks_own.work_zero);
             }
-        go (Refused q) e =
+        go (Err q) e =
             let s = entering_is.refused q e in
             record {
               cand = s.cand_same ∙ ap (λ (y : Work). y.cand_words) leaks_own.work_zero;

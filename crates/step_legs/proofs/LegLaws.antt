@@ -16,34 +16,34 @@ use Rattle.word.specs.Flat.{words}
 use Rattle.word.specs.declared.word.Word.{Word}
 use Rattle.number.specs.Floats.{float0}
 use Rattle.lent.specs.Read.{Read, got, refused}
-use Rattle.truncate.specs.declared.kept.Kept.{Kept}
-use Rattle.truncate.specs.declared.kept.Kept.TheVariants as Kepts
+use Rattle.std.specs.Prelude.{Result, Ok, Err}
+use Rattle.step_parts.specs.declared.taken.Step.{Step}
 use Rattle.step_laws.specs.Steps.{Outcome, Stepped, with_zeros}
 use Rattle.step_laws.specs.Passing.{AreFinite, GoodWords}
 use Rattle.step_parts.specs.Lent.{Work}
 use Rattle.step_parts.specs.Between.{Shared, shared_of, none, Holds, Entered, Hops, EvolvesTo, leg_by, Ended, Ends}
-use Rattle.step_parts.specs.declared.taken.Step.{Step}
-use Rattle.step_parts.specs.declared.taken.Step.TheVariants as Steps
 use Rattle.step_legs.specs.Between.{Follows}
 
 -- ---- answers
-taken_not : (q : Refusal) (k products : ℕ) → Steps.Refused q ≡ Steps.Taken k products → ⊥
+taken_not : (q : Refusal) (k products : ℕ) → ◌≡◌ {A = Result Step Refusal} (Err q) (Ok (record { entries = k; products = products })) → ⊥
 taken_not q k products e = let z : ◌≡◌ {A = ℕ} 0 1 = cc in omega arith
 
-same_taken : (j k a b : ℕ) → Steps.Taken j a ≡ Steps.Taken k b → (j ≡ k) × (a ≡ b)
-same_taken j k a b e = (cc, cc)
+same_taken : (j k a b : ℕ) → ◌≡◌ {A = Result Step Refusal} (Ok (record { entries = j; products = a })) (Ok (record { entries = k; products = b })) → (j ≡ k) × (a ≡ b)
+same_taken j k a b e =
+    let h : ◌≡◌ {A = Step} (record { entries = j; products = a }) (record { entries = k; products = b }) = cc in
+    (ap (λ (x : Step). x.entries) h, ap (λ (x : Step). x.products) h)
 
-same_refused : (q r : Refusal) → Steps.Refused q ≡ Steps.Refused r → q ≡ r
+same_refused : {A : Type 0} (q r : Refusal) → ◌≡◌ {A = Result A Refusal} (Err q) (Err r) → q ≡ r
 same_refused q r e = cc
 
 module _ (plain : Read Stepped) (n places len : ℕ) (start : List Float) (w' : Work) where
-  ends_refused : (q : Refusal) → plain ≡ refused q → Ends plain n places len start (Steps.Refused q) w'
+  ends_refused : (q : Refusal) → plain ≡ refused q → Ends plain n places len start (Err q) w'
   ends_refused q f = record {
     ended = λ k products e. absurd (taken_not q k products e);
     stops = λ r e. f ∙ ap refused (same_refused q r e);
   }
 
-  ends_taken : (k products : ℕ) → Ended plain n places len k products start w' → Ends plain n places len start (Steps.Taken k products) w'
+  ends_taken : (k products : ℕ) → Ended plain n places len k products start w' → Ends plain n places len start (Ok (record { entries = k; products = products })) w'
   ends_taken k products h = record {
     ended = λ j more e.
         let s = same_taken k j products more e in
@@ -107,12 +107,12 @@ module _ (entering : List Word → List Float → Read (List Word)) (evolving : 
 
   module _ (w₁ : Work) where
     -- no word may enter: the hop was refused
-    ends_hop : (q : Refusal) → Hops (entering ws numbers) n places len w.grown_words w.start (Kepts.Refused q) w₁.grown_words w₁.start → Ends plain n places len start (Steps.Refused q) w₁
+    ends_hop : (q : Refusal) → Hops (entering ws numbers) n places len w.grown_words w.start (Err q) w₁.grown_words w₁.start → Ends plain n places len start (Err q) w₁
     ends_hop q h = ends_refused plain n places len start w₁ q (hop_refused entering evolving always ws start numbers q (h.stops q refl))
 
     module _ (count : ℕ) (h : Entered (entering ws numbers) n places len count w.grown_words w.start w₁.grown_words w₁.start) where
       -- none entered, and that is all
-      ends_there : Holds n places len w.grown_words w.start w.evolved → w₁.evolved ≡ w.evolved → (not always && eqb count len) ≡ true → Ends plain n places len start (Steps.Taken count 0) w₁
+      ends_there : Holds n places len w.grown_words w.start w.evolved → w₁.evolved ≡ w.evolved → (not always && eqb count len) ≡ true → Ends plain n places len start (Ok (record { entries = count; products = 0 })) w₁
       ends_there held same b =
           let b₁ : (not always && eqb (length h.entered) 0) ≡ true = sym (entered_none always len count (length h.entered) h.count) ∙ b in
           let z : length h.entered ≡ 0 = eqb-true (length h.entered) 0 (both_right (not always) _ b₁) in
@@ -144,7 +144,7 @@ module _ (entering : List Word → List Float → Read (List Word)) (evolving : 
         evolves_over : evolving (take count (words w₁.grown_words)) (take count w₁.start) ≡ evolving (ws ++ h.entered) (with_zeros start (ws ++ h.entered))
         evolves_over = ap₂ evolving h.words_are h.start_is
 
-        ends_evolved : (r : Step) → EvolvesTo (evolving (take count (words w₁.grown_words)) (take count w₁.start)) count r w₂.evolved → Ends plain n places len start r w₂
+        ends_evolved : (r : Result Step Refusal) → EvolvesTo (evolving (take count (words w₁.grown_words)) (take count w₁.start)) count r w₂.evolved → Ends plain n places len start r w₂
         ends_evolved r v = record {
           ended = λ k products e.
               let o = v.taken k products e in
@@ -168,17 +168,17 @@ module _ (entering : List Word → List Float → Read (List Word)) (evolving : 
 
   -- a hop, and what follows it, in tables that the second leaves the basis in
   module _ (held : Holds n places len w.grown_words w.start w.evolved) (w₁ w₂ : Work) (unchanged : w₁.evolved ≡ w.evolved) (eg : w₂.grown_words ≡ w₁.grown_words) (es : w₂.start ≡ w₁.start) where
-    pub leg_is : (hopped : Kept) → Hops (entering ws numbers) n places len w.grown_words w.start hopped w₁.grown_words w₁.start → (r : Step) → Follows hopped always len r w₁.evolved w₂.evolved
-        → ((k : ℕ) → hopped ≡ Kepts.Entries k → (not always && eqb k len) ≡ false → EvolvesTo (evolving (take k (words w₁.grown_words)) (take k w₁.start)) k r w₂.evolved)
+    pub leg_is : (hopped : Result ℕ Refusal) → Hops (entering ws numbers) n places len w.grown_words w.start hopped w₁.grown_words w₁.start → (r : Result Step Refusal) → Follows hopped always len r w₁.evolved w₂.evolved
+        → ((k : ℕ) → hopped ≡ Ok k → (not always && eqb k len) ≡ false → EvolvesTo (evolving (take k (words w₁.grown_words)) (take k w₁.start)) k r w₂.evolved)
         → Ends plain n places len start r w₂
-    leg_is (Kepts.Refused q) h r f v =
-        subst (λ (x : Step). Ends plain n places len start x w₂) (sym (f.turned q refl).0) (ends_hop w₂ q (subst (λ (l : List ℕ). Hops (entering ws numbers) n places len w.grown_words w.start (Kepts.Refused q) l w₂.start) (sym eg) (subst (λ (xs : List Float). Hops (entering ws numbers) n places len w.grown_words w.start (Kepts.Refused q) w₁.grown_words xs) (sym es) h)))
-    leg_is (Kepts.Entries k) h r f v = go (not always && eqb k len) refl
+    leg_is (Err q) h r f v =
+        subst (λ (x : Result Step Refusal). Ends plain n places len start x w₂) (sym (f.turned q refl).0) (ends_hop w₂ q (subst (λ (l : List ℕ). Hops (entering ws numbers) n places len w.grown_words w.start (Err q) l w₂.start) (sym eg) (subst (λ (xs : List Float). Hops (entering ws numbers) n places len w.grown_words w.start (Err q) w₁.grown_words xs) (sym es) h)))
+    leg_is (Ok k) h r f v = go (not always && eqb k len) refl
       where
         go : (b : Bool) → (not always && eqb k len) ≡ b → Ends plain n places len start r w₂
         go true e =
             let s = f.stays k refl e in
-            subst (λ (x : Step). Ends plain n places len start x w₂) (sym s.0)
+            subst (λ (x : Result Step Refusal). Ends plain n places len start x w₂) (sym s.0)
             (ends_there w₂ k
             (subst (λ (l : List ℕ). Entered (entering ws numbers) n places len k w.grown_words w.start l w₂.start) (sym eg) (subst (λ (xs : List Float). Entered (entering ws numbers) n places len k w.grown_words w.start w₁.grown_words xs) (sym es) (h.enters k refl)))
             held (s.1 ∙ unchanged) e)

@@ -6,10 +6,8 @@ ghost use Rattle.std.specs.Prelude.{◌≡◌, true, false, not, ◌&&◌, List,
 ghost use Rattle.word.specs.Flat.{words as words_in};
 ghost use Rattle.word.specs.declared.word.Word.{Word};
 ghost use Rattle.number.specs.Floats.{float0, is_finite};
-ghost use Rattle.refusal.specs.declared.Answer.TheVariants.{Accepted};
 ghost use Rattle.model.specs.Between.{model_tables};
 ghost use Rattle.model.specs.Tested.{test_model};
-ghost use Rattle.truncate.specs.declared.kept.Kept.TheVariants.{Entries};
 ghost use Rattle.step_laws.specs.Steps.{Places, evolution};
 ghost use Rattle.step_laws.specs.Passing.{AreFinite, GoodWords};
 ghost use Rattle.step_parts.specs.Between.{EvolveLong, EvolvePlaces, EvolvesTo};
@@ -18,19 +16,18 @@ ghost use Rattle.step_legs.specs.Between.{step_from, Follows};
 use evolution::evolve::evolve_and_clear;
 use evolution::matrix::build_matrix;
 use model::stored::Model;
+use refusal::Refusal;
 use slots::lay_slots;
 use step_parts::taken::Step;
-use taylor::evolve::Evolved;
-use truncate::kept::Kept;
 use word::flat::WORD_LANES;
 
 // So many products over so many words, or the refusal.
-fn step_of(numbers: Evolved, entries: usize) -> Step
+fn step_of(numbers: Result<usize, Refusal>, entries: usize) -> Result<Step, Refusal>
     ensures { result ≡ step_from entries numbers }
 {
     match numbers {
-        Evolved::Products(products) => Step::Taken { entries, products },
-        Evolved::Refused(refusal) => Step::Refused(refusal),
+        Ok(products) => Ok(Step { entries, products }),
+        Err(refusal) => Err(refusal),
     }
 }
 
@@ -66,8 +63,8 @@ fn evolve_grown(
     columns: &mut [u32],
     values: &mut [f64],
     evolved: &mut [f64],
-) -> Step
-    requires tested { (test_model m (model_tables h_words.now h_coeffs.now jumps.now rates.now t_words.now t_numbers.now) ≡ Accepted) × (is_finite dt ≡ true) × (is_finite drop_tol ≡ true) }
+) -> Result<Step, Refusal>
+    requires tested { (test_model m (model_tables h_words.now h_coeffs.now jumps.now rates.now t_words.now t_numbers.now) ≡ (Ok tt)) × (is_finite dt ≡ true) × (is_finite drop_tol ≡ true) }
     requires long { EvolveLong m.qubits places len h_index.old j_index.old mask.old heads.old nexts.old place_order.old grown_words.now cand_sums.old list_values.old work_sums.old start.now evolved.old }
     requires good_words { GoodWords m.qubits (take len (words_in grown_words.now)) × AreFinite (take len start.now) × (len ≤ places) }
     ensures { ((p : Places) (protected : List Word) → EvolvePlaces p work_words.old work_sums.old stage_rows.old stage_columns.old cand_sums.old columns.old values.old → EvolvesTo (evolution m (model_tables h_words.now h_coeffs.now jumps.now rates.now t_words.now t_numbers.now) protected dt p drop_tol (take len (words_in grown_words.now)) (take len start.now)) len result evolved.new) × (h_index.new ≡ replicate (length h_index.old) 0) × (j_index.new ≡ replicate (length j_index.old) 0) × (mask.new ≡ replicate (length mask.old) 0) × (work_words.new ≡ replicate (length work_words.old) 0) × (work_sums.new ≡ replicate (length work_sums.old) float0) × (heads.new ≡ replicate (length heads.old) 0) × (nexts.new ≡ replicate (length nexts.old) 0) × (cand_sums.new ≡ replicate (length cand_sums.old) float0) × (place_order.new ≡ replicate (length place_order.old) 0) × (list_values.new ≡ replicate (length list_values.old) float0) }
@@ -127,7 +124,7 @@ fn ends_there(always: bool, len: usize, count: usize) -> bool
 
 // What follows a hop from a basis of len words.
 pub fn evolve_after(
-    hopped: Kept,
+    hopped: Result<usize, Refusal>,
     m: Model,
     h_words: &[u64],
     h_coeffs: &[f64],
@@ -157,20 +154,20 @@ pub fn evolve_after(
     columns: &mut [u32],
     values: &mut [f64],
     evolved: &mut [f64],
-) -> Step
-    requires tested { (test_model m (model_tables h_words.now h_coeffs.now jumps.now rates.now t_words.now t_numbers.now) ≡ Accepted) × (is_finite dt ≡ true) × (is_finite drop_tol ≡ true) }
-    requires long { (k : ℕ) → hopped ≡ Entries k → EvolveLong m.qubits places k h_index.old j_index.old mask.old heads.old nexts.old place_order.old grown_words.now cand_sums.old list_values.old work_sums.old start.now evolved.old × GoodWords m.qubits (take k (words_in grown_words.now)) × AreFinite (take k start.now) × (k ≤ places) }
+) -> Result<Step, Refusal>
+    requires tested { (test_model m (model_tables h_words.now h_coeffs.now jumps.now rates.now t_words.now t_numbers.now) ≡ (Ok tt)) × (is_finite dt ≡ true) × (is_finite drop_tol ≡ true) }
+    requires long { (k : ℕ) → hopped ≡ Ok k → EvolveLong m.qubits places k h_index.old j_index.old mask.old heads.old nexts.old place_order.old grown_words.now cand_sums.old list_values.old work_sums.old start.now evolved.old × GoodWords m.qubits (take k (words_in grown_words.now)) × AreFinite (take k start.now) × (k ≤ places) }
     requires cleared { (h_index.old ≡ replicate (length h_index.old) 0) × (j_index.old ≡ replicate (length j_index.old) 0) × (mask.old ≡ replicate (length mask.old) 0) × (work_words.old ≡ replicate (length work_words.old) 0) × (work_sums.old ≡ replicate (length work_sums.old) float0) × (heads.old ≡ replicate (length heads.old) 0) × (nexts.old ≡ replicate (length nexts.old) 0) × (cand_sums.old ≡ replicate (length cand_sums.old) float0) × (place_order.old ≡ replicate (length place_order.old) 0) × (list_values.old ≡ replicate (length list_values.old) float0) }
-    ensures { Follows hopped always len result evolved.old evolved.new × ((p : Places) (protected : List Word) (k : ℕ) → EvolvePlaces p work_words.old work_sums.old stage_rows.old stage_columns.old cand_sums.old columns.old values.old → hopped ≡ Entries k → (not always && eqb k len) ≡ false → EvolvesTo (evolution m (model_tables h_words.now h_coeffs.now jumps.now rates.now t_words.now t_numbers.now) protected dt p drop_tol (take k (words_in grown_words.now)) (take k start.now)) k result evolved.new) × (h_index.new ≡ replicate (length h_index.old) 0) × (j_index.new ≡ replicate (length j_index.old) 0) × (mask.new ≡ replicate (length mask.old) 0) × (work_words.new ≡ replicate (length work_words.old) 0) × (work_sums.new ≡ replicate (length work_sums.old) float0) × (heads.new ≡ replicate (length heads.old) 0) × (nexts.new ≡ replicate (length nexts.old) 0) × (cand_sums.new ≡ replicate (length cand_sums.old) float0) × (place_order.new ≡ replicate (length place_order.old) 0) × (list_values.new ≡ replicate (length list_values.old) float0) }
+    ensures { Follows hopped always len result evolved.old evolved.new × ((p : Places) (protected : List Word) (k : ℕ) → EvolvePlaces p work_words.old work_sums.old stage_rows.old stage_columns.old cand_sums.old columns.old values.old → hopped ≡ Ok k → (not always && eqb k len) ≡ false → EvolvesTo (evolution m (model_tables h_words.now h_coeffs.now jumps.now rates.now t_words.now t_numbers.now) protected dt p drop_tol (take k (words_in grown_words.now)) (take k start.now)) k result evolved.new) × (h_index.new ≡ replicate (length h_index.old) 0) × (j_index.new ≡ replicate (length j_index.old) 0) × (mask.new ≡ replicate (length mask.old) 0) × (work_words.new ≡ replicate (length work_words.old) 0) × (work_sums.new ≡ replicate (length work_sums.old) float0) × (heads.new ≡ replicate (length heads.old) 0) × (nexts.new ≡ replicate (length nexts.old) 0) × (cand_sums.new ≡ replicate (length cand_sums.old) float0) × (place_order.new ≡ replicate (length place_order.old) 0) × (list_values.new ≡ replicate (length list_values.old) float0) }
 {
     match hopped {
-        Kept::Entries(count) => {
+        Ok(count) => {
             let all = ends_there(always, len, count);
             if all {
-                return Step::Taken {
+                return Ok(Step {
                     entries: count,
                     products: 0,
-                };
+                });
             }
             evolve_grown(
                 m,
@@ -203,6 +200,6 @@ pub fn evolve_after(
                 evolved,
             )
         }
-        Kept::Refused(refusal) => Step::Refused(refusal),
+        Err(refusal) => Err(refusal),
     }
 }

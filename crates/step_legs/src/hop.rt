@@ -7,23 +7,21 @@ ghost use Rattle.word.specs.Flat.{words as words_in, word_lanes};
 ghost use Rattle.number.specs.Floats.{float0};
 ghost use Rattle.model.specs.Between.{model_tables};
 ghost use Rattle.limits.specs.Defaults.{limit_of, tau_of};
-ghost use Rattle.action.specs.declared.act.Acted.TheVariants.{Listed};
 ghost use Rattle.step_laws.specs.Steps.{Places, hop as hop_of};
 ghost use Rattle.step_parts.specs.Between.{Given, HopLong, Holds, HopPlaces, Hops, shared, none};
 ghost use Rattle.step_legs.specs.Between.{Enters};
 
-use action::act::Acted;
 use leakage::leak::leakage_with_prune;
 use lent::clear::{clear_lanes, clear_numbers};
 use limits::{Limits, word_limit};
 use model::stored::Model;
+use refusal::Refusal;
 use truncate::admit::add_leakage_capped;
-use truncate::kept::Kept;
 use word::flat::WORD_LANES;
 
 // What a leakage listed, appended to the basis in tables of so many places, or its refusal; the list is cleared.
 fn enter_listed(
-    leaked: Acted,
+    leaked: Result<usize, Refusal>,
     n: usize,
     limit: usize,
     places: usize,
@@ -35,12 +33,12 @@ fn enter_listed(
     list_values: &mut [f64],
     grown_words: &mut [u64],
     start: &mut [f64],
-) -> Kept
-    requires { ((k : ℕ) → leaked ≡ Listed k → (word_lanes * k ≤ length list_words.old) × (k ≤ length list_values.old)) × (word_lanes * places ≤ length grown_words.old) × (places ≤ length start.old) }
+) -> Result<usize, Refusal>
+    requires { ((k : ℕ) → leaked ≡ Ok k → (word_lanes * k ≤ length list_words.old) × (k ≤ length list_values.old)) × (word_lanes * places ≤ length grown_words.old) × (places ≤ length start.old) }
     ensures { Enters leaked n limit places len cand_words.old place_order.old place_work.old list_words.old list_values.old grown_words.old start.old result cand_words.new place_order.new place_work.new grown_words.new start.new × (list_words.new ≡ replicate (length list_words.old) 0) × (list_values.new ≡ replicate (length list_values.old) float0) }
 {
     match leaked {
-        Acted::Listed(count) => {
+        Ok(count) => {
             let entered = add_leakage_capped(
                 n,
                 &mut grown_words[..places * WORD_LANES],
@@ -57,10 +55,10 @@ fn enter_listed(
             clear_numbers(list_values);
             entered
         }
-        Acted::Refused(refusal) => {
+        Err(refusal) => {
             clear_lanes(list_words);
             clear_numbers(list_values);
-            Kept::Refused(refusal)
+            Err(refusal)
         }
     }
 }
@@ -95,7 +93,7 @@ pub fn hop(
     list_values: &mut [f64],
     grown_words: &mut [u64],
     start: &mut [f64],
-) -> Kept
+) -> Result<usize, Refusal>
     requires given { Given m (model_tables h_words.now h_coeffs.now jumps.now rates.now t_words.now t_numbers.now) protected.now limits }
     requires long { HopLong m.qubits (length protected.now / word_lanes) places len h_index.old j_index.old mask.old order.old heads.old nexts.old grown_words.old start.old evolved.now }
     requires holds { Holds m.qubits places len grown_words.old start.old evolved.now }

@@ -13,8 +13,8 @@ use lib.Ieee.{Float, nan}
 use lib.ListN.{length, get_or, take, drop, take-append-drop}
 use Rattle.refusal.specs.declared.Refusal.{Refusal}
 use Rattle.refusal.specs.declared.Refusal.TheVariants.{CountAboveLimit, LengthMismatch, NumberOutOfRange, WordOutsideRegister, RepeatedBasisWord}
-use Rattle.refusal.specs.declared.Answer.{Answer}
-use Rattle.refusal.specs.declared.Answer.TheVariants.{Accepted, Refused}
+use Rattle.std.specs.Prelude.{Ok, Err}
+use Rattle.refusal.specs.Cause.{Answer}
 use Rattle.word.specs.Flat.{words, word_lanes}
 use Rattle.word.specs.declared.word.Word.{Word}
 use Rattle.word.proofs.FlatLaws.{words_low, words_high}
@@ -48,54 +48,54 @@ module _ (m : Model) (t : ModelTables) (lanes : List ℕ) (coeffs : List Float) 
   abbrev places : ℕ
   places = length lanes / word_lanes
 
-  pub model_refused : (r : Refusal) → test_model m t ≡ Refused r → Refused r ≡ given
+  pub model_refused : (r : Refusal) → test_model m t ≡ Err r → Err r ≡ given
   unfolding given_tests
   model_refused r e = rw e
 
-  module _ (ok : test_model m t ≡ Accepted) where
-    pub words_many : max_words < len → Refused (CountAboveLimit len) ≡ given
+  module _ (ok : test_model m t ≡ Ok tt) where
+    pub words_many : max_words < len → Err (CountAboveLimit len) ≡ given
     unfolding given_tests
     words_many h = rw (ok, lt-ltb max_words len h)
 
     module _ (h1 : len ≤ max_words) where
-      pub protected_many : max_words < count → Refused (CountAboveLimit count) ≡ given
+      pub protected_many : max_words < count → Err (CountAboveLimit count) ≡ given
       unfolding given_tests
       protected_many h = rw (ok, le-ltb max_words len h1, lt-ltb max_words count h)
 
       module _ (h2 : count ≤ max_words) where
-        pub limits_refused : (r : Refusal) → limit_tests l ≡ Refused r → Refused r ≡ given
+        pub limits_refused : (r : Refusal) → limit_tests l ≡ Err r → Err r ≡ given
         unfolding given_tests
         limits_refused r h = rw (ok, le-ltb max_words len h1, le-ltb max_words count h2, h)
 
-        module _ (h3 : limit_tests l ≡ Accepted) where
-          pub words_short : places < len → Refused (LengthMismatch len places) ≡ given
+        module _ (h3 : limit_tests l ≡ Ok tt) where
+          pub words_short : places < len → Err (LengthMismatch len places) ≡ given
           unfolding given_tests
           words_short h = rw (ok, le-ltb max_words len h1, le-ltb max_words count h2, h3, lt-ltb places len h)
 
           module _ (h4 : len ≤ places) where
-            pub coeffs_short : length coeffs < len → Refused (LengthMismatch len (length coeffs)) ≡ given
+            pub coeffs_short : length coeffs < len → Err (LengthMismatch len (length coeffs)) ≡ given
             unfolding given_tests
             coeffs_short h = rw (ok, le-ltb max_words len h1, le-ltb max_words count h2, h3, le-ltb places len h4, lt-ltb (length coeffs) len h)
 
             module _ (h5 : len ≤ length coeffs) where
-              pub lanes_over : eqb (length protected) (count * word_lanes) ≡ false → Refused (LengthMismatch (count * word_lanes) (length protected)) ≡ given
+              pub lanes_over : eqb (length protected) (count * word_lanes) ≡ false → Err (LengthMismatch (count * word_lanes) (length protected)) ≡ given
               unfolding given_tests
               lanes_over h = rw (ok, le-ltb max_words len h1, le-ltb max_words count h2, h3, le-ltb places len h4, le-ltb (length coeffs) len h5, h)
 
-              pub given_accepted : eqb (length protected) (count * word_lanes) ≡ true → Accepted ≡ given
+              pub given_accepted : eqb (length protected) (count * word_lanes) ≡ true → (Ok tt) ≡ given
               unfolding given_tests
               given_accepted h = rw (ok, le-ltb max_words len h1, le-ltb max_words count h2, h3, le-ltb places len h4, le-ltb (length coeffs) len h5, h)
 
   pub record GivenPassed : Type 0 where
-    pub model : test_model m t ≡ Accepted
+    pub model : test_model m t ≡ Ok tt
     pub few : len ≤ max_words
     pub protected_few : count ≤ max_words
-    pub limits : limit_tests l ≡ Accepted
+    pub limits : limit_tests l ≡ Ok tt
     pub words_long : word_lanes * len ≤ length lanes
     pub coeffs_long : len ≤ length coeffs
     pub whole : length protected ≡ count * word_lanes
 
-  pub given_passed : given ≡ Accepted → GivenPassed
+  pub given_passed : given ≡ Ok tt → GivenPassed
   unfolding given_tests
   given_passed e =
       let e0 = both (test_model m t) _ e in
@@ -118,72 +118,72 @@ module _ (n len count hIndex jIndex mask order heads nexts placeOrder candSums l
   tables = work_tests n len count hIndex jIndex mask order heads nexts placeOrder candSums listValues workSums grownWords start evolved
 
   module _ {rows row slots starts : ℕ} (rows_are : rows ≡ where_any len (row_lanes * n)) (row_is : row ≡ where_any len row_lanes) (slots-are : slots ≡ where_any len (len + count)) (starts-are : starts ≡ where_any len (suc len)) where
-    pub h_short : hIndex < rows → Refused (LengthMismatch rows hIndex) ≡ tables
+    pub h_short : hIndex < rows → Err (LengthMismatch rows hIndex) ≡ tables
     unfolding work_tests
     h_short l = rw (← rows_are, lt-ltb hIndex rows l)
 
     module _ (h0 : rows ≤ hIndex) where
-      pub j_short : jIndex < rows → Refused (LengthMismatch rows jIndex) ≡ tables
+      pub j_short : jIndex < rows → Err (LengthMismatch rows jIndex) ≡ tables
       unfolding work_tests
       j_short l = rw (← rows_are, le-ltb hIndex rows h0, lt-ltb jIndex rows l)
 
       module _ (h1 : rows ≤ jIndex) where
-        pub mask_short : mask < row → Refused (LengthMismatch row mask) ≡ tables
+        pub mask_short : mask < row → Err (LengthMismatch row mask) ≡ tables
         unfolding work_tests
         mask_short l = rw (← rows_are, le-ltb hIndex rows h0, le-ltb jIndex rows h1, ← row_is, lt-ltb mask row l)
 
         module _ (h2 : row ≤ mask) where
-          pub order_short : order < len → Refused (LengthMismatch len order) ≡ tables
+          pub order_short : order < len → Err (LengthMismatch len order) ≡ tables
           unfolding work_tests
           order_short l = rw (← rows_are, le-ltb hIndex rows h0, le-ltb jIndex rows h1, ← row_is, le-ltb mask row h2, lt-ltb order len l)
 
           module _ (h3 : len ≤ order) where
-            pub heads_short : heads < slots → Refused (LengthMismatch slots heads) ≡ tables
+            pub heads_short : heads < slots → Err (LengthMismatch slots heads) ≡ tables
             unfolding work_tests
             heads_short l = rw (← rows_are, le-ltb hIndex rows h0, le-ltb jIndex rows h1, ← row_is, le-ltb mask row h2, le-ltb order len h3, ← slots-are, lt-ltb heads slots l)
 
             module _ (h4 : slots ≤ heads) where
-              pub nexts_short : nexts < slots → Refused (LengthMismatch slots nexts) ≡ tables
+              pub nexts_short : nexts < slots → Err (LengthMismatch slots nexts) ≡ tables
               unfolding work_tests
               nexts_short l = rw (← rows_are, le-ltb hIndex rows h0, le-ltb jIndex rows h1, ← row_is, le-ltb mask row h2, le-ltb order len h3, ← slots-are, le-ltb heads slots h4, lt-ltb nexts slots l)
 
               module _ (h5 : slots ≤ nexts) where
-                pub starts_short : placeOrder < starts → Refused (LengthMismatch starts placeOrder) ≡ tables
+                pub starts_short : placeOrder < starts → Err (LengthMismatch starts placeOrder) ≡ tables
                 unfolding work_tests
                 starts_short l = rw (← rows_are, le-ltb hIndex rows h0, le-ltb jIndex rows h1, ← row_is, le-ltb mask row h2, le-ltb order len h3, ← slots-are, le-ltb heads slots h4, le-ltb nexts slots h5, ← starts-are, lt-ltb placeOrder starts l)
 
                 module _ (h6 : starts ≤ placeOrder) where
-                  pub cand_short : candSums < len → Refused (LengthMismatch len candSums) ≡ tables
+                  pub cand_short : candSums < len → Err (LengthMismatch len candSums) ≡ tables
                   unfolding work_tests
                   cand_short l = rw (← rows_are, le-ltb hIndex rows h0, le-ltb jIndex rows h1, ← row_is, le-ltb mask row h2, le-ltb order len h3, ← slots-are, le-ltb heads slots h4, le-ltb nexts slots h5, ← starts-are, le-ltb placeOrder starts h6, lt-ltb candSums len l)
 
                   module _ (h7 : len ≤ candSums) where
-                    pub list_short : listValues < len → Refused (LengthMismatch len listValues) ≡ tables
+                    pub list_short : listValues < len → Err (LengthMismatch len listValues) ≡ tables
                     unfolding work_tests
                     list_short l = rw (← rows_are, le-ltb hIndex rows h0, le-ltb jIndex rows h1, ← row_is, le-ltb mask row h2, le-ltb order len h3, ← slots-are, le-ltb heads slots h4, le-ltb nexts slots h5, ← starts-are, le-ltb placeOrder starts h6, le-ltb candSums len h7, lt-ltb listValues len l)
 
                     module _ (h8 : len ≤ listValues) where
-                      pub sums_short : workSums < len → Refused (LengthMismatch len workSums) ≡ tables
+                      pub sums_short : workSums < len → Err (LengthMismatch len workSums) ≡ tables
                       unfolding work_tests
                       sums_short l = rw (← rows_are, le-ltb hIndex rows h0, le-ltb jIndex rows h1, ← row_is, le-ltb mask row h2, le-ltb order len h3, ← slots-are, le-ltb heads slots h4, le-ltb nexts slots h5, ← starts-are, le-ltb placeOrder starts h6, le-ltb candSums len h7, le-ltb listValues len h8, lt-ltb workSums len l)
 
                       module _ (h9 : len ≤ workSums) where
-                        pub grown_short : grownWords / word_lanes < len → Refused (LengthMismatch len (grownWords / word_lanes)) ≡ tables
+                        pub grown_short : grownWords / word_lanes < len → Err (LengthMismatch len (grownWords / word_lanes)) ≡ tables
                         unfolding work_tests
                         grown_short l = rw (← rows_are, le-ltb hIndex rows h0, le-ltb jIndex rows h1, ← row_is, le-ltb mask row h2, le-ltb order len h3, ← slots-are, le-ltb heads slots h4, le-ltb nexts slots h5, ← starts-are, le-ltb placeOrder starts h6, le-ltb candSums len h7, le-ltb listValues len h8, le-ltb workSums len h9, lt-ltb (grownWords / word_lanes) len l)
 
                         module _ (h10 : len ≤ grownWords / word_lanes) where
-                          pub start_short : start < len → Refused (LengthMismatch len start) ≡ tables
+                          pub start_short : start < len → Err (LengthMismatch len start) ≡ tables
                           unfolding work_tests
                           start_short l = rw (← rows_are, le-ltb hIndex rows h0, le-ltb jIndex rows h1, ← row_is, le-ltb mask row h2, le-ltb order len h3, ← slots-are, le-ltb heads slots h4, le-ltb nexts slots h5, ← starts-are, le-ltb placeOrder starts h6, le-ltb candSums len h7, le-ltb listValues len h8, le-ltb workSums len h9, le-ltb (grownWords / word_lanes) len h10, lt-ltb start len l)
 
                           module _ (h11 : len ≤ start) where
-                            pub evolved_short : evolved < len → Refused (LengthMismatch len evolved) ≡ tables
+                            pub evolved_short : evolved < len → Err (LengthMismatch len evolved) ≡ tables
                             unfolding work_tests
                             evolved_short l = rw (← rows_are, le-ltb hIndex rows h0, le-ltb jIndex rows h1, ← row_is, le-ltb mask row h2, le-ltb order len h3, ← slots-are, le-ltb heads slots h4, le-ltb nexts slots h5, ← starts-are, le-ltb placeOrder starts h6, le-ltb candSums len h7, le-ltb listValues len h8, le-ltb workSums len h9, le-ltb (grownWords / word_lanes) len h10, le-ltb start len h11, lt-ltb evolved len l)
 
                             module _ (h12 : len ≤ evolved) where
-                              pub tables_accepted : Accepted ≡ tables
+                              pub tables_accepted : (Ok tt) ≡ tables
                               unfolding work_tests
                               tables_accepted = rw (← rows_are, le-ltb hIndex rows h0, le-ltb jIndex rows h1, ← row_is, le-ltb mask row h2, le-ltb order len h3, ← slots-are, le-ltb heads slots h4, le-ltb nexts slots h5, ← starts-are, le-ltb placeOrder starts h6, le-ltb candSums len h7, le-ltb listValues len h8, le-ltb workSums len h9, le-ltb (grownWords / word_lanes) len h10, le-ltb start len h11, le-ltb evolved len h12)
 
@@ -202,7 +202,7 @@ module _ (n len count hIndex jIndex mask order heads nexts placeOrder candSums l
     pub start_long : len ≤ start
     pub evolved_long : len ≤ evolved
 
-  pub work_passed : tables ≡ Accepted → WorkPassed
+  pub work_passed : tables ≡ Ok tt → WorkPassed
   unfolding work_tests
   work_passed e =
       let rows : ℕ = row_lanes * n in
@@ -240,10 +240,10 @@ module _ (n len count hIndex jIndex mask order heads nexts placeOrder candSums l
   slots_passed w = (where_any_lem len heads (λ a. omega (arith, w.heads_long a)), where_any_lem len nexts (λ a. omega (arith, w.nexts_long a)))
 
 -- ---- words and numbers
-finite_passed : (count : ℕ) (x : Float) (after : Answer) → finite_threshold count x after ≡ Accepted → (is_finite x ≡ true) × (after ≡ Accepted)
+finite_passed : (count : ℕ) (x : Float) (after : Answer) → finite_threshold count x after ≡ Ok tt → (is_finite x ≡ true) × (after ≡ Ok tt)
 finite_passed count x after e = go (is_finite x) e
   where
-    go : (b : Bool) → cond b after (Refused (NumberOutOfRange count)) ≡ Accepted → (b ≡ true) × (after ≡ Accepted)
+    go : (b : Bool) → cond b after (Err (NumberOutOfRange count)) ≡ Ok tt → (b ≡ true) × (after ≡ Ok tt)
     go true f = (refl, f)
     go false f = absurd (refused_not (NumberOutOfRange count) f)
 
@@ -252,7 +252,7 @@ module _ (n : ℕ) (lanes : List ℕ) (coeffs : List Float) (len : ℕ) (protect
   numbers = number_tests n lanes coeffs len protected l dt dropTol
 
   abbrev entries : Answer
-  entries = inside_to len lanes n (inside_to (length protected / word_lanes) protected n (finite_to 0 len coeffs Accepted))
+  entries = inside_to len lanes n (inside_to (length protected / word_lanes) protected n (finite_to 0 len coeffs (Ok tt)))
 
   abbrev thresholds : Answer
   thresholds = finite_threshold len dt (finite_threshold len dropTol (tau_tests len l))
@@ -261,26 +261,26 @@ module _ (n : ℕ) (lanes : List ℕ) (coeffs : List Float) (len : ℕ) (protect
   unfolding number_tests
   numbers_are = entries_then len lanes coeffs n protected thresholds
 
-  pub entries_refused : (a : Answer) (r : Refusal) → a ≡ entries → a ≡ Refused r → a ≡ numbers
-  entries_refused a r e f = f ∙ sym (numbers_are ∙ ap (λ (x : Answer). and_then x thresholds) (sym e ∙ f))
+  pub entries_refused : (a : Answer) (r : Refusal) → a ≡ entries → a ≡ Err r → Err r ≡ numbers
+  entries_refused a r e f = sym (numbers_are ∙ ap (λ (x : Answer). and_then x thresholds) (sym e ∙ f))
 
-  module _ (ok : entries ≡ Accepted) where
+  module _ (ok : entries ≡ Ok tt) where
     from_step : thresholds ≡ numbers
     from_step = sym (numbers_are ∙ ap (λ (x : Answer). and_then x thresholds) ok)
 
     module _ (b : Bool) (told : b ≡ is_finite dt) where
-      pub step_bad : not b ≡ true → Refused (NumberOutOfRange len) ≡ numbers
-      step_bad h = sym (ap (λ (x : Bool). cond x (finite_threshold len dropTol (tau_tests len l)) (Refused (NumberOutOfRange len))) (sym told ∙ not-true b h)) ∙ from_step
+      pub step_bad : not b ≡ true → Err (NumberOutOfRange len) ≡ numbers
+      step_bad h = sym (ap (λ (x : Bool). cond x (finite_threshold len dropTol (tau_tests len l)) (Err (NumberOutOfRange len))) (sym told ∙ not-true b h)) ∙ from_step
 
       module _ (good : not b ≡ false) (d : Bool) (told2 : d ≡ is_finite dropTol) where
         from_threshold : finite_threshold len dropTol (tau_tests len l) ≡ numbers
-        from_threshold = sym (ap (λ (x : Bool). cond x (finite_threshold len dropTol (tau_tests len l)) (Refused (NumberOutOfRange len))) (sym told ∙ not-false b good)) ∙ from_step
+        from_threshold = sym (ap (λ (x : Bool). cond x (finite_threshold len dropTol (tau_tests len l)) (Err (NumberOutOfRange len))) (sym told ∙ not-false b good)) ∙ from_step
 
-        pub threshold_bad : not d ≡ true → Refused (NumberOutOfRange len) ≡ numbers
-        threshold_bad h = sym (ap (λ (x : Bool). cond x (tau_tests len l) (Refused (NumberOutOfRange len))) (sym told2 ∙ not-true d h)) ∙ from_threshold
+        pub threshold_bad : not d ≡ true → Err (NumberOutOfRange len) ≡ numbers
+        threshold_bad h = sym (ap (λ (x : Bool). cond x (tau_tests len l) (Err (NumberOutOfRange len))) (sym told2 ∙ not-true d h)) ∙ from_threshold
 
         pub tau_left : not d ≡ false → tau_tests len l ≡ numbers
-        tau_left h = sym (ap (λ (x : Bool). cond x (tau_tests len l) (Refused (NumberOutOfRange len))) (sym told2 ∙ not-false d h)) ∙ from_threshold
+        tau_left h = sym (ap (λ (x : Bool). cond x (tau_tests len l) (Err (NumberOutOfRange len))) (sym told2 ∙ not-false d h)) ∙ from_threshold
 
   pub record NumbersPassed : Type 0 where
     pub inside : (i : ℕ) → i < len → outside_at lanes n i ≡ false
@@ -288,9 +288,9 @@ module _ (n : ℕ) (lanes : List ℕ) (coeffs : List Float) (len : ℕ) (protect
     pub finite : (i : ℕ) → i < len → is_finite (get_or coeffs i nan) ≡ true
     pub dt_finite : is_finite dt ≡ true
     pub drop_finite : is_finite dropTol ≡ true
-    pub tau : tau_tests len l ≡ Accepted
+    pub tau : tau_tests len l ≡ Ok tt
 
-  pub numbers_passed : numbers ≡ Accepted → NumbersPassed
+  pub numbers_passed : numbers ≡ Ok tt → NumbersPassed
   unfolding inside_to
   numbers_passed e =
       let k : ℕ = length protected / word_lanes in
@@ -315,13 +315,13 @@ module _ (len : ℕ) (basis heads nexts : List ℕ) (each : length basis ≡ len
   size : length (words basis) ≡ len
   size = omega (arith, each, words_low basis, words_high basis)
 
-  pub distinct_repeated : r < len → (Refused (RepeatedBasisWord r) ≡ distinct (words basis)) × Untouched (Refused (RepeatedBasisWord r)) heads nexts heads' (part ++ drop len nexts)
+  pub distinct_repeated : r < len → (Err (RepeatedBasisWord r) ≡ distinct (words basis)) × Untouched (Err (RepeatedBasisWord r)) heads nexts heads' (part ++ drop len nexts)
   unfolding distinct
   distinct_repeated h =
       let u = d.unchanged (omega (arith, size)) in
       (rw (← d.first, lt-ltb r (length (words basis)) (omega (arith, size))), λ q e. (u.0, ap (λ (k : List ℕ). k ++ drop len nexts) u.1 ∙ take-append-drop len nexts))
 
-  pub distinct_laid : len ≤ r → (Accepted ≡ distinct (words basis)) × Untouched Accepted heads nexts heads' (part ++ drop len nexts)
+  pub distinct_laid : len ≤ r → ((Ok tt) ≡ distinct (words basis)) × Untouched (Ok tt) heads nexts heads' (part ++ drop len nexts)
   unfolding distinct
   distinct_laid h = (rw (← d.first, le-ltb r (length (words basis)) (omega (arith, size))), λ q e. absurd (refused_not q (sym e)))
 
@@ -336,20 +336,20 @@ module _ (m : Model) (t : ModelTables) (lanes : List ℕ) (coeffs : List Float) 
   abbrev number_answer : Answer
   number_answer = number_tests m.qubits lanes coeffs len protected l dt dropTol
 
-  pub given_refused : (r : Answer) (q : Refusal) → r ≡ given_tests m t lanes coeffs len protected l → r ≡ Refused q → r ≡ all_tests
+  pub given_refused : (r : Answer) (q : Refusal) → r ≡ given_tests m t lanes coeffs len protected l → r ≡ Err q → Err q ≡ all_tests
   unfolding step_tests
-  given_refused r q e f = f ∙ rw (sym e ∙ f)
+  given_refused r q e f = rw (sym e ∙ f)
 
-  module _ (ok : given_tests m t lanes coeffs len protected l ≡ Accepted) where
-    pub work_refused : (r : Answer) (q : Refusal) → r ≡ work_answer → r ≡ Refused q → r ≡ all_tests
+  module _ (ok : given_tests m t lanes coeffs len protected l ≡ Ok tt) where
+    pub work_refused : (r : Answer) (q : Refusal) → r ≡ work_answer → r ≡ Err q → Err q ≡ all_tests
     unfolding step_tests
-    work_refused r q e f = f ∙ rw (ok, sym e ∙ f)
+    work_refused r q e f = rw (ok, sym e ∙ f)
 
-    module _ (ok2 : work_answer ≡ Accepted) where
-      pub numbers_refused : (r : Answer) (q : Refusal) → r ≡ number_answer → r ≡ Refused q → r ≡ all_tests
+    module _ (ok2 : work_answer ≡ Ok tt) where
+      pub numbers_refused : (r : Answer) (q : Refusal) → r ≡ number_answer → r ≡ Err q → Err q ≡ all_tests
       unfolding step_tests
-      numbers_refused r q e f = f ∙ rw (ok, ok2, sym e ∙ f)
+      numbers_refused r q e f = rw (ok, ok2, sym e ∙ f)
 
-      pub all_tested : number_answer ≡ Accepted → (ws : List Word) → ws ≡ basis_of lanes len → (r : Answer) → r ≡ distinct ws → r ≡ all_tests
+      pub all_tested : number_answer ≡ Ok tt → (ws : List Word) → ws ≡ basis_of lanes len → (r : Answer) → r ≡ distinct ws → r ≡ all_tests
       unfolding step_tests
       all_tested ok3 ws e r f = f ∙ rw (ok, ok2, ok3, e)

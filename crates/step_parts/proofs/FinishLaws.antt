@@ -12,15 +12,14 @@ use lib.Dec.{ltb, leb}
 use lib.Ieee.{Float, le}
 use lib.ListN.{length, take, drop, replicate, length-append, length-drop}
 use lib.Seq.{take_at, length-take-le}
-use Rattle.refusal.specs.declared.Refusal.{Refusal}
 use Rattle.word.specs.Flat.{words, flat_lanes, word_lanes}
 use Rattle.word.specs.declared.word.Word.{Word}
 use Rattle.word.proofs.FlatLaws.{words_high, lanes_front}
 use Rattle.number.specs.Floats.{float0}
 use Rattle.keep.proofs.FillLaws.{rest_filled}
-use Rattle.lent.specs.Read.{Read, got, refused}
+use Rattle.lent.specs.Read.{Read, got}
 use Rattle.step_laws.specs.Steps.{Stepped, kept_by, pruned_by, capped_by}
-use Rattle.step_parts.specs.declared.taken.Step.TheVariants.{Taken, Refused}
+use Rattle.std.specs.Prelude.{Ok}
 use Rattle.step_parts.specs.Ends.{kept, acts, words_after, numbers_after, ending}
 use Rattle.step_parts.specs.Between.{Truncates, grown}
 use Rattle.step_parts.proofs.TruncateLaws.{pruned_products}
@@ -87,10 +86,7 @@ capped_products protected limit s = go (leb (length s.words) limit) _
 module _ (protected : List Word) (tol : Float) (limit : ℕ) (lanes : List ℕ) (coeffs : List Float) (course : Read Stepped) where
   pub course_taken : (g : Stepped) → course ≡ got g → (r : ℕ) (lanes' : List ℕ) (coeffs' : List Float) → r ≡ length (kept protected tol limit g).words
       → lanes' ≡ words_after (acts tol limit g) (kept protected tol limit g) lanes → coeffs' ≡ numbers_after (acts tol limit g) (kept protected tol limit g) coeffs
-      → record { answer = Taken r g.products; lanes = lanes'; coeffs = coeffs' } ≡ ending protected tol limit lanes coeffs course
+      → record { answer = Ok (record { entries = r; products = g.products }); lanes = lanes'; coeffs = coeffs' } ≡ ending protected tol limit lanes coeffs course
   course_taken g e r lanes' coeffs' er el ec =
       let p : (kept protected tol limit g).products ≡ g.products = capped_products protected limit (pruned_by protected tol g) ∙ pruned_products protected tol g in
       rw (e, er, el, ec, p)
-
-  pub course_refused : (q : Refusal) → course ≡ refused q → record { answer = Refused q; lanes = lanes; coeffs = coeffs } ≡ ending protected tol limit lanes coeffs course
-  course_refused q e = rw e

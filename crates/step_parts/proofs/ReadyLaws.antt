@@ -13,8 +13,8 @@ use lib.Ieee.{Float, nan}
 use lib.ListN.{length, take}
 use lib.Seq.{get_or-take, length-take-le}
 use Rattle.refusal.specs.declared.Refusal.TheVariants.{NumberOutOfRange}
-use Rattle.refusal.specs.declared.Answer.{Answer}
-use Rattle.refusal.specs.declared.Answer.TheVariants.{Accepted, Refused}
+use Rattle.std.specs.Prelude.{Ok, Err}
+use Rattle.refusal.specs.Cause.{Answer}
 use Rattle.word.specs.Word.{identity}
 use Rattle.word.specs.Flat.{words, word_lanes}
 use Rattle.word.specs.Register.{reaches}
@@ -38,16 +38,16 @@ use Rattle.step_parts.proofs.CheckLaws.{where_any_lem, GivenPassed, given_passed
 
 -- ---- limits
 -- a threshold passes behind any number of coefficients
-tau_any : (l : Limits) (len count : ℕ) → tau_tests len l ≡ Accepted → tau_tests count l ≡ Accepted
+tau_any : (l : Limits) (len count : ℕ) → tau_tests len l ≡ Ok tt → tau_tests count l ≡ Ok tt
 unfolding tau_tests
 tau_any l len count e = go (eqb l.tau_given 0) (is_finite l.tau_add) e
   where
-    go : (a b : Bool) → cond a Accepted (cond b Accepted (Refused (NumberOutOfRange len))) ≡ Accepted → cond a Accepted (cond b Accepted (Refused (NumberOutOfRange count))) ≡ Accepted
+    go : (a b : Bool) → ◌≡◌ {A = Answer} (cond a (Ok tt) (cond b (Ok tt) (Err (NumberOutOfRange len)))) (Ok tt) → ◌≡◌ {A = Answer} (cond a (Ok tt) (cond b (Ok tt) (Err (NumberOutOfRange count)))) (Ok tt)
     go true b f = refl
     go false true f = refl
     go false false f = absurd (refused_not (NumberOutOfRange len) f)
 
-limit_few : (l : Limits) → limit_tests l ≡ Accepted → l.max_basis ≤ max_words
+limit_few : (l : Limits) → limit_tests l ≡ Ok tt → l.max_basis ≤ max_words
 unfolding limit_tests
 limit_few l e = (counted_passed max_words l.max_basis _ e).0
 
@@ -57,9 +57,9 @@ module _ (m : Model) (t : ModelTables) (lanes : List ℕ) (coeffs : List Float) 
     pub given : GivenPassed m t lanes coeffs len protected l
     pub work : WorkPassed m.qubits len (length protected / word_lanes) hIndex jIndex mask order heads nexts placeOrder candSums listValues workSums grownWords start evolved
     pub numbers : NumbersPassed m.qubits lanes coeffs len protected l dt dropTol
-    pub apart : distinct (basis_of lanes len) ≡ Accepted
+    pub apart : distinct (basis_of lanes len) ≡ Ok tt
 
-  pub step_passed : step_tests m t lanes coeffs len protected l dt dropTol hIndex jIndex mask order heads nexts placeOrder candSums listValues workSums grownWords start evolved ≡ Accepted → StepPassed
+  pub step_passed : step_tests m t lanes coeffs len protected l dt dropTol hIndex jIndex mask order heads nexts placeOrder candSums listValues workSums grownWords start evolved ≡ Ok tt → StepPassed
   unfolding step_tests
   step_passed e =
       let given : Answer = given_tests m t lanes coeffs len protected l in
@@ -76,7 +76,7 @@ module _ (m : Model) (t : ModelTables) (lanes : List ℕ) (coeffs : List Float) 
       }
 
   -- the given basis, and the tables for its copy, are long enough
-  pub copy_ready : step_tests m t lanes coeffs len protected l dt dropTol hIndex jIndex mask order heads nexts placeOrder candSums listValues workSums grownWords start evolved ≡ Accepted
+  pub copy_ready : step_tests m t lanes coeffs len protected l dt dropTol hIndex jIndex mask order heads nexts placeOrder candSums listValues workSums grownWords start evolved ≡ Ok tt
       → (word_lanes * len ≤ length lanes) × (len ≤ length coeffs) × (word_lanes * len ≤ grownWords) × (len ≤ start) × (len ≤ evolved)
   copy_ready e =
       let p = step_passed e in
@@ -95,7 +95,7 @@ module _ (m : Model) (t : ModelTables) (lanes : List ℕ) (coeffs : List Float) 
   words_long = length-take-le len (words lanes) (omega (arith, g.words_long, words_high lanes))
 
   -- the words are the given ones: apart from 12 all is tested
-  given_good : distinct (basis_of lanes len) ≡ Accepted → GoodWords m.qubits (take len (words lanes))
+  given_good : distinct (basis_of lanes len) ≡ Ok tt → GoodWords m.qubits (take len (words lanes))
   unfolding outside_at
   given_good e = record {
     few = omega (arith, words_long, g.few);
@@ -111,7 +111,7 @@ module _ (m : Model) (t : ModelTables) (lanes : List ℕ) (coeffs : List Float) 
       ap is_finite (get_or-take len coeffs i nan z) ∙ s.finite i z
 
   -- a copy of the given basis
-  pub ready_holds : distinct (basis_of lanes len) ≡ Accepted → (places : ℕ) → len ≤ places → (grownWords : List ℕ) (start evolved : List Float)
+  pub ready_holds : distinct (basis_of lanes len) ≡ Ok tt → (places : ℕ) → len ≤ places → (grownWords : List ℕ) (start evolved : List Float)
       → take len (words grownWords) ≡ take len (words lanes) → take len start ≡ take len coeffs → take len evolved ≡ take len coeffs → Holds m.qubits places len grownWords start evolved
   ready_holds e places h grownWords start evolved ew es ee = record {
     good = subst (GoodWords m.qubits) (sym ew) (given_good e);

@@ -14,8 +14,7 @@ use Rattle.word.specs.Flat.{words, word_lanes}
 use Rattle.word.specs.declared.word.Word.{Word}
 use Rattle.number.specs.Floats.{float0}
 use Rattle.truncate.specs.Prunes.{Keeping, prune, cap}
-use Rattle.truncate.specs.declared.kept.Kept.{Kept}
-use Rattle.truncate.specs.declared.kept.Kept.TheVariants.{Entries, Refused}
+use Rattle.std.specs.Prelude.{Result, Ok, Err}
 use Rattle.truncate_laws.proofs.AcceptedCalls.{entries_same}
 use Rattle.step_laws.specs.Steps.{Stepped, kept_by, pruned_by, capped_by}
 use Rattle.step_laws.specs.Passing.{Held, EndPlaces, EndCall}
@@ -24,7 +23,7 @@ use Rattle.step_laws.proofs.HeldLaws.{held_numbers}
 use Rattle.step_parts.specs.Between.{EndReady, Truncates, grown}
 use Rattle.step_parts.proofs.CheckLaws.{where_any_lem}
 
-entries_not : (q : Refusal) (k : ℕ) → Entries k ≡ Refused q → ⊥
+entries_not : (q : Refusal) (k : ℕ) → ◌≡◌ {A = Result ℕ Refusal} (Ok k) (Err q) → ⊥
 entries_not q k e = let z : ◌≡◌ {A = ℕ} 0 1 = cc in omega arith
 
 -- a prune takes no product
@@ -75,9 +74,9 @@ module _ (n : ℕ) (protected : List ℕ) (tol : Float) (limit len : ℕ) (lanes
   first_call : (products : ℕ) → EndCall lanes coeffs len heads nexts order places first (pruned products)
   first_call products = prune_call n lanes coeffs len ws cs held heads nexts order places protected products ready.register ready.fit ready.good room tol ready.drop_finite
 
-  module _ (r₁ : Kept) (lanes₁ : List ℕ) (coeffs₁ : List Float) (heads₁ nexts₁ order₁ places₁ : List ℕ)
+  module _ (r₁ : Result ℕ Refusal) (lanes₁ : List ℕ) (coeffs₁ : List Float) (heads₁ nexts₁ order₁ places₁ : List ℕ)
       (is₁ : record { answer = r₁; lanes = lanes₁; coeffs = coeffs₁; order = heads₁; work = nexts₁; fixed = order₁; kept = places₁ } ≡ first) where
-    pub prune_not : (q : Refusal) → r₁ ≡ Refused q → ⊥
+    pub prune_not : (q : Refusal) → r₁ ≡ Err q → ⊥
     prune_not q e = entries_not q _ (sym (first_call 0).answers ∙ sym (ap (λ (x : Keeping). x.answer) is₁) ∙ e)
 
     heads_same : length heads₁ ≡ length heads
@@ -93,7 +92,7 @@ module _ (n : ℕ) (protected : List ℕ) (tol : Float) (limit len : ℕ) (lanes
     places_same = ap length (ap (λ (x : Keeping). x.kept) is₁ ∙ (first_call 0).kept_zero) ∙ length-replicate (length places) 0
 
     -- ---- and cap of what stays
-    module _ (k : ℕ) (told₁ : r₁ ≡ Entries k) where
+    module _ (k : ℕ) (told₁ : r₁ ≡ Ok k) where
       k_is : (products : ℕ) → k ≡ length (pruned products).words
       k_is products = entries_same k _ (sym told₁ ∙ ap (λ (x : Keeping). x.answer) is₁ ∙ (first_call products).answers)
 
@@ -124,9 +123,9 @@ module _ (n : ℕ) (protected : List ℕ) (tol : Float) (limit len : ℕ) (lanes
           subst (λ (p : ℕ). EndCall lanes₁ coeffs₁ k heads₁ nexts₁ order₁ places₁ second (capped_by (words protected) limit (record { words = s.words; numbers = s.numbers; products = p }))) (sym (pruned_products (words protected) tol (grown len lanes coeffs products)))
           (cap_call n lanes₁ coeffs₁ k s.words s.numbers (held₁ products) heads₁ nexts₁ order₁ places₁ protected products ready.register (pruned_fit n (grown len lanes coeffs products) ready.fit (words protected) tol) ready.good room₁ limit ready.limit_few)
 
-      module _ (r₂ : Kept) (lanes₂ : List ℕ) (coeffs₂ : List Float) (heads₂ nexts₂ order₂ places₂ : List ℕ)
+      module _ (r₂ : Result ℕ Refusal) (lanes₂ : List ℕ) (coeffs₂ : List Float) (heads₂ nexts₂ order₂ places₂ : List ℕ)
           (is₂ : record { answer = r₂; lanes = lanes₂; coeffs = coeffs₂; order = heads₂; work = nexts₂; fixed = order₂; kept = places₂ } ≡ second) where
-        pub cap_not : (q : Refusal) → r₂ ≡ Refused q → ⊥
+        pub cap_not : (q : Refusal) → r₂ ≡ Err q → ⊥
         cap_not q e = entries_not q _ (sym (second_call 0).answers ∙ sym (ap (λ (x : Keeping). x.answer) is₂) ∙ e)
 
         pub order_clear : order₂ ≡ replicate (length order) 0
@@ -141,7 +140,7 @@ module _ (n : ℕ) (protected : List ℕ) (tol : Float) (limit len : ℕ) (lanes
         pub places_clear : places₂ ≡ replicate (length places) 0
         places_clear = ap (λ (x : Keeping). x.kept) is₂ ∙ (second_call 0).kept_zero ∙ ap (λ (i : ℕ). replicate i 0) places_same
 
-        pub truncates : (j : ℕ) → r₂ ≡ Entries j → (products : ℕ) → Truncates (capped_by (words protected) limit (pruned products)) len j lanes₂ coeffs₂
+        pub truncates : (j : ℕ) → r₂ ≡ Ok j → (products : ℕ) → Truncates (capped_by (words protected) limit (pruned products)) len j lanes₂ coeffs₂
         truncates j told products =
             let s : Stepped = capped_by (words protected) limit (pruned products) in
             let call = second_call products in

@@ -2,10 +2,10 @@
 -- SPDX-License-Identifier: Apache-2.0
 
 -- Contracts between functions: what the parts of a step ask for and leave.
-use Rattle.std.specs.Prelude.{ℕ, ◌+◌, ◌*◌, ◌/◌, ◌≤◌, ◌<◌, min, ◌≡◌, Bool, true, not, cond, ◌&&◌, List, ◌++◌, eqb, Float, length, take, replicate}
+use Rattle.std.specs.Prelude.{ℕ, ◌+◌, ◌*◌, ◌/◌, ◌≤◌, ◌<◌, min, ◌≡◌, Bool, true, not, cond, ◌&&◌, List, ◌++◌, eqb, Float, length, take, replicate, Result, Ok, Err}
 use Rattle.refusal.specs.declared.Refusal.{Refusal}
-use Rattle.refusal.specs.declared.Answer.{Answer}
-use Rattle.refusal.specs.declared.Answer.TheVariants as Tests
+use Rattle.step_parts.specs.declared.taken.Step.{Step}
+use Rattle.refusal.specs.Cause.{Answer}
 use Rattle.word.specs.Word.{max_qubits}
 use Rattle.word.specs.Flat.{words, word_lanes}
 use Rattle.word.specs.declared.word.Word.{Word}
@@ -19,25 +19,21 @@ use Rattle.lent.specs.Words.{max_words}
 use Rattle.limits.specs.Defaults.{limit_tests, tau_tests}
 use Rattle.limits.specs.declared.Limits.{Limits}
 use Rattle.action.specs.Counts.{row_lanes}
-use Rattle.truncate.specs.declared.kept.Kept.{Kept}
-use Rattle.truncate.specs.declared.kept.Kept.TheVariants as Kepts
 use Rattle.step_laws.specs.Steps.{Places, Outcome, Stepped, with_zeros}
 use Rattle.step_laws.specs.Passing.{Fit, AreFinite, GoodWords, GoodProtected}
 use Rattle.step_parts.specs.Lent.{Work, touched_places, row_places, entry_places}
-use Rattle.step_parts.specs.declared.taken.Step.{Step}
-use Rattle.step_parts.specs.declared.taken.Step.TheVariants as Steps
 
 -- ---- the tests
 -- a refusal leaves the tables in which words are looked for as they were
 abbrev pub Untouched : Answer → (heads nexts heads' nexts' : List ℕ) → Type 0
-Untouched r heads nexts heads' nexts' = (q : Refusal) → r ≡ Tests.Refused q → (heads' ≡ heads) × (nexts' ≡ nexts)
+Untouched r heads nexts heads' nexts' = (q : Refusal) → r ≡ Err q → (heads' ≡ heads) × (nexts' ≡ nexts)
 
 -- ---- what stays as it is all through a step
 pub record Given (m : Model) (t : ModelTables) (protected : List ℕ) (l : Limits) : Type 0 where
-  pub model : test_model m t ≡ Tests.Accepted
+  pub model : test_model m t ≡ Ok tt
   pub good : GoodProtected m.qubits protected
-  pub limits : limit_tests l ≡ Tests.Accepted
-  pub tau : (count : ℕ) → tau_tests count l ≡ Tests.Accepted
+  pub limits : limit_tests l ≡ Ok tt
+  pub tau : (count : ℕ) → tau_tests count l ≡ Ok tt
 
 pub record FiniteStep (dt dropTol : Float) : Type 0 where
   pub dt_finite : is_finite dt ≡ true
@@ -183,9 +179,9 @@ pub record Entered (plain : Read (List Word)) (n places len k : ℕ) (grownWords
   pub inside : k ≤ places
   pub any : 0 < k → 0 < len
 
-pub record Hops (plain : Read (List Word)) (n places len : ℕ) (grownWords : List ℕ) (start : List Float) (r : Kept) (grownWords' : List ℕ) (start' : List Float) : Type 0 where
-  pub enters : (k : ℕ) → r ≡ Kepts.Entries k → Entered plain n places len k grownWords start grownWords' start'
-  pub stops : (q : Refusal) → r ≡ Kepts.Refused q → plain ≡ refused q
+pub record Hops (plain : Read (List Word)) (n places len : ℕ) (grownWords : List ℕ) (start : List Float) (r : Result ℕ Refusal) (grownWords' : List ℕ) (start' : List Float) : Type 0 where
+  pub enters : (k : ℕ) → r ≡ Ok k → Entered plain n places len k grownWords start grownWords' start'
+  pub stops : (q : Refusal) → r ≡ Err q → plain ≡ refused q
 
 -- ---- evolution
 pub record EvolvePlaces (p : Places) (workWords : List ℕ) (workSums : List Float) (stageRows stageColumns : List ℕ) (candSums : List Float) (columns : List ℕ) (values : List Float) : Type 0 where
@@ -198,9 +194,9 @@ pub record Outcomes (plain : Read Outcome) (len k : ℕ) (evolved' : List Float)
   pub finite : AreFinite (take len evolved')
 
 -- what is told of an evolution as a step over so many words
-pub record EvolvesTo (plain : Read Outcome) (len : ℕ) (r : Step) (evolved' : List Float) : Type 0 where
-  pub taken : (k products : ℕ) → r ≡ Steps.Taken k products → (k ≡ len) × Outcomes plain len products evolved'
-  pub stops : (q : Refusal) → r ≡ Steps.Refused q → plain ≡ refused q
+pub record EvolvesTo (plain : Read Outcome) (len : ℕ) (r : Result Step Refusal) (evolved' : List Float) : Type 0 where
+  pub taken : (k products : ℕ) → r ≡ Ok (record { entries = k; products = products }) → (k ≡ len) × Outcomes plain len products evolved'
+  pub stops : (q : Refusal) → r ≡ Err q → plain ≡ refused q
 
 -- ---- a hop, and the evolution over the basis that it leaves
 pub record PlacesOf (p : Places) (places : ℕ) (w : Work) : Type 0 where
@@ -225,9 +221,9 @@ pub record Ended (plain : Read Stepped) (n places len k products : ℕ) (start :
   pub grows : len ≤ k
   pub any : 0 < k → 0 < len
 
-pub record Ends (plain : Read Stepped) (n places len : ℕ) (start : List Float) (r : Step) (w' : Work) : Type 0 where
-  pub ended : (k products : ℕ) → r ≡ Steps.Taken k products → Ended plain n places len k products start w'
-  pub stops : (q : Refusal) → r ≡ Steps.Refused q → plain ≡ refused q
+pub record Ends (plain : Read Stepped) (n places len : ℕ) (start : List Float) (r : Result Step Refusal) (w' : Work) : Type 0 where
+  pub ended : (k products : ℕ) → r ≡ Ok (record { entries = k; products = products }) → Ended plain n places len k products start w'
+  pub stops : (q : Refusal) → r ≡ Err q → plain ≡ refused q
 
 -- ---- the end
 pub record EndReady (n : ℕ) (protected : List ℕ) (dropTol : Float) (limit len : ℕ) (grownWords : List ℕ) (evolved : List Float) (order heads nexts placeOrder : List ℕ) : Type 0 where
@@ -247,9 +243,9 @@ abbrev pub grown : ℕ → List ℕ → List Float → ℕ → Stepped
 grown len grownWords evolved products = record { words = take len (words grownWords); numbers = take len evolved; products = products }
 
 -- what a course answers and leaves is this
-pub record Told (course : Read Stepped) (r : Step) (grownWords : List ℕ) (evolved : List Float) : Type 0 where
-  pub taken : (k products : ℕ) → r ≡ Steps.Taken k products → course ≡ got (grown k grownWords evolved products)
-  pub stops : (q : Refusal) → r ≡ Steps.Refused q → course ≡ refused q
+pub record Told (course : Read Stepped) (r : Result Step Refusal) (grownWords : List ℕ) (evolved : List Float) : Type 0 where
+  pub taken : (k products : ℕ) → r ≡ Ok (record { entries = k; products = products }) → course ≡ got (grown k grownWords evolved products)
+  pub stops : (q : Refusal) → r ≡ Err q → course ≡ refused q
 
 -- r words of the grown basis are kept
 pub record Truncates (s : Stepped) (len r : ℕ) (grownWords' : List ℕ) (evolved' : List Float) : Type 0 where

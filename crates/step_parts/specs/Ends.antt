@@ -3,15 +3,15 @@
 
 -- The end of a step: what prune and cap keep of the grown basis is laid over the lent one. Past it stands zero where prune or cap acted, else
 -- what stood there.
-use Rattle.std.specs.Prelude.{ℕ, ◌-◌, ◌*◌, Bool, not, cond, ◌||◌, List, ◌++◌, ltb, Float, length, drop, replicate}
+use Rattle.std.specs.Prelude.{ℕ, ◌-◌, ◌*◌, Bool, not, cond, ◌||◌, List, ◌++◌, ltb, Float, length, drop, replicate, Result, Err, Ok}
 use Rattle.std.specs.Float.Ieee.{le}
 use Rattle.word.specs.Flat.{flat_lanes, word_lanes}
 use Rattle.word.specs.declared.word.Word.{Word}
 use Rattle.number.specs.Floats.{float0}
 use Rattle.lent.specs.Read.{Read, got, refused}
 use Rattle.step_laws.specs.Steps.{Stepped, pruned_by, capped_by}
+use Rattle.refusal.specs.declared.Refusal.{Refusal}
 use Rattle.step_parts.specs.declared.taken.Step.{Step}
-use Rattle.step_parts.specs.declared.taken.Step.TheVariants.{Taken, Refused}
 
 abbrev pub kept : List Word → Float → ℕ → Stepped → Stepped
 kept protected dropTol limit g = capped_by protected limit (pruned_by protected dropTol g)
@@ -28,12 +28,12 @@ numbers_after acted s coeffs = s.numbers ++ cond acted (replicate (length coeffs
 
 -- the answer of a step that passed its tests, and the lent basis afterwards: a refusal of its course changes nothing
 pub record Ending : Type 0 where
-  pub answer : Step
+  pub answer : Result Step Refusal
   pub lanes : List ℕ
   pub coeffs : List Float
 
 abbrev pub ending : List Word → Float → ℕ → List ℕ → List Float → Read Stepped → Ending
-ending protected dropTol limit lanes coeffs (refused q) = record { answer = Refused q; lanes = lanes; coeffs = coeffs }
+ending protected dropTol limit lanes coeffs (refused q) = record { answer = Err q; lanes = lanes; coeffs = coeffs }
 ending protected dropTol limit lanes coeffs (got g) =
     let s : Stepped = kept protected dropTol limit g in
-    record { answer = Taken (length s.words) s.products; lanes = words_after (acts dropTol limit g) s lanes; coeffs = numbers_after (acts dropTol limit g) s coeffs }
+    record { answer = Ok (record { entries = (length s.words); products = s.products }); lanes = words_after (acts dropTol limit g) s lanes; coeffs = numbers_after (acts dropTol limit g) s coeffs }

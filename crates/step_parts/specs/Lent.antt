@@ -2,9 +2,8 @@
 -- SPDX-License-Identifier: Apache-2.0
 
 -- What a step is lent to work with, and what it asks for: the model, 8, 9, 11, 7, 12.
-use Rattle.std.specs.Prelude.{ℕ, suc, ◌+◌, ◌-◌, ◌*◌, ◌/◌, min, List, [], ◌∷◌, Float, length, replicate}
-use Rattle.refusal.specs.declared.Answer.{Answer}
-use Rattle.refusal.specs.declared.Answer.TheVariants.{Accepted}
+use Rattle.std.specs.Prelude.{ℕ, suc, ◌+◌, ◌-◌, ◌*◌, ◌/◌, min, List, [], ◌∷◌, Float, length, replicate, Ok}
+use Rattle.refusal.specs.Cause.{Answer}
 use Rattle.word.specs.Flat.{word_lanes}
 use Rattle.number.specs.Floats.{float0}
 use Rattle.model.specs.Stored.{ModelTables}
@@ -134,7 +133,7 @@ given_tests m t lanes coeffs len protected l =
     ∷ lent len (length lanes / word_lanes)
     ∷ lent len (length coeffs)
     ∷ equal (length protected / word_lanes * word_lanes) (length protected)
-    ∷ []) Accepted
+    ∷ []) (Ok tt)
 
 -- 9 for the tables whose lengths the input fixes, beside count protected words: as in leakage, then as in evolution, then the copy. An empty basis asks for
 -- no place
@@ -154,7 +153,7 @@ work_tests n len count hIndex jIndex mask order heads nexts placeOrder candSums 
     ∷ lent len (grownWords / word_lanes)
     ∷ lent len start
     ∷ lent len evolved
-    ∷ []) Accepted
+    ∷ []) (Ok tt)
 
 -- 11 for the basis, then for the protected list; 7 for coefficients, dt, drop_tol, tau_add
 unfoldable pub number_tests : ℕ → List ℕ → List Float → ℕ → List ℕ → Limits → Float → Float → Answer

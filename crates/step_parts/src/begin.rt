@@ -4,7 +4,6 @@
 // The beginning of a step: its tests, and the copy of the given basis where they are passed.
 ghost use Rattle.std.specs.Prelude.{◌≡◌, length, take};
 ghost use Rattle.refusal.specs.declared.Refusal.{Refusal};
-ghost use Rattle.refusal.specs.declared.Answer.TheVariants.{Accepted, Refused};
 ghost use Rattle.word.specs.Flat.{words as words_in};
 ghost use Rattle.model.specs.Between.{model_tables};
 ghost use Rattle.step_parts.specs.Lent.{step_tests};
@@ -13,7 +12,7 @@ use crate::check::check_step;
 use crate::copy::copy_given;
 use limits::Limits;
 use model::stored::Model;
-use refusal::Answer;
+use refusal::Refusal;
 
 pub fn begin_step(
     m: Model,
@@ -43,10 +42,10 @@ pub fn begin_step(
     grown_words: &mut [u64],
     start: &mut [f64],
     evolved: &mut [f64],
-) -> Answer
-    ensures { (result ≡ step_tests m (model_tables h_words.now h_coeffs.now jumps.now rates.now t_words.now t_numbers.now) words.now coeffs.now len protected.now limits dt drop_tol h_index j_index mask order (length heads.old) (length nexts.old) place_order cand_sums list_values work_sums (length grown_words.old) (length start.old) (length evolved.old)) × ((q : Refusal) → result ≡ Refused q → (heads.new ≡ heads.old) × (nexts.new ≡ nexts.old) × (grown_words.new ≡ grown_words.old) × (start.new ≡ start.old) × (evolved.new ≡ evolved.old)) × (result ≡ Accepted → (take len (words_in grown_words.new) ≡ take len (words_in words.now)) × (take len start.new ≡ take len coeffs.now) × (take len evolved.new ≡ take len coeffs.now)) }
+) -> Result<(), Refusal>
+    ensures { (result ≡ step_tests m (model_tables h_words.now h_coeffs.now jumps.now rates.now t_words.now t_numbers.now) words.now coeffs.now len protected.now limits dt drop_tol h_index j_index mask order (length heads.old) (length nexts.old) place_order cand_sums list_values work_sums (length grown_words.old) (length start.old) (length evolved.old)) × ((q : Refusal) → result ≡ Err q → (heads.new ≡ heads.old) × (nexts.new ≡ nexts.old) × (grown_words.new ≡ grown_words.old) × (start.new ≡ start.old) × (evolved.new ≡ evolved.old)) × (result ≡ (Ok tt) → (take len (words_in grown_words.new) ≡ take len (words_in words.now)) × (take len start.new ≡ take len coeffs.now) × (take len evolved.new ≡ take len coeffs.now)) }
 {
-    let tests = check_step(
+    check_step(
         m,
         h_words,
         h_coeffs,
@@ -74,10 +73,7 @@ pub fn begin_step(
         grown_words.len(),
         start.len(),
         evolved.len(),
-    );
-    let Answer::Accepted = tests else {
-        return tests;
-    };
+    )?;
     copy_given(words, coeffs, len, grown_words, start, evolved);
-    tests
+    Ok(())
 }

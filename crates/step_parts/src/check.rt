@@ -19,7 +19,7 @@ use limits::{Limits, check_limits, check_threshold};
 use model::stored::Model;
 use model::test::test_model;
 use number::scalar::is_finite;
-use refusal::{Answer, Refusal};
+use refusal::Refusal;
 use truncate::checks::check_entries;
 use word::flat::WORD_LANES;
 
@@ -37,24 +37,18 @@ fn check_given(
     len: usize,
     protected: &[u64],
     limits: Limits,
-) -> Answer
+) -> Result<(), Refusal>
     ensures { result ≡ given_tests m (model_tables h_words.now h_coeffs.now jumps.now rates.now t_words.now t_numbers.now) words.now coeffs.now len protected.now limits }
 {
-    let model = test_model(m, h_words, h_coeffs, jumps, rates, t_words, t_numbers);
-    let Answer::Accepted = model else {
-        return model;
-    };
+    test_model(m, h_words, h_coeffs, jumps, rates, t_words, t_numbers)?;
     if MAX_WORDS < len {
-        return Answer::Refused(Refusal::CountAboveLimit { count: len });
+        return Err(Refusal::CountAboveLimit { count: len });
     }
     let count = protected.len() / WORD_LANES;
     if MAX_WORDS < count {
-        return Answer::Refused(Refusal::CountAboveLimit { count });
+        return Err(Refusal::CountAboveLimit { count });
     }
-    let counts = check_limits(limits);
-    let Answer::Accepted = counts else {
-        return counts;
-    };
+    check_limits(limits)?;
     let places = words.len() / WORD_LANES;
     if places < len {
         return mismatch(len, places);
@@ -66,7 +60,7 @@ fn check_given(
     if protected.len() != lanes {
         return mismatch(lanes, protected.len());
     }
-    Answer::Accepted
+    Ok(())
 }
 
 // The tables whose lengths the input fixes: 9.
@@ -87,7 +81,7 @@ fn check_work(
     grown_words: usize,
     start: usize,
     evolved: usize,
-) -> Answer
+) -> Result<(), Refusal>
     requires { (n ≤ max_qubits) × (len ≤ max_words) × (count ≤ max_words) }
     ensures { result ≡ work_tests n len count h_index j_index mask order heads nexts place_order cand_sums list_values work_sums grown_words start evolved }
 {
@@ -134,7 +128,7 @@ fn check_work(
     if evolved < len {
         return mismatch(len, evolved);
     }
-    Answer::Accepted
+    Ok(())
 }
 
 // Words and numbers: 11, 7.
@@ -147,35 +141,35 @@ fn check_numbers(
     limits: Limits,
     dt: f64,
     drop_tol: f64,
-) -> Answer
+) -> Result<(), Refusal>
     requires { (word_lanes * len ≤ length words.now) × (len ≤ length coeffs.now) }
     ensures { result ≡ number_tests n words.now coeffs.now len protected.now limits dt drop_tol }
 {
-    let entries = check_entries(n, words, coeffs, len, protected);
-    let Answer::Accepted = entries else {
-        return entries;
-    };
-    let step = is_finite(dt);
-    if !step {
-        return Answer::Refused(Refusal::NumberOutOfRange { index: len });
+    check_entries(n, words, coeffs, len, protected)?;
+    if !is_finite(dt) {
+        return Err(Refusal::NumberOutOfRange { index: len });
     }
-    let threshold = is_finite(drop_tol);
-    if !threshold {
-        return Answer::Refused(Refusal::NumberOutOfRange { index: len });
+    if !is_finite(drop_tol) {
+        return Err(Refusal::NumberOutOfRange { index: len });
     }
     check_threshold(limits, len)
 }
 
 // A basis word that comes again: 12. Slots are laid in heads and nexts where none does.
-fn check_distinct(basis: &[u64], len: usize, heads: &mut [u64], nexts: &mut [u64]) -> Answer
+fn check_distinct(
+    basis: &[u64],
+    len: usize,
+    heads: &mut [u64],
+    nexts: &mut [u64],
+) -> Result<(), Refusal>
     requires { (length basis.now ≡ len * word_lanes) × (len ≤ length heads.old) × (len ≤ length nexts.old) }
     ensures { (result ≡ distinct (words_in basis.now)) × Untouched result heads.old nexts.old heads.new nexts.new }
 {
     let first = lay_distinct(basis, heads, &mut nexts[..len]);
     if first < len {
-        return Answer::Refused(Refusal::RepeatedBasisWord { position: first });
+        return Err(Refusal::RepeatedBasisWord { position: first });
     }
-    Answer::Accepted
+    Ok(())
 }
 
 // All tests, in their order.
@@ -207,18 +201,15 @@ pub fn check_step(
     grown_words: usize,
     start: usize,
     evolved: usize,
-) -> Answer
+) -> Result<(), Refusal>
     ensures { (result ≡ step_tests m (model_tables h_words.now h_coeffs.now jumps.now rates.now t_words.now t_numbers.now) words.now coeffs.now len protected.now limits dt drop_tol h_index j_index mask order (length heads.old) (length nexts.old) place_order cand_sums list_values work_sums grown_words start evolved) × Untouched result heads.old nexts.old heads.new nexts.new }
 {
-    let given = check_given(
+    check_given(
         m, h_words, h_coeffs, jumps, rates, t_words, t_numbers, words, coeffs, len, protected,
         limits,
-    );
-    let Answer::Accepted = given else {
-        return given;
-    };
+    )?;
     let n = m.qubits;
-    let work = check_work(
+    check_work(
         n,
         len,
         protected.len() / WORD_LANES,
@@ -235,13 +226,7 @@ pub fn check_step(
         grown_words,
         start,
         evolved,
-    );
-    let Answer::Accepted = work else {
-        return work;
-    };
-    let numbers = check_numbers(n, words, coeffs, len, protected, limits, dt, drop_tol);
-    let Answer::Accepted = numbers else {
-        return numbers;
-    };
+    )?;
+    check_numbers(n, words, coeffs, len, protected, limits, dt, drop_tol)?;
     check_distinct(&words[..len * WORD_LANES], len, heads, nexts)
 }

@@ -12,22 +12,14 @@ fn copy_lanes(from: &[u64], n: usize, to: &mut [u64])
     requires { (n ≤ length from.now) × (n ≤ length to.old) }
     ensures { to.new ≡ take n from.now ++ drop n to.old }
 {
-    let mut k = 0;
-    while k < n {
-        to[k] = from[k];
-        k += 1;
-    }
+    to[..n].copy_from_slice(&from[..n]);
 }
 
 fn copy_first(from: &[f64], n: usize, to: &mut [f64])
     requires { (n ≤ length from.now) × (n ≤ length to.old) }
     ensures { to.new ≡ take n from.now ++ drop n to.old }
 {
-    let mut k = 0;
-    while k < n {
-        to[k] = from[k];
-        k += 1;
-    }
+    to[..n].copy_from_slice(&from[..n]);
 }
 
 // The first len words and numbers of a basis.

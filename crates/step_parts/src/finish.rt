@@ -8,7 +8,6 @@ ghost use Rattle.word.specs.Flat.{words as words_in, word_lanes};
 ghost use Rattle.number.specs.Floats.{float0};
 ghost use Rattle.lent.specs.Read.{Read};
 ghost use Rattle.step_laws.specs.Steps.{Stepped};
-ghost use Rattle.step_parts.specs.declared.taken.Step.TheVariants.{Taken};
 ghost use Rattle.step_parts.specs.Ends.{kept, acts as acts_on, words_after, numbers_after, ending};
 ghost use Rattle.step_parts.specs.Between.{EndReady, Truncates, Told, grown};
 
@@ -16,8 +15,8 @@ use crate::copy::copy_basis;
 use crate::taken::Step;
 use generator::tables::{clear_entries, clear_places};
 use lent::clear::{clear_lanes, clear_numbers};
+use refusal::Refusal;
 use truncate::cap::cap_basis;
-use truncate::kept::Kept;
 use truncate::prune::prune_basis;
 use word::flat::WORD_LANES;
 
@@ -50,7 +49,7 @@ fn truncate_grown(
         order,
         place_order,
     );
-    let Kept::Entries(count) = pruned else {
+    let Ok(count) = pruned else {
         return 0;
     };
     let capped = cap_basis(
@@ -65,7 +64,7 @@ fn truncate_grown(
         order,
         place_order,
     );
-    let Kept::Entries(entries) = capped else {
+    let Ok(entries) = capped else {
         return 0;
     };
     entries
@@ -126,7 +125,7 @@ fn finish(
 
 // The end of a course: its refusal, with nothing handed over, or what is kept of the basis that it left.
 fn end_course(
-    taken: Step,
+    taken: Result<Step, Refusal>,
     n: usize,
     protected: &[u64],
     drop_tol: f64,
@@ -139,34 +138,30 @@ fn end_course(
     heads: &mut [u64],
     nexts: &mut [u64],
     place_order: &mut [u64],
-) -> Step
-    requires { (((k products : ℕ) → taken ≡ Taken k products → EndReady n protected.now drop_tol max_basis k grown_words.old evolved.old order.old heads.old nexts.old place_order.old × (word_lanes * k ≤ length words.old) × (k ≤ length coeffs.old))) × (order.old ≡ replicate (length order.old) 0) × (heads.old ≡ replicate (length heads.old) 0) × (nexts.old ≡ replicate (length nexts.old) 0) × (place_order.old ≡ replicate (length place_order.old) 0) }
+) -> Result<Step, Refusal>
+    requires { (((k products : ℕ) → taken ≡ Ok (record { entries = k; products = products }) → EndReady n protected.now drop_tol max_basis k grown_words.old evolved.old order.old heads.old nexts.old place_order.old × (word_lanes * k ≤ length words.old) × (k ≤ length coeffs.old))) × (order.old ≡ replicate (length order.old) 0) × (heads.old ≡ replicate (length heads.old) 0) × (nexts.old ≡ replicate (length nexts.old) 0) × (place_order.old ≡ replicate (length place_order.old) 0) }
     ensures { ((course : Read Stepped) → Told course taken grown_words.old evolved.old → record { answer = result; lanes = words.new; coeffs = coeffs.new } ≡ ending (words_in protected.now) drop_tol max_basis words.old coeffs.old course) × (order.new ≡ replicate (length order.old) 0) × (heads.new ≡ replicate (length heads.old) 0) × (nexts.new ≡ replicate (length nexts.old) 0) × (place_order.new ≡ replicate (length place_order.old) 0) }
 {
-    match taken {
-        Step::Taken { entries, products } => {
-            let kept = finish(
-                n,
-                protected,
-                drop_tol,
-                max_basis,
-                entries,
-                words,
-                coeffs,
-                grown_words,
-                evolved,
-                order,
-                heads,
-                nexts,
-                place_order,
-            );
-            Step::Taken {
-                entries: kept,
-                products,
-            }
-        }
-        Step::Refused(refusal) => Step::Refused(refusal),
-    }
+    let Step { entries, products } = taken?;
+    let kept = finish(
+        n,
+        protected,
+        drop_tol,
+        max_basis,
+        entries,
+        words,
+        coeffs,
+        grown_words,
+        evolved,
+        order,
+        heads,
+        nexts,
+        place_order,
+    );
+    Ok(Step {
+        entries: kept,
+        products,
+    })
 }
 
 // The tables of an evolution that no hop uses, and the copy, set to 0.
@@ -190,7 +185,7 @@ fn clear_rest(
 
 // The end of a course; then the copy, and the tables of an evolution that no hop uses, set to 0.
 pub fn end_step(
-    taken: Step,
+    taken: Result<Step, Refusal>,
     n: usize,
     protected: &[u64],
     drop_tol: f64,
@@ -208,8 +203,8 @@ pub fn end_step(
     stage_columns: &mut [u32],
     columns: &mut [u32],
     values: &mut [f64],
-) -> Step
-    requires { (((k products : ℕ) → taken ≡ Taken k products → EndReady n protected.now drop_tol max_basis k grown_words.old evolved.old order.old heads.old nexts.old place_order.old × (word_lanes * k ≤ length words.old) × (k ≤ length coeffs.old))) × (order.old ≡ replicate (length order.old) 0) × (heads.old ≡ replicate (length heads.old) 0) × (nexts.old ≡ replicate (length nexts.old) 0) × (place_order.old ≡ replicate (length place_order.old) 0) }
+) -> Result<Step, Refusal>
+    requires { (((k products : ℕ) → taken ≡ Ok (record { entries = k; products = products }) → EndReady n protected.now drop_tol max_basis k grown_words.old evolved.old order.old heads.old nexts.old place_order.old × (word_lanes * k ≤ length words.old) × (k ≤ length coeffs.old))) × (order.old ≡ replicate (length order.old) 0) × (heads.old ≡ replicate (length heads.old) 0) × (nexts.old ≡ replicate (length nexts.old) 0) × (place_order.old ≡ replicate (length place_order.old) 0) }
     ensures { ((course : Read Stepped) → Told course taken grown_words.old evolved.old → record { answer = result; lanes = words.new; coeffs = coeffs.new } ≡ ending (words_in protected.now) drop_tol max_basis words.old coeffs.old course) × (order.new ≡ replicate (length order.old) 0) × (heads.new ≡ replicate (length heads.old) 0) × (nexts.new ≡ replicate (length nexts.old) 0) × (place_order.new ≡ replicate (length place_order.old) 0) × (stage_rows.new ≡ replicate (length stage_rows.old) 0) × (stage_columns.new ≡ replicate (length stage_columns.old) 0) × (columns.new ≡ replicate (length columns.old) 0) × (values.new ≡ replicate (length values.old) float0) × (grown_words.new ≡ replicate (length grown_words.old) 0) × (start.new ≡ replicate (length start.old) float0) × (evolved.new ≡ replicate (length evolved.old) float0) }
 {
     let ended = end_course(

@@ -6,7 +6,7 @@ use refusal::Refusal;
 
 // How many entries the basis has, and how many matrix products it took.
 #[derive(Clone, Copy)]
-pub enum Step {
-    Taken { entries: usize, products: usize },
-    Refused(Refusal),
+pub struct Step {
+    pub entries: usize,
+    pub products: usize,
 }

@@ -15,13 +15,10 @@ use Rattle.refusal.specs.declared.Refusal.TheVariants.{SumNotFinite}
 use Rattle.number.specs.Floats.{floats, magnitude}
 use Rattle.expm.specs.Selects.{chosen, cost, max_products}
 use Rattle.expm.specs.declared.Degree.{Degree}
-use Rattle.expm.specs.declared.Chosen.{Chosen}
-use Rattle.expm.specs.declared.Chosen.TheVariants as Choice
+use Rattle.std.specs.Prelude.{Result, Ok, Err}
 use Rattle.taylor.specs.Stages.{Evolution, evolved, stopped, stages}
 use Rattle.taylor.specs.Evolves.{answer_after, out_after, Evolves, evolve_with, evolve_by}
 use Rattle.taylor.specs.Between.{AllFinite, Matrix, follows, StageReady, StagesLeave, RunReady, EvolveReady}
-use Rattle.taylor.specs.declared.evolve.Evolved.{Evolved}
-use Rattle.taylor.specs.declared.evolve.Evolved.TheVariants.{Products, Refused}
 
 -- ---- tables of as many places
 module _ (offsets columns : List ℕ) (values : List Float) (m s : ℕ) (dt : Float) (coeffs v b product out : List Float) (ready : RunReady offsets columns values m s coeffs v b product out) where
@@ -48,12 +45,12 @@ module _ (offsets columns : List ℕ) (values : List Float) (m s : ℕ) (dt : Fl
       course_is : course ≡ follows (length coeffs) r (evolved v₂)
       course_is = rw copied_is at leaves
 
-      pub run_stopped : r < length coeffs → (Refused (SumNotFinite r) ≡ answer_after (m * s) course) × (out ≡ out_after (length coeffs) out course)
+      pub run_stopped : r < length coeffs → (Err (SumNotFinite r) ≡ answer_after (m * s) course) × (out ≡ out_after (length coeffs) out course)
       run_stopped h =
           let e : course ≡ stopped r = course_is ∙ rw (lt-ltb r (length coeffs) h) in
           (sym (ap (answer_after (m * s)) e), sym (ap (out_after (length coeffs) out) e))
 
-      pub run_finished : length coeffs ≤ r → length v₂ ≡ length v₁ → (out₂ : List Float) → out₂ ≡ take (length out) v₂ → (Products (m * s) ≡ answer_after (m * s) course) × (out₂ ≡ out_after (length coeffs) out course)
+      pub run_finished : length coeffs ≤ r → length v₂ ≡ length v₁ → (out₂ : List Float) → out₂ ≡ take (length out) v₂ → (Ok (m * s) ≡ answer_after (m * s) course) × (out₂ ≡ out_after (length coeffs) out course)
       run_finished h long out₂ e₂ =
           let e : course ≡ evolved v₂ = course_is ∙ rw (le-ltb r (length coeffs) h) in
           let k : length v₂ ≡ length coeffs = long ∙ ap length copied_is in
@@ -80,26 +77,20 @@ module _ (offsets columns : List ℕ) (values : List Float) (dt : Float) (coeffs
     few = few;
   }
 
-  pub pair_run : (d : Degree) (r : Evolved) (front : List Float)
+  pub pair_run : (d : Degree) (r : Result ℕ Refusal) (front : List Float)
       → (r ≡ answer_after (d.m * d.s) (stages offsets columns values d.m d.s dt d.s coeffs)) × (front ≡ out_after (length coeffs) (take (length coeffs) out) (stages offsets columns values d.m d.s dt d.s coeffs))
-      → record { answer = r; out = front ++ drop (length coeffs) out } ≡ evolve_with offsets columns values dt coeffs out (Choice.Pair d)
+      → record { answer = r; out = front ++ drop (length coeffs) out } ≡ evolve_with offsets columns values dt coeffs out (Ok d)
   pair_run d r front e =
       let E : Evolution = stages offsets columns values d.m d.s dt d.s coeffs in
-      ap₂ (λ (a : Evolved) (l : List Float). record { answer = a; out = l }) e.0 (ap (λ (l : List Float). l ++ drop (length coeffs) out) e.1 ∙ out_whole (length coeffs) out ready.out_long E)
+      ap₂ (λ (a : Result ℕ Refusal) (l : List Float). record { answer = a; out = l }) e.0 (ap (λ (l : List Float). l ++ drop (length coeffs) out) e.1 ∙ out_whole (length coeffs) out ready.out_long E)
 
 -- ---- a choice
 module _ (offsets columns : List ℕ) (values : List Float) (dt : Float) (coeffs out : List Float) where
-  pub chosen_pair : (c : Chosen) (d : Degree) → c ≡ Choice.Pair d → (e : Evolves) → e ≡ evolve_with offsets columns values dt coeffs out (Choice.Pair d) → e ≡ evolve_with offsets columns values dt coeffs out c
-  chosen_pair c d f e h = rw f h
-
-  pub chosen_refused : (c : Chosen) (q : Refusal) → c ≡ Choice.Refused q → record { answer = Refused q; out = out } ≡ evolve_with offsets columns values dt coeffs out c
-  chosen_refused c q f = rw f
-
-  pub no_numbers : (norm dropTol : Float) → length coeffs ≡ 0 → record { answer = Products 0; out = out } ≡ evolve_by offsets columns values dt coeffs out norm dropTol
+  pub no_numbers : (norm dropTol : Float) → length coeffs ≡ 0 → record { answer = Ok 0; out = out } ≡ evolve_by offsets columns values dt coeffs out norm dropTol
   unfolding evolve_by
   no_numbers norm dropTol z = rw (eq-eqb (length coeffs) 0 z)
 
-  pub some_numbers : (norm dropTol : Float) → (length coeffs ≡ 0 → ⊥) → (c : Chosen) → c ≡ chosen dropTol (floats.times (magnitude dt) norm) → (e : Evolves) → e ≡ evolve_with offsets columns values dt coeffs out c
+  pub some_numbers : (norm dropTol : Float) → (length coeffs ≡ 0 → ⊥) → (c : Result Degree Refusal) → c ≡ chosen dropTol (floats.times (magnitude dt) norm) → (e : Evolves) → e ≡ evolve_with offsets columns values dt coeffs out c
       → e ≡ evolve_by offsets columns values dt coeffs out norm dropTol
   unfolding evolve_by
   some_numbers norm dropTol z c f e h = rw (ne_eqb (length coeffs) 0 z, ← f) h

@@ -4,14 +4,14 @@
 -- The terms of a stage and the stages of a time step, turn by turn: what is left to do gives what all of it gives. Assumes nothing.
 use mathlib.Core.Path.{◌≡◌, refl, sym, ap, ◌∙◌, subst}
 use mathlib.Core.List.{List}
-use Prim.Native.Nat.{ℕ, suc, ◌+◌, ◌-◌, ◌*◌, ◌≤◌, ◌<◌}
+use Prim.Native.Nat.{ℕ, suc, ◌+◌, ◌-◌, ◌≤◌, ◌<◌}
 use native.Mathlib.Numerals.{add-one}
 use native.Mathlib.Omega.{arith}
 use lib.Ieee.{Float}
 use lib.ListN.{length, take}
 use lib.Seq.{take_all}
 use Rattle.taylor.specs.Stages.{Evolution, evolved, added, factor, next_of, terms, stage, stages}
-use Rattle.taylor.specs.Between.{AllFinite, Matrix, follows, TermReady, TermLeaves, StageReady, StageLeaves, StagesLeave}
+use Rattle.taylor.specs.Between.{AllFinite, Matrix, follows, TermLeaves, StageReady, StageLeaves, StagesLeave}
 use Rattle.taylor.proofs.TermLaws.{goes_on, ends}
 
 module _ (offsets columns : List ℕ) (values : List Float) (m s : ℕ) (dt : Float) where
@@ -32,8 +32,6 @@ module _ (offsets columns : List ℕ) (values : List Float) (m s : ℕ) (dt : Fl
   -- ---- terms
   module _ (v₀ : List Float) where
     pub record Going (b product v : List Float) (j : ℕ) : Type 0 where
-      pub from : 1 ≤ j
-      pub to : j ≤ m + 1
       pub tables : Tables v₀ b product v
       pub b_finite : AllFinite b
       pub left : (after : List Float → Evolution) → stage offsets columns values m s dt v₀ after ≡ terms_of (m + 1 - j) j b v after
@@ -44,24 +42,12 @@ module _ (offsets columns : List ℕ) (values : List Float) (m s : ℕ) (dt : Fl
         let f : b ≡ v₀ = e ∙ take_all (length b₀) v₀ (omega (arith, r.b_long)) in
         let k : m + 1 - 1 ≡ m = omega arith in
         record {
-          from = omega arith;
-          to = omega arith;
           tables = record { matrix = r.matrix; b_long = ap length f; product_long = r.product_long; v_long = refl; v_finite = r.finite };
           b_finite = subst AllFinite (sym f) r.finite;
           left = λ after. rw (k, f);
         }
 
     module _ (b product v : List Float) (j : ℕ) (g : Going b product v j) where
-      pub going_ready : TermReady offsets columns values b product v
-      going_ready =
-          let t = g.tables in
-          record {
-            matrix = subst (λ (n : ℕ). Matrix n offsets columns values) (sym t.b_long) t.matrix;
-            finite = g.b_finite;
-            product_long = t.product_long ∙ sym t.b_long;
-            v_long = t.v_long ∙ sym t.b_long;
-          }
-
       -- one more term
       module _ (more : j ≤ m) (r : ℕ) (b' v' : List Float) (leaves : TermLeaves offsets columns values (factor dt s j) b v r b' v') where
         next_terms : (after : List Float → Evolution) → stage offsets columns values m s dt v₀ after ≡ follows (length v₀) r (terms_of (m - j) (suc j) (next_of offsets columns values m s dt j b) (added v (next_of offsets columns values m s dt j b)) after)
@@ -88,8 +74,6 @@ module _ (offsets columns : List ℕ) (values : List Float) (m s : ℕ) (dt : Fl
             let z : length b ≤ r = omega (arith, t.b_long) in
             let k : m + 1 - (j + 1) ≡ m - j = omega arith in
             record {
-              from = omega arith;
-              to = omega arith;
               tables = record { matrix = t.matrix; b_long = eb ∙ t.b_long; product_long = ep ∙ t.product_long; v_long = ev ∙ t.v_long; v_finite = leaves.v_finite z };
               b_finite = leaves.b_finite z;
               left = λ after.
@@ -110,30 +94,10 @@ module _ (offsets columns : List ℕ) (values : List Float) (m s : ℕ) (dt : Fl
 
     -- ---- stages
     pub record Running (b product v : List Float) (k : ℕ) : Type 0 where
-      pub few : k ≤ s
       pub tables : Tables v₀ b product v
       pub left : stages_of s v₀ ≡ stages_of (s - k) v
 
-    pub running_start : (b product : List Float) → StageReady offsets columns values m s b product v₀ → Running b product v₀ 0
-    running_start b product r = record {
-      few = omega arith;
-      tables = record { matrix = r.matrix; b_long = r.b_long; product_long = r.product_long; v_long = refl; v_finite = r.finite };
-      left = let e : s ≡ s - 0 = omega arith in ap (λ (n : ℕ). stages_of n v₀) e;
-    }
-
     module _ (b product v : List Float) (k : ℕ) (g : Running b product v k) where
-      pub running_ready : m < 4294967296 → m * s ≤ 1048576 → StageReady offsets columns values m s b product v
-      running_ready few small =
-          let t = g.tables in
-          record {
-            matrix = subst (λ (n : ℕ). Matrix n offsets columns values) (sym t.v_long) t.matrix;
-            finite = t.v_finite;
-            b_long = t.b_long ∙ sym t.v_long;
-            product_long = t.product_long ∙ sym t.v_long;
-            short = few;
-            few = small;
-          }
-
       module _ (more : k < s) (r : ℕ) (v' : List Float) (leaves : StageLeaves offsets columns values m s dt v r v') where
         next_stages : stages_of s v₀ ≡ follows (length v₀) r (stages_of (s - suc k) v')
         unfolding stages
@@ -148,7 +112,6 @@ module _ (offsets columns : List ℕ) (values : List Float) (m s : ℕ) (dt : Fl
         running_more h b' product' eb ep ev =
             let t = g.tables in
             record {
-              few = omega arith;
               tables = record { matrix = t.matrix; b_long = eb ∙ t.b_long; product_long = ep ∙ t.product_long; v_long = ev ∙ t.v_long; v_finite = leaves.finite (omega (arith, t.v_long)) };
               left = next_stages ∙ goes_on (length v₀) r (stages_of (s - suc k) v') h ∙ rw (add-one k);
             }

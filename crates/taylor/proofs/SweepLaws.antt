@@ -8,11 +8,11 @@ use mathlib.Core.List.{List, [], ◌∷◌, ◌++◌, append-nil}
 use Prim.Native.Nat.{ℕ, zero, suc, ◌+◌, ◌≤◌, ◌<◌}
 use native.Mathlib.Omega.{arith}
 use lib.Ieee.{Float, nan, binary64, add, mul}
-use lib.ListN.{length, get_or, take, drop, set, length-set, length-map, drop_of_length-le}
+use lib.ListN.{length, get_or, take, drop, set, length-map, drop_of_length-le}
 use lib.Seq.{take_all}
 use Rattle.number.specs.Floats.{is_finite}
 use Rattle.lent.specs.Numbers.{not_finite}
-use Rattle.lent.proofs.Firsts.{NoneBefore, none_start, none_more, first_here, first_none, first_before, first_inside}
+use Rattle.lent.proofs.Firsts.{NoneBefore, none_more, first_here, first_none, first_before}
 use Rattle.lent.proofs.WriteLaws.{written_more}
 use Rattle.taylor.specs.Stages.{scaled, added}
 use Rattle.taylor.specs.Between.{Sweeps}
@@ -45,13 +45,8 @@ added_at (x ∷ v) (y ∷ b) (suc k) e h = added_at v b k (omega arith) (omega a
 module _ (l table : List Float) where
   -- the rows before k are finite and laid
   pub record Sweeping (k : ℕ) (table' : List Float) : Type 0 where
-    pub few : k ≤ length l
-    pub long : length table' ≡ length table
     pub none : NoneBefore (not_finite l) k
     pub laid : table' ≡ take k l ++ drop k table
-
-  pub sweep_start : Sweeping 0 table
-  sweep_start = record { few = omega arith; long = refl; none = none_start (not_finite l); laid = refl }
 
   module _ (k : ℕ) (table' : List Float) (s : Sweeping k table') where
     module _ (low : k < length l) (x : Float) (x-is : x ≡ get_or l k nan) (finite : Bool) (told : finite ≡ is_finite x) where
@@ -64,23 +59,18 @@ module _ (l table : List Float) where
 
       pub sweep_more : not finite ≡ false → k < length table → Sweeping (k + 1) (set table' k x)
       sweep_more t room = record {
-        few = omega arith;
-        long = length-set table' k x ∙ s.long;
         none = none_more (not_finite l) k s.none (sym row_is ∙ t);
         laid = written_more nan l table table' (set table' k x) k x low room s.laid x-is refl;
       }
 
-    pub sweep_done : length l ≤ k → Sweeps l table k table'
-    sweep_done h =
-        let f = s.few in
-        let e : k ≡ length l = omega arith in
-        record { first = e ∙ sym (first_none (length l) (not_finite l) (λ i m. s.none i (omega arith))); laid = s.laid }
+    pub sweep_done : (r : ℕ) → r ≡ length l → r ≡ k → Sweeps l table r table'
+    sweep_done r h e = record {
+      first = h ∙ sym (first_none (length l) (not_finite l) (λ i m. s.none i (omega arith)));
+      laid = rw e s.laid;
+    }
 
 -- ---- all rows passed
 module _ (l table : List Float) (r : ℕ) (table' : List Float) (w : Sweeps l table r table') where
-  pub sweep_inside : r ≤ length l
-  sweep_inside = let i = first_inside (length l) (not_finite l) in omega (arith, w.first)
-
   pub sweep_all : length table ≡ length l → length l ≤ r → table' ≡ l
   sweep_all e h = w.laid ∙ ap₂ (λ (a b : List Float). a ++ b) (take_all r l h) (drop_of_length-le table {i = r} (omega arith)) ∙ append-nil l
 

@@ -2,8 +2,7 @@
 -- SPDX-License-Identifier: Apache-2.0
 
 -- Contracts between functions: what the functions of a stage ask for and leave.
-use Rattle.std.specs.Prelude.{ℕ, ◌+◌, ◌*◌, ◌≤◌, ◌<◌, ◌≡◌, true, false, cond, List, ◌++◌, ltb, Float, length, take, drop}
-use Rattle.refusal.specs.declared.Answer.TheVariants.{Accepted}
+use Rattle.std.specs.Prelude.{ℕ, ◌+◌, ◌*◌, ◌≤◌, ◌<◌, ◌≡◌, true, false, cond, List, ◌++◌, ltb, Float, length, take, drop, Ok}
 use Rattle.lent.specs.Tests.{first_to}
 use Rattle.lent.specs.Numbers.{not_finite}
 use Rattle.csr.specs.Products.{table_tests}
@@ -21,7 +20,7 @@ pub record Sweeps (l table : List Float) (r : ℕ) (table' : List Float) : Type 
 pub record Matrix (n : ℕ) (offsets columns : List ℕ) (values : List Float) : Type 0 where
   pub offsets_long : length offsets ≡ n + 1
   pub values_long : length values ≡ length columns
-  pub passes : (b : List Float) → length b ≡ n → AllFinite b → table_tests n offsets columns values b true b Accepted ≡ Accepted
+  pub passes : (b : List Float) → length b ≡ n → AllFinite b → table_tests n offsets columns values b true b (Ok tt) ≡ Ok tt
 
 -- it goes on where all of n rows were passed
 abbrev pub follows : ℕ → ℕ → Evolution → Evolution

@@ -7,24 +7,16 @@ ghost use Rattle.std.specs.Prelude.{◌≡◌, ◌*◌, ◌≤◌, length, repli
 ghost use Rattle.number.specs.Floats.{float0};
 ghost use Rattle.expm.specs.Selects.{cost, max_products};
 ghost use Rattle.expm.specs.declared.Degree.{Degree};
-ghost use Rattle.expm.specs.declared.Chosen.TheVariants.{Pair};
 ghost use Rattle.taylor.specs.Stages.{stages as stages_of};
 ghost use Rattle.taylor.specs.Evolves.{answer_after, out_after, evolve_with, evolve_by};
 ghost use Rattle.taylor.specs.Between.{RunReady, EvolveReady};
 
 use crate::stages::run_stages;
 use csr::work::copy_numbers;
-use expm::{Chosen, Degree, select_degree};
+use expm::{Degree, select_degree};
 use lent::clear::clear_numbers;
 use number::scalar::magnitude;
 use refusal::Refusal;
-
-// How many products were taken.
-#[derive(Drop)]
-pub enum Evolved {
-    Products(usize),
-    Refused(Refusal),
-}
 
 // All stages, in tables of as many places as there are numbers.
 fn run(
@@ -39,7 +31,7 @@ fn run(
     b: &mut [f64],
     product: &mut [f64],
     out: &mut [f64],
-) -> Evolved
+) -> Result<usize, Refusal>
     requires { RunReady offsets.now columns.now values.now m s coeffs.now v.old b.old product.old out.old }
     ensures { (result ≡ answer_after (m * s) (stages_of offsets.now columns.now values.now m s dt s coeffs.now)) × (out.new ≡ out_after (length coeffs.now) out.old (stages_of offsets.now columns.now values.now m s dt s coeffs.now)) }
 {
@@ -47,10 +39,10 @@ fn run(
     copy_numbers(coeffs, v);
     let passed = run_stages(offsets, columns, values, m, s, dt, b, product, v);
     if passed < rows {
-        return Evolved::Refused(Refusal::SumNotFinite { position: passed });
+        return Err(Refusal::SumNotFinite { position: passed });
     }
     copy_numbers(v, out);
-    Evolved::Products(m * s)
+    Ok(m * s)
 }
 
 // The stages of a pair, in the first places of the tables.
@@ -65,9 +57,9 @@ fn run_pair(
     b: &mut [f64],
     product: &mut [f64],
     out: &mut [f64],
-) -> Evolved
+) -> Result<usize, Refusal>
     requires { EvolveReady offsets.now columns.now values.now coeffs.now v.old b.old product.old out.old × (cost d ≤ max_products) }
-    ensures { record { answer = result; out = out.new } ≡ evolve_with offsets.now columns.now values.now dt coeffs.now out.old (Pair d) }
+    ensures { record { answer = result; out = out.new } ≡ evolve_with offsets.now columns.now values.now dt coeffs.now out.old (Ok d) }
 {
     let rows = coeffs.len();
     run(
@@ -85,28 +77,6 @@ fn run_pair(
     )
 }
 
-// The same of a choice, which may be refused.
-fn run_chosen(
-    chosen: Chosen,
-    offsets: &[u64],
-    columns: &[u32],
-    values: &[f64],
-    dt: f64,
-    coeffs: &[f64],
-    v: &mut [f64],
-    b: &mut [f64],
-    product: &mut [f64],
-    out: &mut [f64],
-) -> Evolved
-    requires { EvolveReady offsets.now columns.now values.now coeffs.now v.old b.old product.old out.old × ((d : Degree) → chosen ≡ Pair d → cost d ≤ max_products) }
-    ensures { record { answer = result; out = out.new } ≡ evolve_with offsets.now columns.now values.now dt coeffs.now out.old chosen }
-{
-    match chosen {
-        Chosen::Pair(d) => run_pair(d, offsets, columns, values, dt, coeffs, v, b, product, out),
-        Chosen::Refused(refusal) => Evolved::Refused(refusal),
-    }
-}
-
 // The degree is chosen for |dt| times the norm. No numbers take no product.
 fn choose_and_run(
     offsets: &[u64],
@@ -120,17 +90,15 @@ fn choose_and_run(
     b: &mut [f64],
     product: &mut [f64],
     out: &mut [f64],
-) -> Evolved
+) -> Result<usize, Refusal>
     requires { EvolveReady offsets.now columns.now values.now coeffs.now v.old b.old product.old out.old }
     ensures { record { answer = result; out = out.new } ≡ evolve_by offsets.now columns.now values.now dt coeffs.now out.old norm drop_tol }
 {
     if coeffs.len() == 0 {
-        return Evolved::Products(0);
+        return Ok(0);
     }
-    let chosen = select_degree(magnitude(dt) * norm, drop_tol);
-    run_chosen(
-        chosen, offsets, columns, values, dt, coeffs, v, b, product, out,
-    )
+    let d = select_degree(magnitude(dt) * norm, drop_tol)?;
+    run_pair(d, offsets, columns, values, dt, coeffs, v, b, product, out)
 }
 
 // The same, with zero in the work tables afterwards.
@@ -146,7 +114,7 @@ pub fn evolve(
     b: &mut [f64],
     product: &mut [f64],
     out: &mut [f64],
-) -> Evolved
+) -> Result<usize, Refusal>
     requires { EvolveReady offsets.now columns.now values.now coeffs.now v.old b.old product.old out.old }
     ensures { (record { answer = result; out = out.new } ≡ evolve_by offsets.now columns.now values.now dt coeffs.now out.old norm drop_tol) × (v.new ≡ replicate (length v.old) float0) × (b.new ≡ replicate (length b.old) float0) × (product.new ≡ replicate (length product.old) float0) }
 {

@@ -13,17 +13,14 @@ pub fn scale_rows(product: &[f64], factor: f64, b: &mut [f64]) -> usize
     requires { length product.now ≡ length b.old }
     ensures { Sweeps (scaled factor product.now) b.old result b.new }
 {
-    let mut k = 0;
-    while k < b.len() {
+    for k in 0..b.len() {
         let x = product[k] * factor;
-        let finite = is_finite(x);
-        if !finite {
+        if !is_finite(x) {
             return k;
         }
         b[k] = x;
-        k += 1;
     }
-    k
+    b.len()
 }
 
 // v + b, over v.
@@ -31,15 +28,12 @@ pub fn add_rows(b: &[f64], v: &mut [f64]) -> usize
     requires { length v.old ≡ length b.now }
     ensures { Sweeps (added v.old b.now) v.old result v.new }
 {
-    let mut k = 0;
-    while k < v.len() {
+    for k in 0..v.len() {
         let x = v[k] + b[k];
-        let finite = is_finite(x);
-        if !finite {
+        if !is_finite(x) {
             return k;
         }
         v[k] = x;
-        k += 1;
     }
-    k
+    v.len()
 }

@@ -52,14 +52,12 @@ fn run_stage(
 {
     let rows = v.len();
     copy_numbers(v, b);
-    let mut j = 1;
-    while j <= m {
+    for j in 1..=m {
         let factor = dt / ((s * j) as f64);
         let passed = add_term(offsets, columns, values, factor, b, product, v);
         if passed < rows {
             return passed;
         }
-        j += 1;
     }
     rows
 }
@@ -80,13 +78,11 @@ pub fn run_stages(
     ensures { StagesLeave offsets.now columns.now values.now m s dt v.old result v.new }
 {
     let rows = v.len();
-    let mut k = 0;
-    while k < s {
+    for _ in 0..s {
         let passed = run_stage(offsets, columns, values, m, s, dt, b, product, v);
         if passed < rows {
             return passed;
         }
-        k += 1;
     }
     rows
 }

@@ -16,8 +16,9 @@ use lib.ListN.{length, get_or, take, drop, replicate, length-map, length-replica
 use lib.Seq.{take_all}
 use Rattle.refusal.specs.declared.Refusal.{Refusal}
 use Rattle.refusal.specs.declared.Refusal.TheVariants.{TableFull}
-use Rattle.refusal.specs.declared.Answer.{Answer}
-use Rattle.refusal.specs.declared.Answer.TheVariants as Tests
+use Rattle.std.specs.Prelude.{Ok, Err}
+use Rattle.refusal.specs.Cause.{Answer}
+use Rattle.refusal.proofs.Told.{refused_not, accepted_same}
 use Rattle.word.specs.Flat.{words, word_lanes}
 use Rattle.word.specs.declared.word.Word.{Word}
 use Rattle.number.specs.Floats.{float0, is_finite}
@@ -32,7 +33,6 @@ use Rattle.keep.proofs.ChosenLaws.{walked_length, chosen_more}
 use Rattle.keep.proofs.LargestLaws.{chosen_larger}
 use Rattle.keep.proofs.AdmitLaws.{picked_length, admitted_words}
 use Rattle.truncate.specs.Admissions.{admit_flags, Admitting, tested, admit_tests, admit}
-use Rattle.truncate.specs.declared.kept.Kept.TheVariants.{Entries, Refused}
 use Rattle.truncate.proofs.AdmitTests.{admit_passed}
 use Rattle.truncate.proofs.AdmitLaws.{admit_count}
 use Rattle.order.specs.Between.{AllFinite}
@@ -46,12 +46,6 @@ flags_long len values limit =
     walked_length fixed (by_magnitude values) (limit - len) (map flag_of fixed) ∙ length-map fixed flag_of ∙ length-replicate (length values) 0
 
 -- ---- a call that accepts
-refused_not : (q : Refusal) (r : ℕ) → Refused q ≡ Entries r → ⊥
-refused_not q r e = let z : ◌≡◌ {A = ℕ} 0 1 = cc in omega arith
-
-entries_same : (a b : ℕ) → Entries a ≡ Entries b → a ≡ b
-entries_same a b e = cc
-
 module _ (len : ℕ) (lanes : List ℕ) (coeffs : List Float) (list : List ℕ) (values : List Float) (order work kept : List ℕ) (n limit : ℕ) where
   abbrev flags : List ℕ
   flags = admit_flags len values limit
@@ -65,18 +59,18 @@ module _ (len : ℕ) (lanes : List ℕ) (coeffs : List Float) (list : List ℕ) 
   abbrev new : List Word
   new = picked (length values) flags list
 
-  split : (t : Answer) (b : Bool) (full done : Admitting) (q : Refusal) → full.answer ≡ Refused q → (r : ℕ)
-      → (tested len lanes coeffs list values order work kept t (cond b full done)).answer ≡ Entries r → (t ≡ Tests.Accepted) × (b ≡ false)
-  split (Tests.Refused s) b full done q f r e = absurd (refused_not s r e)
-  split Tests.Accepted true full done q f r e = absurd (refused_not q r (sym f ∙ e))
-  split Tests.Accepted false full done q f r e = (refl, refl)
+  split : (t : Answer) (b : Bool) (full done : Admitting) (q : Refusal) → full.answer ≡ Err q → (r : ℕ)
+      → (tested len lanes coeffs list values order work kept t (cond b full done)).answer ≡ Ok r → (t ≡ Ok tt) × (b ≡ false)
+  split (Err s) b full done q f r e = absurd (refused_not s r e)
+  split (Ok _) true full done q f r e = absurd (refused_not q r (sym f ∙ e))
+  split (Ok _) false full done q f r e = (refl, refl)
 
-  module _ (r : ℕ) (entries : after.answer ≡ Entries r) where
-    known : (admit_tests len lanes coeffs list values order work kept n limit ≡ Tests.Accepted) × (ltb places (len + flagged flags) ≡ false)
+  module _ (r : ℕ) (entries : after.answer ≡ Ok r) where
+    known : (admit_tests len lanes coeffs list values order work kept n limit ≡ Ok tt) × (ltb places (len + flagged flags) ≡ false)
     unfolding admit
     known = split (admit_tests len lanes coeffs list values order work kept n limit) (ltb places (len + flagged flags)) _ _ (TableFull 3 places) refl r entries
 
-    whole : after ≡ record { answer = Entries (len + flagged flags); lanes = appended_lanes len new lanes; coeffs = appended_zeros len (flagged flags) coeffs; order = replicate (length order) 0; work = replicate (length work) 0; kept = replicate (length kept) 0 }
+    whole : after ≡ record { answer = Ok (len + flagged flags); lanes = appended_lanes len new lanes; coeffs = appended_zeros len (flagged flags) coeffs; order = replicate (length order) 0; work = replicate (length work) 0; kept = replicate (length kept) 0 }
     unfolding admit
     whole = rw (known.0, known.1)
 
@@ -90,7 +84,7 @@ module _ (len : ℕ) (lanes : List ℕ) (coeffs : List Float) (list : List ℕ) 
         record { listed = omega (arith, p.values_each); flags = omega (arith, flags_long len values limit); places = omega (arith, f, all_flags) }
 
     length_is : r ≡ len + flagged flags
-    length_is = entries_same r (len + flagged flags) (sym entries ∙ ap (λ (a : Admitting). a.answer) whole)
+    length_is = accepted_same r (len + flagged flags) (sym entries ∙ ap (λ (a : Admitting). a.answer) whole)
 
     new_length : length new ≡ flagged flags
     new_length = picked_length len (length values) list flags lanes room ∙ all_flags

@@ -15,7 +15,7 @@ use lib.ListN.{length, take, drop, replicate, length-append, length-drop}
 use lib.Seq.{take_all, length-take-le}
 use Rattle.refusal.specs.declared.Refusal.{Refusal}
 use Rattle.refusal.specs.declared.Refusal.TheVariants.{TableFull}
-use Rattle.refusal.specs.declared.Answer.TheVariants as Tests
+use Rattle.std.specs.Prelude.{Ok, Err}
 use Rattle.word.specs.Flat.{word_lanes}
 use Rattle.order.specs.Magnitudes.{by_magnitude}
 use Rattle.keep.specs.Retained.{flagged}
@@ -23,7 +23,6 @@ use Rattle.keep.specs.Chosen.{chosen}
 use Rattle.keep.specs.Admitted.{appended_zeros}
 use Rattle.keep.proofs.ChosenLaws.{chosen_unfixed}
 use Rattle.truncate.specs.Admissions.{admit_flags, admit_tests, admit}
-use Rattle.truncate.specs.declared.kept.Kept.TheVariants.{Entries, Refused}
 use Rattle.keep.specs.Between.{AdmitRoom, Admits}
 pub use Rattle.keep.proofs.OrderOnce.{magnitude_once}
 
@@ -69,19 +68,19 @@ cleared t k l part h e z =
 
 -- ---- the answers
 module _ (len : ℕ) (lanes : List ℕ) (coeffs : List Float) (list : List ℕ) (values : List Float) (order work kept : List ℕ) (n limit : ℕ) where
-  pub admit_refused : (r : Refusal) → admit_tests len lanes coeffs list values order work kept n limit ≡ Tests.Refused r
-      → record { answer = Refused r; lanes = lanes; coeffs = coeffs; order = order; work = work; kept = kept } ≡ admit len lanes coeffs list values order work kept n limit
+  pub admit_refused : (r : Refusal) → admit_tests len lanes coeffs list values order work kept n limit ≡ Err r
+      → record { answer = Err r; lanes = lanes; coeffs = coeffs; order = order; work = work; kept = kept } ≡ admit len lanes coeffs list values order work kept n limit
   unfolding admit
   admit_refused r e = rw e
 
-  module _ (ok : admit_tests len lanes coeffs list values order work kept n limit ≡ Tests.Accepted) (places room more : ℕ)
+  module _ (ok : admit_tests len lanes coeffs list values order work kept n limit ≡ Ok tt) (places room more : ℕ)
       (is-places : places ≡ min (length lanes / word_lanes) (length coeffs)) (is-room : room ≡ limit - len) (is-more : more ≡ min room (length values)) (order' work' kept' : List ℕ)
       (eo : order' ≡ replicate (length order) 0) (ew : work' ≡ replicate (length work) 0) (ek : kept' ≡ replicate (length kept) 0) where
     abbrev all_flags : List ℕ
     all_flags = admit_flags len values limit
 
     pub admit_full : places < len + more
-        → record { answer = Refused (TableFull 3 places); lanes = lanes; coeffs = coeffs; order = order'; work = work'; kept = kept' } ≡ admit len lanes coeffs list values order work kept n limit
+        → record { answer = Err (TableFull 3 places); lanes = lanes; coeffs = coeffs; order = order'; work = work'; kept = kept' } ≡ admit len lanes coeffs list values order work kept n limit
     unfolding admit
     admit_full l =
         let c = admit_count len values limit in
@@ -91,7 +90,7 @@ module _ (len : ℕ) (lanes : List ℕ) (coeffs : List Float) (list : List ℕ) 
     pub admit_done : len + more ≤ places → (r : ℕ) (lanes' : List ℕ) (coeffs' : List Float)
         → Admits len (length values) list (chosen (by_magnitude values) (replicate (length values) 0) room) lanes coeffs r lanes' coeffs'
         × (length (chosen (by_magnitude values) (replicate (length values) 0) room) ≡ length values)
-        → record { answer = Entries r; lanes = lanes'; coeffs = coeffs'; order = order'; work = work'; kept = kept' } ≡ admit len lanes coeffs list values order work kept n limit
+        → record { answer = Ok r; lanes = lanes'; coeffs = coeffs'; order = order'; work = work'; kept = kept' } ≡ admit len lanes coeffs list values order work kept n limit
     unfolding admit
     admit_done l r lanes' coeffs' h =
         let c = admit_count len values limit in

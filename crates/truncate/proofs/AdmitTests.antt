@@ -12,8 +12,8 @@ use lib.Dec.{eqb, ltb}
 use lib.Ieee.{Float, nan}
 use lib.ListN.{length, get_or}
 use Rattle.refusal.specs.declared.Refusal.TheVariants.{TooManyQubits, NumberOutOfRange, CountAboveLimit, LengthMismatch, WordOutsideRegister}
-use Rattle.refusal.specs.declared.Answer.{Answer}
-use Rattle.refusal.specs.declared.Answer.TheVariants.{Accepted, Refused}
+use Rattle.std.specs.Prelude.{Ok, Err}
+use Rattle.refusal.specs.Cause.{Answer}
 use Rattle.word.specs.Flat.{word_lanes}
 use Rattle.word.specs.Word.{max_qubits}
 use Rattle.number.specs.Floats.{is_finite}
@@ -26,7 +26,7 @@ use Rattle.truncate.specs.Admissions.{admit_tests}
 
 -- ---- words and numbers, where the first that fails is known
 module _ (count first : ℕ) (lanes : List ℕ) (n : ℕ) (after : Answer) (is : first ≡ first_to count (outside_at lanes n)) where
-  inside_not : first < count → Refused (WordOutsideRegister first) ≡ inside_to count lanes n after
+  inside_not : first < count → Err (WordOutsideRegister first) ≡ inside_to count lanes n after
   unfolding inside_to
   inside_not l = rw (sym is, lt-ltb first count l)
 
@@ -35,7 +35,7 @@ module _ (count first : ℕ) (lanes : List ℕ) (n : ℕ) (after : Answer) (is :
   inside_all l = rw (sym is, le-ltb first count l)
 
 module _ (before count first : ℕ) (numbers : List Float) (after : Answer) (is : first ≡ first_to count (not_finite numbers)) where
-  finite_not : first < count → Refused (NumberOutOfRange (before + first)) ≡ finite_to before count numbers after
+  finite_not : first < count → Err (NumberOutOfRange (before + first)) ≡ finite_to before count numbers after
   unfolding finite_to
   finite_not l = rw (sym is, lt-ltb first count l)
 
@@ -55,7 +55,7 @@ module _ (len : ℕ) (lanes : List ℕ) (coeffs : List Float) (list : List ℕ) 
   listed = length list / word_lanes
 
   abbrev values_test : Answer
-  values_test = finite_to len (length values) values Accepted
+  values_test = finite_to len (length values) values (Ok tt)
 
   abbrev coeffs_test : Answer
   coeffs_test = finite_to 0 len coeffs values_test
@@ -63,57 +63,57 @@ module _ (len : ℕ) (lanes : List ℕ) (coeffs : List Float) (list : List ℕ) 
   abbrev list_test : Answer
   list_test = inside_to (length values) list n coeffs_test
 
-  pub qubits_many : max_qubits < n → Refused (TooManyQubits n max_qubits) ≡ tests
+  pub qubits_many : max_qubits < n → Err (TooManyQubits n max_qubits) ≡ tests
   unfolding admit_tests
   qubits_many l = rw (lt-ltb max_qubits n l)
 
   module _ (qubits-few : n ≤ max_qubits) where
-    pub basis_many : max_words < len → Refused (CountAboveLimit len) ≡ tests
+    pub basis_many : max_words < len → Err (CountAboveLimit len) ≡ tests
     unfolding admit_tests
     basis_many l = rw (le-ltb max_qubits n qubits-few, lt-ltb max_words len l)
 
     module _ (basis-few : len ≤ max_words) where
-      pub list_many : max_words < listed → Refused (CountAboveLimit listed) ≡ tests
+      pub list_many : max_words < listed → Err (CountAboveLimit listed) ≡ tests
       unfolding admit_tests
       list_many l = rw (le-ltb max_qubits n qubits-few, le-ltb max_words len basis-few, lt-ltb max_words listed l)
 
       module _ (list-few : listed ≤ max_words) where
-        pub limit_high : max_words < limit → Refused (CountAboveLimit limit) ≡ tests
+        pub limit_high : max_words < limit → Err (CountAboveLimit limit) ≡ tests
         unfolding admit_tests
         limit_high l = rw (le-ltb max_qubits n qubits-few, le-ltb max_words len basis-few, le-ltb max_words listed list-few, lt-ltb max_words limit l)
 
         module _ (limit-low : limit ≤ max_words) where
-          pub lanes_short : held < len → Refused (LengthMismatch len held) ≡ tests
+          pub lanes_short : held < len → Err (LengthMismatch len held) ≡ tests
           unfolding admit_tests
           lanes_short l = rw (le-ltb max_qubits n qubits-few, le-ltb max_words len basis-few, le-ltb max_words listed list-few, le-ltb max_words limit limit-low, lt-ltb held len l)
 
           module _ (lanes-long : len ≤ held) where
-            pub coeffs_short : length coeffs < len → Refused (LengthMismatch len (length coeffs)) ≡ tests
+            pub coeffs_short : length coeffs < len → Err (LengthMismatch len (length coeffs)) ≡ tests
             unfolding admit_tests
             coeffs_short l = rw (le-ltb max_qubits n qubits-few, le-ltb max_words len basis-few, le-ltb max_words listed list-few, le-ltb max_words limit limit-low, le-ltb held len lanes-long, lt-ltb (length coeffs) len l)
 
             module _ (coeffs-long : len ≤ length coeffs) where
-              pub list_over : eqb (length list) (listed * word_lanes) ≡ false → Refused (LengthMismatch (listed * word_lanes) (length list)) ≡ tests
+              pub list_over : eqb (length list) (listed * word_lanes) ≡ false → Err (LengthMismatch (listed * word_lanes) (length list)) ≡ tests
               unfolding admit_tests
               list_over l = rw (le-ltb max_qubits n qubits-few, le-ltb max_words len basis-few, le-ltb max_words listed list-few, le-ltb max_words limit limit-low, le-ltb held len lanes-long, le-ltb (length coeffs) len coeffs-long, l)
 
               module _ (list-whole : eqb (length list) (listed * word_lanes) ≡ true) where
-                pub values_differ : eqb (length values) listed ≡ false → Refused (LengthMismatch listed (length values)) ≡ tests
+                pub values_differ : eqb (length values) listed ≡ false → Err (LengthMismatch listed (length values)) ≡ tests
                 unfolding admit_tests
                 values_differ l = rw (le-ltb max_qubits n qubits-few, le-ltb max_words len basis-few, le-ltb max_words listed list-few, le-ltb max_words limit limit-low, le-ltb held len lanes-long, le-ltb (length coeffs) len coeffs-long, list-whole, l)
 
                 module _ (values-each : eqb (length values) listed ≡ true) where
-                  pub order_short : length order < length values → Refused (LengthMismatch (length values) (length order)) ≡ tests
+                  pub order_short : length order < length values → Err (LengthMismatch (length values) (length order)) ≡ tests
                   unfolding admit_tests
                   order_short l = rw (le-ltb max_qubits n qubits-few, le-ltb max_words len basis-few, le-ltb max_words listed list-few, le-ltb max_words limit limit-low, le-ltb held len lanes-long, le-ltb (length coeffs) len coeffs-long, list-whole, values-each, lt-ltb (length order) (length values) l)
 
                   module _ (order-long : length values ≤ length order) where
-                    pub work_short : length work < length values → Refused (LengthMismatch (length values) (length work)) ≡ tests
+                    pub work_short : length work < length values → Err (LengthMismatch (length values) (length work)) ≡ tests
                     unfolding admit_tests
                     work_short l = rw (le-ltb max_qubits n qubits-few, le-ltb max_words len basis-few, le-ltb max_words listed list-few, le-ltb max_words limit limit-low, le-ltb held len lanes-long, le-ltb (length coeffs) len coeffs-long, list-whole, values-each, le-ltb (length order) (length values) order-long, lt-ltb (length work) (length values) l)
 
                     module _ (work-long : length values ≤ length work) where
-                      pub kept_short : length kept < length values → Refused (LengthMismatch (length values) (length kept)) ≡ tests
+                      pub kept_short : length kept < length values → Err (LengthMismatch (length values) (length kept)) ≡ tests
                       unfolding admit_tests
                       kept_short l = rw (le-ltb max_qubits n qubits-few, le-ltb max_words len basis-few, le-ltb max_words listed list-few, le-ltb max_words limit limit-low, le-ltb held len lanes-long, le-ltb (length coeffs) len coeffs-long, list-whole, values-each, le-ltb (length order) (length values) order-long, le-ltb (length work) (length values) work-long, lt-ltb (length kept) (length values) l)
 
@@ -123,34 +123,34 @@ module _ (len : ℕ) (lanes : List ℕ) (coeffs : List Float) (list : List ℕ) 
                         reached = rw (le-ltb max_qubits n qubits-few, le-ltb max_words len basis-few, le-ltb max_words listed list-few, le-ltb max_words limit limit-low, le-ltb held len lanes-long, le-ltb (length coeffs) len coeffs-long, list-whole, values-each, le-ltb (length order) (length values) order-long, le-ltb (length work) (length values) work-long, le-ltb (length kept) (length values) kept-long)
 
                         module _ (outside : ℕ) (is-outside : outside ≡ first_to len (outside_at lanes n)) where
-                          pub basis_outside : outside < len → Refused (WordOutsideRegister outside) ≡ tests
+                          pub basis_outside : outside < len → Err (WordOutsideRegister outside) ≡ tests
                           basis_outside l = inside_not len outside lanes n list_test is-outside l ∙ reached
 
                           module _ (inside : len ≤ outside) (stray : ℕ) (is-stray : stray ≡ first_to (length values) (outside_at list n)) where
                             reached_list : list_test ≡ tests
                             reached_list = inside_all len outside lanes n list_test is-outside inside ∙ reached
 
-                            pub list_outside : stray < length values → Refused (WordOutsideRegister stray) ≡ tests
+                            pub list_outside : stray < length values → Err (WordOutsideRegister stray) ≡ tests
                             list_outside l = inside_not (length values) stray list n coeffs_test is-stray l ∙ reached_list
 
                             module _ (list_inside : length values ≤ stray) (bad-coeff : ℕ) (is-bad-coeff : bad-coeff ≡ first_to len (not_finite coeffs)) where
                               reached_coeffs : coeffs_test ≡ tests
                               reached_coeffs = inside_all (length values) stray list n coeffs_test is-stray list_inside ∙ reached_list
 
-                              pub coeffs_bad : bad-coeff < len → Refused (NumberOutOfRange bad-coeff) ≡ tests
+                              pub coeffs_bad : bad-coeff < len → Err (NumberOutOfRange bad-coeff) ≡ tests
                               coeffs_bad l =
                                   let z : bad-coeff ≡ 0 + bad-coeff = omega arith in
-                                  ap (λ (k : ℕ). Refused (NumberOutOfRange k)) z ∙ finite_not 0 len bad-coeff coeffs values_test is-bad-coeff l ∙ reached_coeffs
+                                  ap (λ (k : ℕ). Err (NumberOutOfRange k)) z ∙ finite_not 0 len bad-coeff coeffs values_test is-bad-coeff l ∙ reached_coeffs
 
                               module _ (coeffs-good : len ≤ bad-coeff) (bad-value : ℕ) (is-bad-value : bad-value ≡ first_to (length values) (not_finite values)) where
                                 reached_values : values_test ≡ tests
                                 reached_values = finite_all 0 len bad-coeff coeffs values_test is-bad-coeff coeffs-good ∙ reached_coeffs
 
-                                pub values_bad : bad-value < length values → Refused (NumberOutOfRange (len + bad-value)) ≡ tests
-                                values_bad l = finite_not len (length values) bad-value values Accepted is-bad-value l ∙ reached_values
+                                pub values_bad : bad-value < length values → Err (NumberOutOfRange (len + bad-value)) ≡ tests
+                                values_bad l = finite_not len (length values) bad-value values (Ok tt) is-bad-value l ∙ reached_values
 
-                                pub all_passed : length values ≤ bad-value → Accepted ≡ tests
-                                all_passed l = finite_all len (length values) bad-value values Accepted is-bad-value l ∙ reached_values
+                                pub all_passed : length values ≤ bad-value → (Ok tt) ≡ tests
+                                all_passed l = finite_all len (length values) bad-value values (Ok tt) is-bad-value l ∙ reached_values
 
 -- ---- what is known where all tests are passed
 pub record Passed (list : List ℕ) (values : List Float) (order work kept : List ℕ) : Type 0 where
@@ -161,7 +161,7 @@ pub record Passed (list : List ℕ) (values : List Float) (order work kept : Lis
   pub kept_long : length values ≤ length kept
 
 pub admit_passed : (len : ℕ) (lanes : List ℕ) (coeffs : List Float) (list : List ℕ) (values : List Float) (order work kept : List ℕ) (n limit : ℕ)
-    → admit_tests len lanes coeffs list values order work kept n limit ≡ Accepted → Passed list values order work kept
+    → admit_tests len lanes coeffs list values order work kept n limit ≡ Ok tt → Passed list values order work kept
 unfolding admit_tests inside_to finite_to not_finite
 admit_passed len lanes coeffs list values order work kept n limit e =
     let listed : ℕ = length list / word_lanes in

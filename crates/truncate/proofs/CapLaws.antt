@@ -12,8 +12,8 @@ use lib.Ieee.{Float, nan}
 use lib.ListN.{length, get_or, replicate}
 use Rattle.refusal.specs.declared.Refusal.{Refusal}
 use Rattle.refusal.specs.declared.Refusal.TheVariants.{TooManyQubits, CountAboveLimit}
-use Rattle.refusal.specs.declared.Answer.{Answer}
-use Rattle.refusal.specs.declared.Answer.TheVariants.{Accepted, Refused}
+use Rattle.std.specs.Prelude.{Ok, Err}
+use Rattle.refusal.specs.Cause.{Answer}
 use Rattle.word.specs.Flat.{word_lanes}
 use Rattle.word.specs.Word.{max_qubits}
 use Rattle.number.specs.Floats.{is_finite}
@@ -23,7 +23,6 @@ use Rattle.keep.specs.Chosen.{chosen}
 use Rattle.lent.proofs.Passed.{passed, both, counted_passed}
 use Rattle.lent.specs.Words.{max_words}
 use Rattle.truncate.specs.Prunes.{cap_flags, unchanged, left, retained, length_tests, entry_tests, cap_tests, cap}
-use Rattle.truncate.specs.declared.kept.Kept.TheVariants.{Entries}
 use Rattle.truncate.proofs.ChecksLaws.{Room, lengths_then, lengths_room, entries_finite}
 
 pub slots_filled : (coeffs : List Float) (fixed flags : List ℕ) (limit held slots : ℕ) → held ≡ flagged fixed → slots ≡ limit - held → flags ≡ chosen (by_magnitude coeffs) fixed slots
@@ -44,50 +43,50 @@ module _ (len : ℕ) (lanes : List ℕ) (coeffs : List Float) (order work fixed 
   abbrev entries : Answer → Answer
   entries = entry_tests len lanes coeffs order work fixed kept n protected
 
-  pub qubits_many : max_qubits < n → Refused (TooManyQubits n max_qubits) ≡ tests
+  pub qubits_many : max_qubits < n → Err (TooManyQubits n max_qubits) ≡ tests
   unfolding cap_tests
   qubits_many l = rw (lt-ltb max_qubits n l)
 
   module _ (h1 : n ≤ max_qubits) where
-    pub entries_many : max_words < len → Refused (CountAboveLimit len) ≡ tests
+    pub entries_many : max_words < len → Err (CountAboveLimit len) ≡ tests
     unfolding cap_tests
     entries_many l = rw (le-ltb max_qubits n h1, lt-ltb max_words len l)
 
     module _ (h2 : len ≤ max_words) where
-      pub protected_many : max_words < count → Refused (CountAboveLimit count) ≡ tests
+      pub protected_many : max_words < count → Err (CountAboveLimit count) ≡ tests
       unfolding cap_tests
       protected_many l = rw (le-ltb max_qubits n h1, le-ltb max_words len h2, lt-ltb max_words count l)
 
       module _ (h3 : count ≤ max_words) where
-        pub limit_many : max_words < limit → Refused (CountAboveLimit limit) ≡ tests
+        pub limit_many : max_words < limit → Err (CountAboveLimit limit) ≡ tests
         unfolding cap_tests
         limit_many l = rw (le-ltb max_qubits n h1, le-ltb max_words len h2, le-ltb max_words count h3, lt-ltb max_words limit l)
 
         module _ (h4 : limit ≤ max_words) where
-          after_counts : lengths (entries Accepted) ≡ tests
+          after_counts : lengths (entries (Ok tt)) ≡ tests
           unfolding cap_tests
           after_counts = rw (le-ltb max_qubits n h1, le-ltb max_words len h2, le-ltb max_words count h3, le-ltb max_words limit h4)
 
-          pub lengths_refused : (r : Refusal) → lengths Accepted ≡ Refused r → Refused r ≡ tests
-          lengths_refused r e = sym (lengths_then len lanes coeffs order work fixed kept n protected (entries Accepted) ∙ rw e) ∙ after_counts
+          pub lengths_refused : (r : Refusal) → lengths (Ok tt) ≡ Err r → Err r ≡ tests
+          lengths_refused r e = sym (lengths_then len lanes coeffs order work fixed kept n protected (entries (Ok tt)) ∙ rw e) ∙ after_counts
 
-          pub entries_answer : lengths Accepted ≡ Accepted → entries Accepted ≡ tests
-          entries_answer e = sym (lengths_then len lanes coeffs order work fixed kept n protected (entries Accepted) ∙ rw e) ∙ after_counts
+          pub entries_answer : lengths (Ok tt) ≡ Ok tt → entries (Ok tt) ≡ tests
+          entries_answer e = sym (lengths_then len lanes coeffs order work fixed kept n protected (entries (Ok tt)) ∙ rw e) ∙ after_counts
 
   -- ---- the call
-  pub cap_refused : (r : Refusal) → tests ≡ Refused r → unchanged len lanes coeffs order work fixed kept r ≡ cap len lanes coeffs order work fixed kept n protected limit
+  pub cap_refused : (r : Refusal) → tests ≡ Err r → unchanged len lanes coeffs order work fixed kept r ≡ cap len lanes coeffs order work fixed kept n protected limit
   unfolding cap
   cap_refused r e = rw e
 
-  module _ (ok : tests ≡ Accepted) where
-    passed_both : (lengths Accepted ≡ Accepted) × (entries Accepted ≡ Accepted)
+  module _ (ok : tests ≡ Ok tt) where
+    passed_both : (lengths (Ok tt) ≡ Ok tt) × (entries (Ok tt) ≡ Ok tt)
     unfolding cap_tests
     passed_both =
         let e1 = passed (ltb max_qubits n) (TooManyQubits n max_qubits) _ ok in
         let e2 = counted_passed max_words len _ e1.1 in
         let e3 = counted_passed max_words count _ e2.1 in
         let e4 = counted_passed max_words limit _ e3.1 in
-        both (lengths Accepted) (entries Accepted) (sym (lengths_then len lanes coeffs order work fixed kept n protected (entries Accepted)) ∙ e4.1)
+        both (lengths (Ok tt)) (entries (Ok tt)) (sym (lengths_then len lanes coeffs order work fixed kept n protected (entries (Ok tt))) ∙ e4.1)
 
     pub cap_room : Room len lanes coeffs order work fixed kept n protected
     cap_room = lengths_room len lanes coeffs order work fixed kept n protected passed_both.0
@@ -98,6 +97,6 @@ module _ (len : ℕ) (lanes : List ℕ) (coeffs : List Float) (order work fixed 
     pub cap_answered : (r : ℕ) (lanes' : List ℕ) (coeffs' : List Float) (order' work' fixed' kept' : List ℕ)
         → ((o w f k : List ℕ) → left len lanes coeffs o w f k r lanes' coeffs' ≡ cond (leb len limit) (left len lanes coeffs o w f k len lanes coeffs) (retained len lanes coeffs o w f k (cap_flags len lanes coeffs protected limit)))
         → order' ≡ replicate (length order) 0 → work' ≡ replicate (length work) 0 → fixed' ≡ replicate (length fixed) 0 → kept' ≡ replicate (length kept) 0
-        → record { answer = Entries r; lanes = lanes'; coeffs = coeffs'; order = order'; work = work'; fixed = fixed'; kept = kept' } ≡ cap len lanes coeffs order work fixed kept n protected limit
+        → record { answer = Ok r; lanes = lanes'; coeffs = coeffs'; order = order'; work = work'; fixed = fixed'; kept = kept' } ≡ cap len lanes coeffs order work fixed kept n protected limit
     unfolding cap
     cap_answered r lanes' coeffs' order' work' fixed' kept' d eo ew ef ek = rw (ok, eo, ew, ef, ek) (d order work fixed kept)

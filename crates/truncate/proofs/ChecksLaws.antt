@@ -15,8 +15,8 @@ use lib.ListN.{length, get_or, take}
 use lib.Seq.{length-take-le, get_or-take}
 use Rattle.refusal.specs.declared.Refusal.{Refusal}
 use Rattle.refusal.specs.declared.Refusal.TheVariants.{LengthMismatch, NumberOutOfRange, WordOutsideRegister}
-use Rattle.refusal.specs.declared.Answer.{Answer}
-use Rattle.refusal.specs.declared.Answer.TheVariants.{Accepted, Refused}
+use Rattle.std.specs.Prelude.{Ok, Err}
+use Rattle.refusal.specs.Cause.{Answer}
 use Rattle.word.specs.Flat.{word_lanes}
 use Rattle.number.specs.Floats.{is_finite}
 use Rattle.order.specs.Between.{AreFinite}
@@ -30,7 +30,7 @@ use Rattle.truncate.specs.Prunes.{length_tests}
 
 -- tests before others answer as they do alone, or as the others
 module _ (r1 r2 r3 : Refusal) (after : Answer) where
-  three_then : (b1 b2 b3 : Bool) → cond b1 (Refused r1) (cond b2 (Refused r2) (cond b3 (Refused r3) after)) ≡ and_then (cond b1 (Refused r1) (cond b2 (Refused r2) (cond b3 (Refused r3) Accepted))) after
+  three_then : (b1 b2 b3 : Bool) → cond b1 (Err r1) (cond b2 (Err r2) (cond b3 (Err r3) after)) ≡ and_then (cond b1 (Err r1) (cond b2 (Err r2) (cond b3 (Err r3) (Ok tt)))) after
   three_then true b2 b3 = refl
   three_then false true b3 = refl
   three_then false false true = refl
@@ -38,8 +38,8 @@ module _ (r1 r2 r3 : Refusal) (after : Answer) where
 
   module _ (r4 r5 r6 r7 : Refusal) where
     seven_then : (b1 b2 b3 b4 b5 b6 b7 : Bool)
-        → cond b1 (Refused r1) (cond b2 (Refused r2) (cond b3 (cond b4 (Refused r4) (cond b5 (Refused r5) (cond b6 (Refused r6) (cond b7 (Refused r7) after)))) (Refused r3)))
-        ≡ and_then (cond b1 (Refused r1) (cond b2 (Refused r2) (cond b3 (cond b4 (Refused r4) (cond b5 (Refused r5) (cond b6 (Refused r6) (cond b7 (Refused r7) Accepted)))) (Refused r3)))) after
+        → cond b1 (Err r1) (cond b2 (Err r2) (cond b3 (cond b4 (Err r4) (cond b5 (Err r5) (cond b6 (Err r6) (cond b7 (Err r7) after)))) (Err r3)))
+        ≡ and_then (cond b1 (Err r1) (cond b2 (Err r2) (cond b3 (cond b4 (Err r4) (cond b5 (Err r5) (cond b6 (Err r6) (cond b7 (Err r7) (Ok tt))))) (Err r3)))) after
     seven_then true b2 b3 b4 b5 b6 b7 = refl
     seven_then false true b3 b4 b5 b6 b7 = refl
     seven_then false false false b4 b5 b6 b7 = refl
@@ -62,40 +62,40 @@ module _ (len : ℕ) (lanes : List ℕ) (coeffs : List Float) (order work fixed 
   abbrev count : ℕ
   count = length protected / word_lanes
 
-  pub lengths_then : (after : Answer) → tests after ≡ and_then (tests Accepted) after
+  pub lengths_then : (after : Answer) → tests after ≡ and_then (tests (Ok tt)) after
   lengths_then after =
       seven_then (LengthMismatch len (length lanes / word_lanes)) (LengthMismatch len (length coeffs)) (LengthMismatch (count * word_lanes) (length protected)) after (LengthMismatch (where_any len (max len count)) (length order)) (LengthMismatch (where_any len (max len count)) (length work)) (LengthMismatch len (length fixed)) (LengthMismatch len (length kept))
       (ltb (length lanes / word_lanes) len) (ltb (length coeffs) len) (eqb (length protected) (count * word_lanes)) (ltb (length order) (where_any len (max len count))) (ltb (length work) (where_any len (max len count))) (ltb (length fixed) len) (ltb (length kept) len)
 
-  pub lanes_short : length lanes / word_lanes < len → Refused (LengthMismatch len (length lanes / word_lanes)) ≡ tests Accepted
+  pub lanes_short : length lanes / word_lanes < len → Err (LengthMismatch len (length lanes / word_lanes)) ≡ tests (Ok tt)
   lanes_short l = rw (lt-ltb (length lanes / word_lanes) len l)
 
   module _ (h1 : len ≤ length lanes / word_lanes) where
-    pub coeffs_short : length coeffs < len → Refused (LengthMismatch len (length coeffs)) ≡ tests Accepted
+    pub coeffs_short : length coeffs < len → Err (LengthMismatch len (length coeffs)) ≡ tests (Ok tt)
     coeffs_short l = rw (le-ltb (length lanes / word_lanes) len h1, lt-ltb (length coeffs) len l)
 
     module _ (h2 : len ≤ length coeffs) where
-      pub protected_over : eqb (length protected) (count * word_lanes) ≡ false → Refused (LengthMismatch (count * word_lanes) (length protected)) ≡ tests Accepted
+      pub protected_over : eqb (length protected) (count * word_lanes) ≡ false → Err (LengthMismatch (count * word_lanes) (length protected)) ≡ tests (Ok tt)
       protected_over e = rw (le-ltb (length lanes / word_lanes) len h1, le-ltb (length coeffs) len h2, e)
 
       module _ (four : eqb (length protected) (count * word_lanes) ≡ true) (places : ℕ) (is : places ≡ where_any len (max len count)) where
-        pub order_short : length order < places → Refused (LengthMismatch places (length order)) ≡ tests Accepted
+        pub order_short : length order < places → Err (LengthMismatch places (length order)) ≡ tests (Ok tt)
         order_short l = rw (le-ltb (length lanes / word_lanes) len h1, le-ltb (length coeffs) len h2, four, sym is, lt-ltb (length order) places l)
 
         module _ (h3 : places ≤ length order) where
-          pub work_short : length work < places → Refused (LengthMismatch places (length work)) ≡ tests Accepted
+          pub work_short : length work < places → Err (LengthMismatch places (length work)) ≡ tests (Ok tt)
           work_short l = rw (le-ltb (length lanes / word_lanes) len h1, le-ltb (length coeffs) len h2, four, sym is, le-ltb (length order) places h3, lt-ltb (length work) places l)
 
           module _ (h4 : places ≤ length work) where
-            pub fixed_short : length fixed < len → Refused (LengthMismatch len (length fixed)) ≡ tests Accepted
+            pub fixed_short : length fixed < len → Err (LengthMismatch len (length fixed)) ≡ tests (Ok tt)
             fixed_short l = rw (le-ltb (length lanes / word_lanes) len h1, le-ltb (length coeffs) len h2, four, sym is, le-ltb (length order) places h3, le-ltb (length work) places h4, lt-ltb (length fixed) len l)
 
             module _ (h5 : len ≤ length fixed) where
-              pub kept_short : length kept < len → Refused (LengthMismatch len (length kept)) ≡ tests Accepted
+              pub kept_short : length kept < len → Err (LengthMismatch len (length kept)) ≡ tests (Ok tt)
               kept_short l =
                   rw (le-ltb (length lanes / word_lanes) len h1, le-ltb (length coeffs) len h2, four, sym is, le-ltb (length order) places h3, le-ltb (length work) places h4, le-ltb (length fixed) len h5, lt-ltb (length kept) len l)
 
-              pub lengths_accepted : len ≤ length kept → Accepted ≡ tests Accepted
+              pub lengths_accepted : len ≤ length kept → (Ok tt) ≡ tests (Ok tt)
               lengths_accepted l =
                   rw (le-ltb (length lanes / word_lanes) len h1, le-ltb (length coeffs) len h2, four, sym is, le-ltb (length order) places h3, le-ltb (length work) places h4, le-ltb (length fixed) len h5, le-ltb (length kept) len l)
 
@@ -111,7 +111,7 @@ module _ (len : ℕ) (lanes : List ℕ) (coeffs : List Float) (order work fixed 
     pub fixed_room : len ≤ length fixed
     pub kept_room : len ≤ length kept
 
-  pub lengths_room : tests Accepted ≡ Accepted → Room
+  pub lengths_room : tests (Ok tt) ≡ Ok tt → Room
   lengths_room e =
       let e1 = lent_passed len (length lanes / word_lanes) _ e in
       let e2 = lent_passed len (length coeffs) _ e1.1 in
@@ -145,7 +145,7 @@ module _ (len : ℕ) (lanes : List ℕ) (coeffs : List Float) (n : ℕ) (protect
   abbrev entries : Answer → Answer
   entries after = inside_to len lanes n (inside_to places protected n (finite_to 0 len coeffs after))
 
-  pub entries_then : (after : Answer) → entries after ≡ and_then (entries Accepted) after
+  pub entries_then : (after : Answer) → entries after ≡ and_then (entries (Ok tt)) after
   unfolding inside_to finite_to
   entries_then after =
       let a : ℕ = first_to len (outside_at lanes n) in
@@ -154,7 +154,7 @@ module _ (len : ℕ) (lanes : List ℕ) (coeffs : List Float) (n : ℕ) (protect
       three_then (WordOutsideRegister a) (WordOutsideRegister b) (NumberOutOfRange (0 + d)) after (ltb a len) (ltb b places) (ltb d len)
 
   -- where they are passed the coefficients are finite
-  pub entries_finite : entries Accepted ≡ Accepted → (i : ℕ) → i < len → is_finite (get_or coeffs i nan) ≡ true
+  pub entries_finite : entries (Ok tt) ≡ Ok tt → (i : ℕ) → i < len → is_finite (get_or coeffs i nan) ≡ true
   unfolding inside_to finite_to not_finite
   entries_finite e i h =
       let outside : ℕ = first_to len (outside_at lanes n) in
@@ -167,22 +167,22 @@ module _ (len : ℕ) (lanes : List ℕ) (coeffs : List Float) (n : ℕ) (protect
       not-false (is_finite (get_or coeffs i nan)) (first_before len (not_finite coeffs) i (omega (arith, l, h)))
 
   module _ (a : ℕ) (a-is : a ≡ first_to len (outside_at lanes n)) where
-    pub word_outside : a < len → Refused (WordOutsideRegister a) ≡ entries Accepted
+    pub word_outside : a < len → Err (WordOutsideRegister a) ≡ entries (Ok tt)
     unfolding inside_to
     word_outside l = rw (sym a-is, lt-ltb a len l)
 
     module _ (h1 : len ≤ a) (b : ℕ) (b-is : b ≡ first_to places (outside_at protected n)) where
-      pub protected_outside : b < places → Refused (WordOutsideRegister b) ≡ entries Accepted
+      pub protected_outside : b < places → Err (WordOutsideRegister b) ≡ entries (Ok tt)
       unfolding inside_to
       protected_outside l = rw (sym a-is, le-ltb a len h1, sym b-is, lt-ltb b places l)
 
       module _ (h2 : places ≤ b) (d : ℕ) (d-is : d ≡ first_to len (not_finite coeffs)) where
-        pub coefficient_bad : d < len → Refused (NumberOutOfRange d) ≡ entries Accepted
+        pub coefficient_bad : d < len → Err (NumberOutOfRange d) ≡ entries (Ok tt)
         unfolding inside_to finite_to
         coefficient_bad l =
             let z : 0 + d ≡ d = omega arith in
             rw (sym a-is, le-ltb a len h1, sym b-is, le-ltb b places h2, sym d-is, lt-ltb d len l, z)
 
-        pub entries_accepted : len ≤ d → Accepted ≡ entries Accepted
+        pub entries_accepted : len ≤ d → (Ok tt) ≡ entries (Ok tt)
         unfolding inside_to finite_to
         entries_accepted l = rw (sym a-is, le-ltb a len h1, sym b-is, le-ltb b places h2, sym d-is, le-ltb d len l)

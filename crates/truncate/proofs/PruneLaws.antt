@@ -14,8 +14,8 @@ use lib.ListN.{length, take, drop, replicate, length-append, length-take, length
 use lib.Seq.{take_at, take_all, length-take-le}
 use Rattle.refusal.specs.declared.Refusal.{Refusal}
 use Rattle.refusal.specs.declared.Refusal.TheVariants.{TooManyQubits, CountAboveLimit, NumberOutOfRange}
-use Rattle.refusal.specs.declared.Answer.{Answer}
-use Rattle.refusal.specs.declared.Answer.TheVariants.{Accepted, Refused}
+use Rattle.std.specs.Prelude.{Ok, Err}
+use Rattle.refusal.specs.Cause.{Answer}
 use Rattle.word.specs.Flat.{word_lanes}
 use Rattle.word.specs.Word.{max_qubits}
 use Rattle.number.specs.Floats.{float0, is_finite}
@@ -24,7 +24,6 @@ use Rattle.lent.proofs.Passed.{passed, both, counted_passed}
 use Rattle.lent.specs.Words.{max_words}
 use Rattle.lent.specs.Numbers.{finite_threshold}
 use Rattle.truncate.specs.Prunes.{prune_flags, unchanged, left, retained, length_tests, entry_tests, prune_tests, prune}
-use Rattle.truncate.specs.declared.kept.Kept.TheVariants.{Entries}
 use Rattle.truncate.proofs.ChecksLaws.{Room, lengths_then, lengths_room, entries_then}
 
 -- ---- entries kept by flags
@@ -56,63 +55,63 @@ module _ (len : ℕ) (lanes : List ℕ) (coeffs : List Float) (order work fixed 
   abbrev entries : Answer → Answer
   entries = entry_tests len lanes coeffs order work fixed kept n protected
 
-  pub qubits_many : max_qubits < n → Refused (TooManyQubits n max_qubits) ≡ tests
+  pub qubits_many : max_qubits < n → Err (TooManyQubits n max_qubits) ≡ tests
   unfolding prune_tests
   qubits_many l = rw (lt-ltb max_qubits n l)
 
   module _ (h1 : n ≤ max_qubits) where
-    pub entries_many : max_words < len → Refused (CountAboveLimit len) ≡ tests
+    pub entries_many : max_words < len → Err (CountAboveLimit len) ≡ tests
     unfolding prune_tests
     entries_many l = rw (le-ltb max_qubits n h1, lt-ltb max_words len l)
 
     module _ (h2 : len ≤ max_words) where
-      pub protected_many : max_words < count → Refused (CountAboveLimit count) ≡ tests
+      pub protected_many : max_words < count → Err (CountAboveLimit count) ≡ tests
       unfolding prune_tests
       protected_many l = rw (le-ltb max_qubits n h1, le-ltb max_words len h2, lt-ltb max_words count l)
 
       module _ (h3 : count ≤ max_words) where
-        after_counts : lengths (entries (finite_threshold len tol Accepted)) ≡ tests
+        after_counts : lengths (entries (finite_threshold len tol (Ok tt))) ≡ tests
         unfolding prune_tests
         after_counts = rw (le-ltb max_qubits n h1, le-ltb max_words len h2, le-ltb max_words count h3)
 
-        pub lengths_refused : (r : Refusal) → lengths Accepted ≡ Refused r → Refused r ≡ tests
-        lengths_refused r e = sym (lengths_then len lanes coeffs order work fixed kept n protected (entries (finite_threshold len tol Accepted)) ∙ rw e) ∙ after_counts
+        pub lengths_refused : (r : Refusal) → lengths (Ok tt) ≡ Err r → Err r ≡ tests
+        lengths_refused r e = sym (lengths_then len lanes coeffs order work fixed kept n protected (entries (finite_threshold len tol (Ok tt))) ∙ rw e) ∙ after_counts
 
-        module _ (h4 : lengths Accepted ≡ Accepted) where
-          after_lengths : entries (finite_threshold len tol Accepted) ≡ tests
-          after_lengths = sym (lengths_then len lanes coeffs order work fixed kept n protected (entries (finite_threshold len tol Accepted)) ∙ rw h4) ∙ after_counts
+        module _ (h4 : lengths (Ok tt) ≡ Ok tt) where
+          after_lengths : entries (finite_threshold len tol (Ok tt)) ≡ tests
+          after_lengths = sym (lengths_then len lanes coeffs order work fixed kept n protected (entries (finite_threshold len tol (Ok tt))) ∙ rw h4) ∙ after_counts
 
-          pub entries_refused : (r : Refusal) → entries Accepted ≡ Refused r → Refused r ≡ tests
-          entries_refused r e = sym (entries_then len lanes coeffs n protected (finite_threshold len tol Accepted) ∙ rw e) ∙ after_lengths
+          pub entries_refused : (r : Refusal) → entries (Ok tt) ≡ Err r → Err r ≡ tests
+          entries_refused r e = sym (entries_then len lanes coeffs n protected (finite_threshold len tol (Ok tt)) ∙ rw e) ∙ after_lengths
 
-          module _ (h5 : entries Accepted ≡ Accepted) (b : Bool) (is : b ≡ is_finite tol) where
-            after_entries : finite_threshold len tol Accepted ≡ tests
-            after_entries = sym (entries_then len lanes coeffs n protected (finite_threshold len tol Accepted) ∙ rw h5) ∙ after_lengths
+          module _ (h5 : entries (Ok tt) ≡ Ok tt) (b : Bool) (is : b ≡ is_finite tol) where
+            after_entries : finite_threshold len tol (Ok tt) ≡ tests
+            after_entries = sym (entries_then len lanes coeffs n protected (finite_threshold len tol (Ok tt)) ∙ rw h5) ∙ after_lengths
 
-            pub threshold_bad : not b ≡ true → Refused (NumberOutOfRange len) ≡ tests
+            pub threshold_bad : not b ≡ true → Err (NumberOutOfRange len) ≡ tests
             threshold_bad e = (rw (sym is, not-true b e)) ∙ after_entries
 
-            pub prune_accepted : not b ≡ false → Accepted ≡ tests
+            pub prune_accepted : not b ≡ false → (Ok tt) ≡ tests
             prune_accepted e = (rw (sym is, not-false b e)) ∙ after_entries
 
   -- ---- the call
-  pub prune_refused : (r : Refusal) → tests ≡ Refused r → unchanged len lanes coeffs order work fixed kept r ≡ prune len lanes coeffs order work fixed kept n protected tol
+  pub prune_refused : (r : Refusal) → tests ≡ Err r → unchanged len lanes coeffs order work fixed kept r ≡ prune len lanes coeffs order work fixed kept n protected tol
   unfolding prune
   prune_refused r e = rw e
 
-  module _ (ok : tests ≡ Accepted) where
+  module _ (ok : tests ≡ Ok tt) where
     pub prune_room : Room len lanes coeffs order work fixed kept n protected
     unfolding prune_tests
     prune_room =
         let e1 = passed (ltb max_qubits n) (TooManyQubits n max_qubits) _ ok in
         let e2 = counted_passed max_words len _ e1.1 in
         let e3 = counted_passed max_words count _ e2.1 in
-        let e4 = both (lengths Accepted) (entries (finite_threshold len tol Accepted)) (sym (lengths_then len lanes coeffs order work fixed kept n protected (entries (finite_threshold len tol Accepted))) ∙ e3.1) in
+        let e4 = both (lengths (Ok tt)) (entries (finite_threshold len tol (Ok tt))) (sym (lengths_then len lanes coeffs order work fixed kept n protected (entries (finite_threshold len tol (Ok tt)))) ∙ e3.1) in
         lengths_room len lanes coeffs order work fixed kept n protected e4.0
 
     pub prune_answered : (r : ℕ) (lanes' : List ℕ) (coeffs' : List Float) (order' work' fixed' kept' : List ℕ)
         → ((o w f k : List ℕ) → left len lanes coeffs o w f k r lanes' coeffs' ≡ cond (le tol float0) (left len lanes coeffs o w f k len lanes coeffs) (retained len lanes coeffs o w f k (prune_flags len lanes coeffs protected tol)))
         → order' ≡ replicate (length order) 0 → work' ≡ replicate (length work) 0 → fixed' ≡ replicate (length fixed) 0 → kept' ≡ replicate (length kept) 0
-        → record { answer = Entries r; lanes = lanes'; coeffs = coeffs'; order = order'; work = work'; fixed = fixed'; kept = kept' } ≡ prune len lanes coeffs order work fixed kept n protected tol
+        → record { answer = Ok r; lanes = lanes'; coeffs = coeffs'; order = order'; work = work'; fixed = fixed'; kept = kept' } ≡ prune len lanes coeffs order work fixed kept n protected tol
     unfolding prune
     prune_answered r lanes' coeffs' order' work' fixed' kept' d eo ew ef ek = rw (ok, eo, ew, ef, ek) (d order work fixed kept)

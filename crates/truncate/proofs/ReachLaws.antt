@@ -3,7 +3,7 @@
 
 -- A word with a bit that no word of a list has is none of them. Assumes nothing.
 use mathlib.Core.Path.{◌≡◌, refl, ap, sym, ◌∙◌}
-use mathlib.Core.Bool.{Bool, true, false, not, cond, ◌||◌}
+use mathlib.Core.Bool.{Bool, true, false, ◌||◌}
 use mathlib.Core.List.{List, [], ◌∷◌}
 use Prim.Native.Nat.{ℕ, suc, ◌+◌, ◌<◌}
 use native.Mathlib.Omega.{arith}
@@ -16,7 +16,6 @@ use Rattle.word.specs.declared.word.Word.{Word}
 use Rattle.word.proofs.CoverLaws.{covers_joined, covers_still}
 use Rattle.word.proofs.OrderLaws.{same_eq}
 use Rattle.order.specs.Places.{is_among}
-use Rattle.truncate.specs.Marks.{Reach}
 
 -- ---- one word more
 pub reach_next : (ws : List Word) (u w r : Word) (k : ℕ) → w ≡ get_or ws k identity → r ≡ join u w → ((j : ℕ) → j < k → covers u (get_or ws j identity) ≡ true)
@@ -28,7 +27,7 @@ reach_next ws u w r k e f h j l = go (ℕ_discrete j k)
     go (no p) = ap (λ (t : Word). covers t (get_or ws j identity)) f ∙ covers_still u (get_or ws j identity) w (h j (omega arith))
 
 -- ---- what is not reached
-none_reached : (u w : Word) (ws : List Word) → ((k : ℕ) → k < length ws → covers u (get_or ws k identity) ≡ true) → covers u w ≡ false → is_among w ws ≡ false
+pub none_reached : (u w : Word) (ws : List Word) → ((k : ℕ) → k < length ws → covers u (get_or ws k identity) ≡ true) → covers u w ≡ false → is_among w ws ≡ false
 unfolding is_among
 none_reached u w [] h n = refl
 none_reached u w (v ∷ ws) h n = go (same v w) refl (none_reached u w ws (λ k l. h (suc k) (omega arith)) n)
@@ -36,10 +35,3 @@ none_reached u w (v ∷ ws) h n = go (same v w) refl (none_reached u w ws (λ k 
     go : (b : Bool) → same v w ≡ b → is_among w ws ≡ false → (b || is_among w ws) ≡ false
     go true e r = sym (h 0 (omega arith)) ∙ ap (covers u) (same_eq v w e) ∙ n
     go false e r = r
-
-pub not_reached : (u w : Word) (ws : List Word) (near : Bool) → Reach u ws → near ≡ covers u w → not near ≡ true → ◌≡◌ {A = ℕ} 0 (cond (is_among w ws) 1 0)
-not_reached u w ws near r e t = sym (ap (λ (b : Bool). cond b 1 0) (none_reached u w ws r.covered (sym e ∙ off near t)))
-  where
-    off : (b : Bool) → not b ≡ true → b ≡ false
-    off true t = sym t
-    off false t = refl

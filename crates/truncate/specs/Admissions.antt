@@ -3,11 +3,10 @@
 
 -- Admission: listed words appended to a lent basis with coefficient 0, the largest first to find room, in listed order. Refusals
 -- in their order, the answer, and every lent table afterwards.
-use Rattle.std.specs.Prelude.{ℕ, ◌+◌, ◌-◌, ◌*◌, ◌/◌, min, cond, List, [], ◌∷◌, ltb, Float, length, replicate}
+use Rattle.std.specs.Prelude.{ℕ, ◌+◌, ◌-◌, ◌*◌, ◌/◌, min, cond, List, [], ◌∷◌, ltb, Float, length, replicate, Result, Ok, Err}
 use Rattle.refusal.specs.declared.Refusal.{Refusal}
 use Rattle.refusal.specs.declared.Refusal.TheVariants.{TableFull}
-use Rattle.refusal.specs.declared.Answer.{Answer}
-use Rattle.refusal.specs.declared.Answer.TheVariants as Tests
+use Rattle.refusal.specs.Cause.{Answer}
 use Rattle.word.specs.Flat.{word_lanes}
 use Rattle.order.specs.Magnitudes.{by_magnitude}
 use Rattle.keep.specs.Retained.{flagged}
@@ -16,15 +15,13 @@ use Rattle.keep.specs.Admitted.{appended_lanes, appended_zeros, picked}
 use Rattle.lent.specs.Tests.{counted, lent, equal, in_turn, registered}
 use Rattle.lent.specs.Words.{max_words, inside_to}
 use Rattle.lent.specs.Numbers.{finite_to}
-use Rattle.truncate.specs.declared.kept.Kept.{Kept}
-use Rattle.truncate.specs.declared.kept.Kept.TheVariants.{Entries, Refused}
 
 -- room is the limit less the basis length, at least 0; the largest find it, ties to the earlier listed
 unfoldable pub admit_flags : ℕ → List Float → ℕ → List ℕ
 admit_flags len values limit = chosen (by_magnitude values) (replicate (length values) 0) (limit - len)
 
 pub record Admitting : Type 0 where
-  pub answer : Kept
+  pub answer : Result ℕ Refusal
   pub lanes : List ℕ
   pub coeffs : List Float
   pub order : List ℕ
@@ -34,10 +31,10 @@ pub record Admitting : Type 0 where
 module _ (len : ℕ) (lanes : List ℕ) (coeffs : List Float) (list : List ℕ) (values : List Float) (order work kept : List ℕ) where
   -- a refusal changes nothing
   abbrev pub unchanged : Refusal → Admitting
-  unchanged r = record { answer = Refused r; lanes = lanes; coeffs = coeffs; order = order; work = work; kept = kept }
+  unchanged r = record { answer = Err r; lanes = lanes; coeffs = coeffs; order = order; work = work; kept = kept }
 
   -- work tables are zero after acceptance and 13
-  abbrev pub left : Kept → List ℕ → List Float → Admitting
+  abbrev pub left : Result ℕ Refusal → List ℕ → List Float → Admitting
   left r lanes' coeffs' = record {
     answer = r;
     lanes = lanes';
@@ -48,8 +45,8 @@ module _ (len : ℕ) (lanes : List ℕ) (coeffs : List Float) (list : List ℕ) 
   }
 
   abbrev pub tested : Answer → Admitting → Admitting
-  tested Tests.Accepted after = after
-  tested (Tests.Refused r) after = unchanged r
+  tested (Ok _) after = after
+  tested (Err r) after = unchanged r
 
   -- the places of the whole lent basis
   abbrev pub basis_places : ℕ
@@ -74,12 +71,12 @@ module _ (len : ℕ) (lanes : List ℕ) (coeffs : List Float) (list : List ℕ) 
       ∷ inside_to (length values) list n
       ∷ finite_to 0 len coeffs
       ∷ finite_to len (length values) values
-      ∷ []) Tests.Accepted
+      ∷ []) (Ok tt)
 
   -- 13 compares the basis length and the appended words with the places of the whole lent basis
   unfoldable pub admit : ℕ → ℕ → Admitting
   admit n limit =
       let flags : List ℕ = admit_flags len values limit in
       tested (admit_tests n limit)
-      (cond (ltb basis_places (len + flagged flags)) (left (Refused (TableFull 3 basis_places)) lanes coeffs)
-      (left (Entries (len + flagged flags)) (appended_lanes len (picked (length values) flags list) lanes) (appended_zeros len (flagged flags) coeffs)))
+      (cond (ltb basis_places (len + flagged flags)) (left (Err (TableFull 3 basis_places)) lanes coeffs)
+      (left (Ok (len + flagged flags)) (appended_lanes len (picked (length values) flags list) lanes) (appended_zeros len (flagged flags) coeffs)))

@@ -3,11 +3,10 @@
 
 -- Prune and cap on a lent basis, the first `len` places of a table of words beside a table of coefficients: refusals in their
 -- order, the answer, and every lent table afterwards.
-use Rattle.std.specs.Prelude.{ℕ, ◌-◌, ◌*◌, ◌/◌, max, cond, List, map, [], ◌∷◌, leb, Float, length, take, replicate}
+use Rattle.std.specs.Prelude.{ℕ, ◌-◌, ◌*◌, ◌/◌, max, cond, List, map, [], ◌∷◌, leb, Float, length, take, replicate, Result, Ok, Err}
 use Rattle.std.specs.Float.Ieee.{le}
 use Rattle.refusal.specs.declared.Refusal.{Refusal}
-use Rattle.refusal.specs.declared.Answer.{Answer}
-use Rattle.refusal.specs.declared.Answer.TheVariants as Tests
+use Rattle.refusal.specs.Cause.{Answer}
 use Rattle.word.specs.Flat.{words, word_lanes}
 use Rattle.number.specs.Floats.{float0}
 use Rattle.order.specs.Magnitudes.{by_magnitude}
@@ -18,8 +17,6 @@ use Rattle.keep.specs.Pruned.{large_flags}
 use Rattle.lent.specs.Tests.{counted, lent, where_any, equal, in_turn, registered}
 use Rattle.lent.specs.Words.{max_words, inside_to}
 use Rattle.lent.specs.Numbers.{finite_to, finite_threshold}
-use Rattle.truncate.specs.declared.kept.Kept.{Kept}
-use Rattle.truncate.specs.declared.kept.Kept.TheVariants.{Entries, Refused}
 
 -- ---- which entries stay
 -- 1 for each of the first len words that is protected
@@ -38,7 +35,7 @@ cap_flags len lanes coeffs protected limit =
 
 -- ---- what a call answers, and the lent tables afterwards
 pub record Keeping : Type 0 where
-  pub answer : Kept
+  pub answer : Result ℕ Refusal
   pub lanes : List ℕ
   pub coeffs : List Float
   pub order : List ℕ
@@ -49,12 +46,12 @@ pub record Keeping : Type 0 where
 module _ (len : ℕ) (lanes : List ℕ) (coeffs : List Float) (order work fixed kept : List ℕ) where
   -- a refusal changes nothing
   abbrev pub unchanged : Refusal → Keeping
-  unchanged r = record { answer = Refused r; lanes = lanes; coeffs = coeffs; order = order; work = work; fixed = fixed; kept = kept }
+  unchanged r = record { answer = Err r; lanes = lanes; coeffs = coeffs; order = order; work = work; fixed = fixed; kept = kept }
 
   -- work tables are zero after acceptance
   abbrev pub left : ℕ → List ℕ → List Float → Keeping
   left r lanes' coeffs' = record {
-    answer = Entries r;
+    answer = Ok r;
     lanes = lanes';
     coeffs = coeffs';
     order = replicate (length order) 0;
@@ -68,8 +65,8 @@ module _ (len : ℕ) (lanes : List ℕ) (coeffs : List Float) (order work fixed 
   retained flags = left (flagged flags) (retained_lanes len flags lanes) (retained_numbers len flags coeffs)
 
   abbrev pub tested : Answer → Keeping → Keeping
-  tested Tests.Accepted after = after
-  tested (Tests.Refused r) after = unchanged r
+  tested (Ok _) after = after
+  tested (Err r) after = unchanged r
 
   -- 1, 8, 9, 11, 7: what prune and cap ask alike of a basis and a protected list; each work table has a place for each entry, and
   -- the two for ordering, where there is an entry, also one for each protected word
@@ -101,7 +98,7 @@ module _ (len : ℕ) (lanes : List ℕ) (coeffs : List Float) (order work fixed 
         ∷ length_tests
         ∷ entry_tests
         ∷ finite_threshold len tol
-        ∷ []) Tests.Accepted
+        ∷ []) (Ok tt)
 
     -- word limits are 0 to 65,536
     unfoldable pub cap_tests : ℕ → Answer
@@ -113,7 +110,7 @@ module _ (len : ℕ) (lanes : List ℕ) (coeffs : List Float) (order work fixed 
         ∷ counted max_words limit
         ∷ length_tests
         ∷ entry_tests
-        ∷ []) Tests.Accepted
+        ∷ []) (Ok tt)
 
     -- nothing if drop_tol ≤ 0
     unfoldable pub prune : Float → Keeping

@@ -3,7 +3,6 @@
 
 // Admission: listed words appended to a lent basis, the largest first to find room.
 ghost use Rattle.std.specs.Prelude.{◌≡◌, ◌+◌, ◌-◌, ◌*◌, ◌≤◌, min, length, replicate};
-ghost use Rattle.refusal.specs.declared.Answer.TheVariants.{Accepted};
 ghost use Rattle.word.specs.Flat.{word_lanes};
 ghost use Rattle.order.specs.Magnitudes.{by_magnitude};
 ghost use Rattle.keep.specs.Chosen.{chosen};
@@ -11,7 +10,6 @@ ghost use Rattle.order.specs.Between.{AreFinite};
 ghost use Rattle.keep.specs.Between.{Admits};
 ghost use Rattle.truncate.specs.Admissions.{admit_tests, admit};
 
-use crate::kept::Kept;
 use keep::admit::append_chosen;
 use keep::largest::choose_largest_of;
 use lent::clear::clear_lanes;
@@ -19,7 +17,7 @@ use lent::numbers::first_not_finite;
 use lent::sizes::{LIST_TABLE, room_left, smaller};
 use lent::tests::mismatch;
 use lent::words::{MAX_WORDS, first_outside};
-use refusal::{Answer, Refusal};
+use refusal::Refusal;
 use word::flat::WORD_LANES;
 use word::word::MAX_QUBITS;
 
@@ -35,24 +33,24 @@ fn check_admission(
     order: &[u64],
     work: &[u64],
     kept: &[u64],
-) -> Answer
+) -> Result<(), Refusal>
     ensures { result ≡ admit_tests len words.now coeffs.now list.now values.now order.now work.now kept.now n limit }
 {
     if MAX_QUBITS < n {
-        return Answer::Refused(Refusal::TooManyQubits {
+        return Err(Refusal::TooManyQubits {
             got: n,
             max: MAX_QUBITS,
         });
     }
     if MAX_WORDS < len {
-        return Answer::Refused(Refusal::CountAboveLimit { count: len });
+        return Err(Refusal::CountAboveLimit { count: len });
     }
     let listed = list.len() / WORD_LANES;
     if MAX_WORDS < listed {
-        return Answer::Refused(Refusal::CountAboveLimit { count: listed });
+        return Err(Refusal::CountAboveLimit { count: listed });
     }
     if MAX_WORDS < limit {
-        return Answer::Refused(Refusal::CountAboveLimit { count: limit });
+        return Err(Refusal::CountAboveLimit { count: limit });
     }
     let held = words.len() / WORD_LANES;
     if held < len {
@@ -80,23 +78,23 @@ fn check_admission(
     }
     let outside = first_outside(words, len, n);
     if outside < len {
-        return Answer::Refused(Refusal::WordOutsideRegister { position: outside });
+        return Err(Refusal::WordOutsideRegister { position: outside });
     }
     let stray = first_outside(list, count, n);
     if stray < count {
-        return Answer::Refused(Refusal::WordOutsideRegister { position: stray });
+        return Err(Refusal::WordOutsideRegister { position: stray });
     }
     let bad_coeff = first_not_finite(coeffs, len);
     if bad_coeff < len {
-        return Answer::Refused(Refusal::NumberOutOfRange { index: bad_coeff });
+        return Err(Refusal::NumberOutOfRange { index: bad_coeff });
     }
     let bad_value = first_not_finite(values, count);
     if bad_value < count {
-        return Answer::Refused(Refusal::NumberOutOfRange {
+        return Err(Refusal::NumberOutOfRange {
             index: len + bad_value,
         });
     }
-    Answer::Accepted
+    Ok(())
 }
 
 // Appends the largest of the listed words, as many as there is room for: the new length. The work table is
@@ -132,8 +130,8 @@ fn admit_tested(
     order: &mut [u64],
     work: &mut [u64],
     kept: &mut [u64],
-) -> Kept
-    requires { admit_tests len words.old coeffs.old list.now values.now order.old work.old kept.old n limit ≡ Accepted }
+) -> Result<usize, Refusal>
+    requires { admit_tests len words.old coeffs.old list.now values.now order.old work.old kept.old n limit ≡ Ok tt }
     ensures { record { answer = result; lanes = words.new; coeffs = coeffs.new; order = order.new; work = work.new; kept = kept.new } ≡ admit len words.old coeffs.old list.now values.now order.old work.old kept.old n limit }
 {
     let count = values.len();
@@ -144,7 +142,7 @@ fn admit_tested(
         clear_lanes(order);
         clear_lanes(work);
         clear_lanes(kept);
-        return Kept::Refused(Refusal::TableFull {
+        return Err(Refusal::TableFull {
             table: LIST_TABLE,
             places,
         });
@@ -163,7 +161,7 @@ fn admit_tested(
     clear_lanes(order);
     clear_lanes(work);
     clear_lanes(kept);
-    Kept::Entries(end)
+    Ok(end)
 }
 
 pub fn add_leakage_capped(
@@ -177,16 +175,13 @@ pub fn add_leakage_capped(
     order: &mut [u64],
     work: &mut [u64],
     kept: &mut [u64],
-) -> Kept
+) -> Result<usize, Refusal>
     ensures { record { answer = result; lanes = words.new; coeffs = coeffs.new; order = order.new; work = work.new; kept = kept.new } ≡ admit len words.old coeffs.old list.now values.now order.old work.old kept.old n limit }
 {
-    let answer = check_admission(
+    check_admission(
         n, words, coeffs, len, list, values, limit, order, work, kept,
-    );
-    let Answer::Refused(refusal) = answer else {
-        return admit_tested(
-            n, words, coeffs, len, list, values, limit, order, work, kept,
-        );
-    };
-    Kept::Refused(refusal)
+    )?;
+    admit_tested(
+        n, words, coeffs, len, list, values, limit, order, work, kept,
+    )
 }

@@ -11,14 +11,13 @@ ghost use Rattle.truncate.specs.Prunes.{cap_flags, left, retained, cap_tests, ca
 ghost use Rattle.order.specs.Between.{AreFinite};
 
 use crate::checks::{check_entries, check_lengths};
-use crate::kept::Kept;
 use crate::protect::mark_protected;
 use keep::largest::choose_largest_of;
 use keep::retain::retain_in_place;
 use lent::clear::clear_lanes;
 use lent::sizes::room_left;
 use lent::words::MAX_WORDS;
-use refusal::{Answer, Refusal};
+use refusal::Refusal;
 use word::flat::WORD_LANES;
 use word::word::MAX_QUBITS;
 
@@ -33,46 +32,33 @@ fn check_cap(
     work: &[u64],
     fixed: &[u64],
     kept: &[u64],
-) -> Answer
+) -> Result<(), Refusal>
     ensures { result ≡ cap_tests len words.now coeffs.now order.now work.now fixed.now kept.now n protected.now limit }
 {
     if MAX_QUBITS < n {
-        return Answer::Refused(Refusal::TooManyQubits {
+        return Err(Refusal::TooManyQubits {
             got: n,
             max: MAX_QUBITS,
         });
     }
     if MAX_WORDS < len {
-        return Answer::Refused(Refusal::CountAboveLimit { count: len });
+        return Err(Refusal::CountAboveLimit { count: len });
     }
     let count = protected.len() / WORD_LANES;
     if MAX_WORDS < count {
-        return Answer::Refused(Refusal::CountAboveLimit { count });
+        return Err(Refusal::CountAboveLimit { count });
     }
     if MAX_WORDS < limit {
-        return Answer::Refused(Refusal::CountAboveLimit { count: limit });
+        return Err(Refusal::CountAboveLimit { count: limit });
     }
-    let lengths = check_lengths(words, coeffs, len, protected, order, work, fixed, kept);
-    let Answer::Accepted = lengths else {
-        return lengths;
-    };
+    check_lengths(words, coeffs, len, protected, order, work, fixed, kept)?;
     check_entries(n, words, coeffs, len, protected)
 }
 
 fn count_flagged(flags: &[u64]) -> usize
     ensures { result ≡ flagged flags.now }
 {
-    let mut held = 0;
-    let mut i = 0;
-    while i < flags.len() {
-        if flags[i] == 0 {
-            i += 1;
-        } else {
-            held += 1;
-            i += 1;
-        }
-    }
-    held
+    flags.iter().filter(|f| **f != 0).count()
 }
 
 // Flags the fixed ones and the largest others, as many as the limit leaves slots.
@@ -148,21 +134,18 @@ pub fn cap_basis(
     work: &mut [u64],
     fixed: &mut [u64],
     kept: &mut [u64],
-) -> Kept
+) -> Result<usize, Refusal>
     ensures { record { answer = result; lanes = words.new; coeffs = coeffs.new; order = order.new; work = work.new; fixed = fixed.new; kept = kept.new } ≡ cap len words.old coeffs.old order.old work.old fixed.old kept.old n protected.now limit }
 {
-    let answer = check_cap(
+    check_cap(
         n, words, coeffs, len, protected, limit, order, work, fixed, kept,
+    )?;
+    let entries = keep_largest(
+        words, coeffs, len, protected, limit, order, work, fixed, kept,
     );
-    let Answer::Refused(refusal) = answer else {
-        let entries = keep_largest(
-            words, coeffs, len, protected, limit, order, work, fixed, kept,
-        );
-        clear_lanes(order);
-        clear_lanes(work);
-        clear_lanes(fixed);
-        clear_lanes(kept);
-        return Kept::Entries(entries);
-    };
-    Kept::Refused(refusal)
+    clear_lanes(order);
+    clear_lanes(work);
+    clear_lanes(fixed);
+    clear_lanes(kept);
+    Ok(entries)
 }

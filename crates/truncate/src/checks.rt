@@ -3,7 +3,6 @@
 
 // What prune and cap ask alike of a lent basis and a protected list: lengths, words and coefficients.
 ghost use Rattle.std.specs.Prelude.{◌≡◌, ℕ, ◌*◌, ◌/◌, ◌≤◌, ◌-◌, length};
-ghost use Rattle.refusal.specs.declared.Answer.TheVariants.{Accepted};
 ghost use Rattle.word.specs.Flat.{word_lanes};
 ghost use Rattle.lent.specs.Words.{inside_to};
 ghost use Rattle.lent.specs.Numbers.{finite_to};
@@ -13,7 +12,7 @@ use lent::numbers::first_not_finite;
 use lent::sizes::larger;
 use lent::tests::{mismatch, where_any};
 use lent::words::first_outside;
-use refusal::{Answer, Refusal};
+use refusal::Refusal;
 use word::flat::WORD_LANES;
 
 pub fn check_lengths(
@@ -25,8 +24,8 @@ pub fn check_lengths(
     work: &[u64],
     fixed: &[u64],
     kept: &[u64],
-) -> Answer
-    ensures { (n : ℕ) → result ≡ length_tests len words.now coeffs.now order.now work.now fixed.now kept.now n protected.now Accepted }
+) -> Result<(), Refusal>
+    ensures { (n : ℕ) → result ≡ length_tests len words.now coeffs.now order.now work.now fixed.now kept.now n protected.now (Ok tt) }
 {
     if words.len() / WORD_LANES < len {
         return mismatch(len, words.len() / WORD_LANES);
@@ -51,7 +50,7 @@ pub fn check_lengths(
     if kept.len() < len {
         return mismatch(len, kept.len());
     }
-    Answer::Accepted
+    Ok(())
 }
 
 pub fn check_entries(
@@ -60,22 +59,22 @@ pub fn check_entries(
     coeffs: &[f64],
     len: usize,
     protected: &[u64],
-) -> Answer
+) -> Result<(), Refusal>
     requires { (word_lanes * len ≤ length words.now) × (len ≤ length coeffs.now) }
-    ensures { result ≡ inside_to len words.now n (inside_to (length protected.now / word_lanes) protected.now n (finite_to 0 len coeffs.now Accepted)) }
+    ensures { result ≡ inside_to len words.now n (inside_to (length protected.now / word_lanes) protected.now n (finite_to 0 len coeffs.now (Ok tt))) }
 {
     let outside = first_outside(words, len, n);
     if outside < len {
-        return Answer::Refused(Refusal::WordOutsideRegister { position: outside });
+        return Err(Refusal::WordOutsideRegister { position: outside });
     }
     let count = protected.len() / WORD_LANES;
     let beyond = first_outside(protected, count, n);
     if beyond < count {
-        return Answer::Refused(Refusal::WordOutsideRegister { position: beyond });
+        return Err(Refusal::WordOutsideRegister { position: beyond });
     }
     let bad = first_not_finite(coeffs, len);
     if bad < len {
-        return Answer::Refused(Refusal::NumberOutOfRange { index: bad });
+        return Err(Refusal::NumberOutOfRange { index: bad });
     }
-    Answer::Accepted
+    Ok(())
 }

@@ -7,6 +7,5 @@
 pub mod admit;
 pub mod cap;
 pub mod checks;
-pub mod kept;
 pub mod protect;
 pub mod prune;

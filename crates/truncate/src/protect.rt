@@ -2,7 +2,7 @@
 // SPDX-License-Identifier: Apache-2.0
 
 // Which entries of a lent basis are protected.
-ghost use Rattle.std.specs.Prelude.{◌≡◌, cond, ◌*◌, ◌/◌, ◌≤◌, length};
+ghost use Rattle.std.specs.Prelude.{◌≡◌, ◌*◌, ◌/◌, ◌≤◌, length};
 ghost use Rattle.word.specs.Flat.{words, word_lanes};
 ghost use Rattle.order.specs.Between.{AllBelow};
 ghost use Rattle.slots.specs.Between.{Slotted};
@@ -20,29 +20,19 @@ fn reach_of(protected: &[u64]) -> Word
 {
     let count = protected.len() / WORD_LANES;
     let mut reach = identity_word();
-    let mut k = 0;
-    while k < count {
+    for k in 0..count {
         let w = word_at(protected, k);
         reach = joined(reach, w);
-        k += 1;
     }
     reach
 }
 
 // Protected words are few, and most words have a bit that none of them has: these are not looked up.
-fn flag_word(protected: &[u64], heads: &[u64], nexts: &[u64], reach: Word, w: Word) -> u64
+fn flag_word(protected: &[u64], heads: &[u64], nexts: &[u64], reach: Word, w: Word) -> bool
     requires { Slotted (words protected.now) heads.now nexts.now × Reach reach (words protected.now) }
-    ensures { result ≡ cond (is_among w (words protected.now)) 1 0 }
+    ensures { result ≡ is_among w (words protected.now) }
 {
-    let near = covers_word(reach, w);
-    if !near {
-        return 0;
-    }
-    let held = has_word(protected, heads, nexts, w);
-    if held {
-        return 1;
-    }
-    0
+    covers_word(reach, w) && has_word(protected, heads, nexts, w)
 }
 
 fn flag_listed(
@@ -57,12 +47,10 @@ fn flag_listed(
     requires { Slotted (words protected.now) heads.now nexts.now × Reach reach (words protected.now) × (word_lanes * length flags.old ≤ length lanes.now) × AllBelow (length flags.old) list.now }
     ensures { flags.new ≡ reflagged (protected_at (words protected.now) (words lanes.now)) list.now flags.old }
 {
-    let mut i = 0;
-    while i < list.len() {
+    for i in 0..list.len() {
         let p = list[i] as usize;
         let w = word_at(lanes, p);
-        flags[p] = flag_word(protected, heads, nexts, reach, w);
-        i += 1;
+        flags[p] = u64::from(flag_word(protected, heads, nexts, reach, w));
     }
 }
 

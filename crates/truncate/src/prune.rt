@@ -9,14 +9,13 @@ ghost use Rattle.number.specs.Floats.{float0};
 ghost use Rattle.truncate.specs.Prunes.{prune_flags, left, retained, prune_tests, prune};
 
 use crate::checks::{check_entries, check_lengths};
-use crate::kept::Kept;
 use crate::protect::mark_protected;
 use keep::flags::flag_large;
 use keep::retain::retain_in_place;
 use lent::clear::clear_lanes;
 use lent::words::MAX_WORDS;
 use number::scalar::is_finite;
-use refusal::{Answer, Refusal};
+use refusal::Refusal;
 use word::flat::WORD_LANES;
 use word::word::MAX_QUBITS;
 
@@ -31,35 +30,28 @@ fn check_prune(
     work: &[u64],
     fixed: &[u64],
     kept: &[u64],
-) -> Answer
+) -> Result<(), Refusal>
     ensures { result ≡ prune_tests len words.now coeffs.now order.now work.now fixed.now kept.now n protected.now drop_tol }
 {
     if MAX_QUBITS < n {
-        return Answer::Refused(Refusal::TooManyQubits {
+        return Err(Refusal::TooManyQubits {
             got: n,
             max: MAX_QUBITS,
         });
     }
     if MAX_WORDS < len {
-        return Answer::Refused(Refusal::CountAboveLimit { count: len });
+        return Err(Refusal::CountAboveLimit { count: len });
     }
     let count = protected.len() / WORD_LANES;
     if MAX_WORDS < count {
-        return Answer::Refused(Refusal::CountAboveLimit { count });
+        return Err(Refusal::CountAboveLimit { count });
     }
-    let lengths = check_lengths(words, coeffs, len, protected, order, work, fixed, kept);
-    let Answer::Accepted = lengths else {
-        return lengths;
-    };
-    let entries = check_entries(n, words, coeffs, len, protected);
-    let Answer::Accepted = entries else {
-        return entries;
-    };
-    let finite = is_finite(drop_tol);
-    if !finite {
-        return Answer::Refused(Refusal::NumberOutOfRange { index: len });
+    check_lengths(words, coeffs, len, protected, order, work, fixed, kept)?;
+    check_entries(n, words, coeffs, len, protected)?;
+    if !is_finite(drop_tol) {
+        return Err(Refusal::NumberOutOfRange { index: len });
     }
-    Answer::Accepted
+    Ok(())
 }
 
 // Flags the large entries, and of the others the protected; a flag for each.
@@ -127,21 +119,18 @@ pub fn prune_basis(
     work: &mut [u64],
     fixed: &mut [u64],
     kept: &mut [u64],
-) -> Kept
+) -> Result<usize, Refusal>
     ensures { record { answer = result; lanes = words.new; coeffs = coeffs.new; order = order.new; work = work.new; fixed = fixed.new; kept = kept.new } ≡ prune len words.old coeffs.old order.old work.old fixed.old kept.old n protected.now drop_tol }
 {
-    let answer = check_prune(
+    check_prune(
         n, words, coeffs, len, protected, drop_tol, order, work, fixed, kept,
+    )?;
+    let entries = drop_small(
+        words, coeffs, len, protected, drop_tol, order, work, fixed, kept,
     );
-    let Answer::Refused(refusal) = answer else {
-        let entries = drop_small(
-            words, coeffs, len, protected, drop_tol, order, work, fixed, kept,
-        );
-        clear_lanes(order);
-        clear_lanes(work);
-        clear_lanes(fixed);
-        clear_lanes(kept);
-        return Kept::Entries(entries);
-    };
-    Kept::Refused(refusal)
+    clear_lanes(order);
+    clear_lanes(work);
+    clear_lanes(fixed);
+    clear_lanes(kept);
+    Ok(entries)
 }

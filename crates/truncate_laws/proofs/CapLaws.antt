@@ -19,23 +19,23 @@ use Rattle.order.specs.Between.{AllFinite}
 use Rattle.keep.specs.Between.{EachOnce}
 use Rattle.keep.proofs.ChosenLaws.{chosen_limit}
 use Rattle.truncate.specs.Prunes.{protected_flags, cap_flags, cap_tests, cap}
-use Rattle.refusal.specs.declared.Answer.TheVariants.{Accepted}
-use Rattle.truncate.specs.declared.kept.Kept.TheVariants.{Entries}
+use Rattle.std.specs.Prelude.{Ok}
 use Rattle.keep.proofs.OrderOnce.{magnitude_once}
 use Rattle.keep.proofs.LargestLaws.{chosen_larger}
 use Rattle.truncate.proofs.ChecksLaws.{Room, front_finite}
 use Rattle.truncate.proofs.CapLaws.{cap_room, cap_finite}
 use Rattle.truncate_laws.specs.Keeps.{capped_flags, Flagged, LargerStay, Fitting}
-use Rattle.truncate_laws.proofs.AcceptedCalls.{entries_same, cap_accepted}
+use Rattle.truncate_laws.proofs.AcceptedCalls.{cap_accepted}
 use Rattle.truncate_laws.proofs.StaysLaws.{ones_flagged, protected_long, cap_stays}
 use Rattle.truncate_laws.proofs.LosesLaws.{ones_kept}
+use Rattle.refusal.proofs.Told.{accepted_same}
 
 module _ (len : ℕ) (lanes : List ℕ) (coeffs : List Float) (order work fixed kept : List ℕ) (n : ℕ) (protected : List ℕ) (limit r : ℕ)
-    (answer : (cap len lanes coeffs order work fixed kept n protected limit).answer ≡ Entries r) where
+    (answer : (cap len lanes coeffs order work fixed kept n protected limit).answer ≡ Ok r) where
   abbrev guarded : List ℕ
   guarded = protected_flags len lanes protected
 
-  accepted : cap_tests len lanes coeffs order work fixed kept n protected limit ≡ Accepted
+  accepted : cap_tests len lanes coeffs order work fixed kept n protected limit ≡ Ok tt
   accepted = cap_accepted len lanes coeffs order work fixed kept n protected limit r answer
 
   room : Room len lanes coeffs order work fixed kept n protected
@@ -48,7 +48,7 @@ module _ (len : ℕ) (lanes : List ℕ) (coeffs : List Float) (order work fixed 
   guarded_long = protected_long len lanes coeffs protected room.lanes_room
 
   answer_is : r ≡ flagged (capped_flags len lanes coeffs protected limit)
-  answer_is = entries_same r (flagged (capped_flags len lanes coeffs protected limit)) (sym answer ∙ (cap_stays len lanes coeffs order work fixed kept n protected limit r answer).answers)
+  answer_is = accepted_same r (flagged (capped_flags len lanes coeffs protected limit)) (sym answer ∙ (cap_stays len lanes coeffs order work fixed kept n protected limit r answer).answers)
 
   -- a cap that acts leaves exactly so many entries
   pub cap_count : limit < len → r ≡ max limit (flagged (protected_flags len lanes protected))

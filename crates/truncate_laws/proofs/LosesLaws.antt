@@ -28,7 +28,7 @@ use Rattle.keep.proofs.ChosenLaws.{chosen_more}
 use Rattle.keep.proofs.PruneLaws.{Number, prune_more}
 use Rattle.truncate.specs.Prunes.{protected_flags, prune_flags, cap_flags, prune, cap}
 use Rattle.truncate.specs.Admissions.{admit_flags, admit}
-use Rattle.truncate.specs.declared.kept.Kept.TheVariants.{Entries}
+use Rattle.std.specs.Prelude.{Ok}
 use Rattle.truncate.proofs.PruneLaws.{prune_room}
 use Rattle.truncate.proofs.CapLaws.{cap_room}
 use Rattle.truncate.proofs.AdmissionLaws.{flags_more, words_after, coeffs_after}
@@ -114,8 +114,8 @@ module _ (len len' : ℕ) (lanes lanes' : List ℕ) (coeffs coeffs' : List Float
 
   -- ---- of two accepted calls over them, whatever work tables each was lent
   pub prune_loses_nobody : (fit : Fitting coeffs) (order work fixed kept order' work' fixed' kept' : List ℕ) (n n' : ℕ) (tol tol' : Float) → T (fits binary64 tol) → T (fits binary64 tol') → le tol' tol ≡ true → (r r' : ℕ)
-      → (prune len lanes coeffs order work fixed kept n protected tol).answer ≡ Entries r
-      → (prune len' lanes' coeffs' order' work' fixed' kept' n' protected' tol').answer ≡ Entries r'
+      → (prune len lanes coeffs order work fixed kept n protected tol).answer ≡ Ok r
+      → (prune len' lanes' coeffs' order' work' fixed' kept' n' protected' tol').answer ≡ Ok r'
       → LosesNobody (pruned_flags len lanes coeffs protected tol) (pruned_flags len' lanes' coeffs' protected' tol')
   prune_loses_nobody fit order work fixed kept order' work' fixed' kept' n n' tol tol' F F' lowered r r' answer answer' =
       let room = prune_room len lanes coeffs order work fixed kept n protected tol (prune_accepted len lanes coeffs order work fixed kept n protected tol r answer) in
@@ -127,7 +127,7 @@ module _ (len len' : ℕ) (lanes lanes' : List ℕ) (coeffs coeffs' : List Float
       subst (LosesNobody (pruned_flags len lanes coeffs protected tol)) (pruned_same tol')
       (pruned_more len lanes coeffs protected room.lanes_room number tol tol' (number_of tol F finite.1) (number_of tol' F' finite'.1) lowered)
 
-  pub cap_loses_nobody : (order work fixed kept : List ℕ) (n limit limit' : ℕ) → limit ≤ limit' → (r : ℕ) → (cap len lanes coeffs order work fixed kept n protected limit).answer ≡ Entries r
+  pub cap_loses_nobody : (order work fixed kept : List ℕ) (n limit limit' : ℕ) → limit ≤ limit' → (r : ℕ) → (cap len lanes coeffs order work fixed kept n protected limit).answer ≡ Ok r
       → LosesNobody (capped_flags len lanes coeffs protected limit) (capped_flags len' lanes' coeffs' protected' limit')
   cap_loses_nobody order work fixed kept n limit limit' raised r answer =
       let room = cap_room len lanes coeffs order work fixed kept n protected limit (cap_accepted len lanes coeffs order work fixed kept n protected limit r answer) in
@@ -139,7 +139,7 @@ admit_loses_nobody len values limit limit' h = record { stays = flags_more len v
 
 -- the entries that stood stay where they were
 module _ (len : ℕ) (lanes : List ℕ) (coeffs : List Float) (list : List ℕ) (values : List Float) (order work kept : List ℕ) (n limit r : ℕ)
-    (answer : (admit len lanes coeffs list values order work kept n limit).answer ≡ Entries r) where
+    (answer : (admit len lanes coeffs list values order work kept n limit).answer ≡ Ok r) where
   pub words_stand : take len (words (admit len lanes coeffs list values order work kept n limit).lanes) ≡ take len (words lanes)
   words_stand =
       let room = admit_lent len lanes coeffs list values order work kept n limit r answer in

@@ -18,7 +18,7 @@ use Rattle.order.specs.Magnitudes.{key_at}
 use Rattle.keep.specs.Pruned.{large_flag}
 use Rattle.keep.proofs.PruneLaws.{large_first, Number}
 use Rattle.truncate.specs.Prunes.{protected_flags, prune_flags, prune}
-use Rattle.truncate.specs.declared.kept.Kept.TheVariants.{Entries}
+use Rattle.std.specs.Prelude.{Ok}
 use Rattle.truncate.proofs.ChecksLaws.{Room}
 use Rattle.truncate.proofs.PruneLaws.{prune_room}
 use Rattle.truncate.proofs.ThresholdLaws.{above_zero}
@@ -28,7 +28,7 @@ use Rattle.truncate_laws.proofs.StaysLaws.{protected_long}
 use Rattle.truncate_laws.proofs.LosesLaws.{ones_kept, number_of}
 
 module _ (len : ℕ) (lanes : List ℕ) (coeffs : List Float) (order work fixed kept : List ℕ) (n : ℕ) (protected : List ℕ) (tol : Float) (r : ℕ)
-    (answer : (prune len lanes coeffs order work fixed kept n protected tol).answer ≡ Entries r) (fit : Fitting coeffs) (F : T (fits binary64 tol)) where
+    (answer : (prune len lanes coeffs order work fixed kept n protected tol).answer ≡ Ok r) (fit : Fitting coeffs) (F : T (fits binary64 tol)) where
   room : Room len lanes coeffs order work fixed kept n protected
   room = prune_room len lanes coeffs order work fixed kept n protected tol (prune_accepted len lanes coeffs order work fixed kept n protected tol r answer)
 

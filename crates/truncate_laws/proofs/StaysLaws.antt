@@ -26,7 +26,7 @@ use Rattle.keep.proofs.PruneLaws.{large_length}
 use Rattle.keep.proofs.ChosenLaws.{walked_length}
 use Rattle.truncate.specs.Prunes.{protected_flags, prune_flags, cap_flags, left, retained, prune, cap}
 use Rattle.truncate.specs.Admissions.{admit_flags}
-use Rattle.truncate.specs.declared.kept.Kept.TheVariants.{Entries}
+use Rattle.std.specs.Prelude.{Ok}
 use Rattle.truncate.proofs.PruneLaws.{prune_room}
 use Rattle.truncate.proofs.CapLaws.{cap_room}
 use Rattle.truncate_laws.specs.Keeps.{pruned_flags, capped_flags, Stays}
@@ -80,7 +80,7 @@ module _ (len : ℕ) (lanes : List ℕ) (coeffs : List Float) (order work fixed 
       let l = length-take-le len coeffs coeffs-room in
       record {
         each = length-replicate len 1;
-        answers = ap Entries (sym c);
+        answers = ap Ok (sym c);
         words_kept = ap (λ (k : ℕ). take k (words lanes)) c ∙ sym (ones_pick len (take len (words lanes)) (omega (arith, w)));
         coeffs_kept = ap (λ (k : ℕ). take k coeffs) c ∙ sym (ones_pick len (take len coeffs) (omega (arith, l)));
       }
@@ -107,7 +107,7 @@ module _ (len : ℕ) (lanes : List ℕ) (coeffs : List Float) (order work fixed 
 
 -- ---- the calls
 module _ (len : ℕ) (lanes : List ℕ) (coeffs : List Float) (order work fixed kept : List ℕ) (n : ℕ) (protected : List ℕ) where
-  pub prune_stays : (tol : Float) (r : ℕ) → (prune len lanes coeffs order work fixed kept n protected tol).answer ≡ Entries r
+  pub prune_stays : (tol : Float) (r : ℕ) → (prune len lanes coeffs order work fixed kept n protected tol).answer ≡ Ok r
       → Stays len lanes coeffs (pruned_flags len lanes coeffs protected tol) (prune len lanes coeffs order work fixed kept n protected tol)
   unfolding prune pruned_flags
   prune_stays tol r e =
@@ -116,7 +116,7 @@ module _ (len : ℕ) (lanes : List ℕ) (coeffs : List Float) (order work fixed 
       rw ok
       (either_stays len lanes coeffs order work fixed kept room.lanes_room room.coeffs_room (le tol float0) (prune_flags len lanes coeffs protected tol) (prune_long len lanes coeffs protected room.lanes_room tol))
 
-  pub cap_stays : (limit r : ℕ) → (cap len lanes coeffs order work fixed kept n protected limit).answer ≡ Entries r
+  pub cap_stays : (limit r : ℕ) → (cap len lanes coeffs order work fixed kept n protected limit).answer ≡ Ok r
       → Stays len lanes coeffs (capped_flags len lanes coeffs protected limit) (cap len lanes coeffs order work fixed kept n protected limit)
   unfolding cap capped_flags
   cap_stays limit r e =

@@ -3,7 +3,7 @@
 
 -- What prune and cap keep of a lent basis, told by a flag for each position before the call: which entries stay, that nobody is
 -- lost, and that the larger go first.
-use Rattle.std.specs.Prelude.{ℕ, ◌≤◌, ◌<◌, ◌≡◌, cond, List, T, leb, Float, length, get_or, take, replicate}
+use Rattle.std.specs.Prelude.{ℕ, ◌≤◌, ◌<◌, ◌≡◌, cond, List, T, leb, Float, length, get_or, take, replicate, Ok}
 use Rattle.std.specs.Float.{nan, binary64}
 use Rattle.std.specs.Float.Ieee.{fits, le}
 use Rattle.word.specs.Flat.{words}
@@ -11,7 +11,6 @@ use Rattle.number.specs.Floats.{float0}
 use Rattle.order.specs.Magnitudes.{key_at}
 use Rattle.keep.specs.Retained.{pick, flagged}
 use Rattle.truncate.specs.Prunes.{prune_flags, cap_flags, Keeping}
-use Rattle.truncate.specs.declared.kept.Kept.TheVariants.{Entries}
 
 -- ---- the flags of a call: all positions are kept where it does nothing
 unfoldable pub pruned_flags : ℕ → List ℕ → List Float → List ℕ → Float → List ℕ
@@ -27,7 +26,7 @@ Flagged flags p = get_or flags p 0 ≡ 0 → ⊥
 -- the basis afterwards is the flagged entries, in order
 pub record Stays (len : ℕ) (lanes : List ℕ) (coeffs : List Float) (flags : List ℕ) (after : Keeping) : Type 0 where
   pub each : length flags ≡ len
-  pub answers : after.answer ≡ Entries (flagged flags)
+  pub answers : after.answer ≡ Ok (flagged flags)
   pub words_kept : take (flagged flags) (words after.lanes) ≡ pick flags (take len (words lanes))
   pub coeffs_kept : take (flagged flags) after.coeffs ≡ pick flags (take len coeffs)
 

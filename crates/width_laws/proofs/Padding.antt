@@ -18,7 +18,7 @@ use Rattle.word.specs.Product.{phase_sum}
 use Rattle.word.specs.Register.{acts_on}
 use Rattle.word.specs.Order.{compare_then, compare_lanes, compare}
 use Rattle.word.specs.declared.word.Word.{Word}
-use Rattle.word.specs.declared.word.Ordering.{Ordering}
+use Rattle.std.specs.declared.cmp.Ordering.{Ordering}
 use Rattle.word.proofs.Sums.{sum_cong, sum_none, any_cong, zeros_at, tabulate_is}
 use Rattle.word.proofs.Digits.{zero_bit}
 use Rattle.word.proofs.Words.{word_eq}

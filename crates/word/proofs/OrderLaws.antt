@@ -12,8 +12,10 @@ use native.Mathlib.Decide.{ℕ_discrete}
 use lib.ListN.{length, get_or}
 use borrow.Author.Tests.{lt-ltb, le-ltb}
 use Rattle.word.specs.declared.word.Word.{Word}
-use Rattle.word.specs.declared.word.Ordering.{Ordering}
-use Rattle.word.specs.declared.word.Ordering.TheVariants.{Less, Equal, Greater}
+use Rattle.std.specs.declared.cmp.Ordering.{Ordering}
+use Rattle.std.specs.declared.cmp.Ordering.TheVariants.{Less, Equal, Greater}
+use Rattle.std.specs.Ordering.{ordering_reverse, nat_cmp}
+use Rattle.std.specs.Cmp.{nat_cmp_is}
 use Rattle.word.specs.Order.{compare_then, compare_lanes, compare, is_equal, is_less, before, same}
 use Rattle.word.proofs.Words.{word_eq}
 
@@ -43,6 +45,15 @@ at_same a b o h = simp (le-ltb a b (omega arith), le-ltb b a (omega arith))
 at_more : (a b : ℕ) (o : Ordering) → b < a → compare_then a b o ≡ Greater
 unfolding compare_then
 at_more a b o h = simp (le-ltb a b (omega arith), lt-ltb b a h)
+
+-- two numbers compared by the library
+pub by_numbers : (a b : ℕ) → nat_cmp a b ≡ compare_then a b Equal
+by_numbers a b = go (three a b)
+  where
+    go : Three a b → nat_cmp a b ≡ compare_then a b Equal
+    go (inl h) = sym (nat_cmp_is a b Less h) ∙ sym (at_less a b Equal h)
+    go (inr (inl h)) = sym (nat_cmp_is a b Equal h) ∙ sym (at_same a b Equal h)
+    go (inr (inr h)) = sym (nat_cmp_is a b Greater h) ∙ sym (at_more a b Equal h)
 
 -- ---- the first difference decides, and nothing after it counts
 decides : (a b : ℕ) (o p : Ordering) → (a ≡ b → ⊥) → compare_then a b o ≡ compare_then a b p
@@ -104,20 +115,15 @@ unfolding compare
 x_decides p q r h = h
 
 -- ---- turned round
-abbrev turned : Ordering → Ordering
-turned Less = Greater
-turned Equal = Equal
-turned Greater = Less
-
-turn_at : (a b : ℕ) (o p : Ordering) → p ≡ turned o → compare_then b a p ≡ turned (compare_then a b o)
+turn_at : (a b : ℕ) (o p : Ordering) → p ≡ ordering_reverse o → compare_then b a p ≡ ordering_reverse (compare_then a b o)
 turn_at a b o p e = go (three a b)
   where
-    go : Three a b → compare_then b a p ≡ turned (compare_then a b o)
-    go (inl h) = at_more b a p h ∙ sym (ap turned (at_less a b o h))
-    go (inr (inl h)) = at_same b a p (sym h) ∙ e ∙ sym (ap turned (at_same a b o h))
-    go (inr (inr h)) = at_less b a p h ∙ sym (ap turned (at_more a b o h))
+    go : Three a b → compare_then b a p ≡ ordering_reverse (compare_then a b o)
+    go (inl h) = at_more b a p h ∙ sym (ap ordering_reverse (at_less a b o h))
+    go (inr (inl h)) = at_same b a p (sym h) ∙ e ∙ sym (ap ordering_reverse (at_same a b o h))
+    go (inr (inr h)) = at_less b a p h ∙ sym (ap ordering_reverse (at_more a b o h))
 
-turn_lanes : (xs ys : List ℕ) (o p : Ordering) → p ≡ turned o → compare_lanes ys xs p ≡ turned (compare_lanes xs ys o)
+turn_lanes : (xs ys : List ℕ) (o p : Ordering) → p ≡ ordering_reverse o → compare_lanes ys xs p ≡ ordering_reverse (compare_lanes xs ys o)
 unfolding compare_lanes
 turn_lanes [] [] o p e = e
 turn_lanes [] (y ∷ ys) o p e = refl
@@ -189,7 +195,7 @@ compare_equal p q e =
     let h = equal_lanes p.x q.x _ e in
     word_eq h.0 (equal_lanes p.z q.z Equal h.1).0
 
-compare_turned : (p q : Word) → compare q p ≡ turned (compare p q)
+compare_turned : (p q : Word) → compare q p ≡ ordering_reverse (compare p q)
 unfolding compare
 compare_turned p q = turn_lanes p.x q.x _ _ (turn_lanes p.z q.z Equal Equal refl)
 
@@ -215,7 +221,7 @@ pub before_trans : (p q r : Word) → before p q ≡ true → before q r ≡ tru
 before_trans p q r h k = ap is_less (compare_trans p q r (is_less_lem (compare p q) h) (is_less_lem (compare q r) k))
 
 pub before_turned : (p q : Word) → before p q ≡ true → before q p ≡ false
-before_turned p q h = ap is_less (compare_turned p q ∙ ap turned (is_less_lem (compare p q) h))
+before_turned p q h = ap is_less (compare_turned p q ∙ ap ordering_reverse (is_less_lem (compare p q) h))
 
 pub trichotomy : (p q : Word) → (before p q ≡ true) ⊎ ((p ≡ q) ⊎ (before q p ≡ true))
 trichotomy p q = go (compare p q) refl
@@ -223,7 +229,7 @@ trichotomy p q = go (compare p q) refl
     go : (o : Ordering) → compare p q ≡ o → (before p q ≡ true) ⊎ ((p ≡ q) ⊎ (before q p ≡ true))
     go Less e = inl (ap is_less e)
     go Equal e = inr (inl (compare_equal p q e))
-    go Greater e = inr (inr (ap is_less (compare_turned p q ∙ ap turned e)))
+    go Greater e = inr (inr (ap is_less (compare_turned p q ∙ ap ordering_reverse e)))
 
 pub same_self : (p : Word) → same p p ≡ true
 same_self p = ap is_equal (compare_self p)

@@ -12,7 +12,7 @@ use mir.Val.{Fits}
 use mir.Syntax.{w64}
 use Rattle.word.specs.Count.{tabulate}
 use Rattle.word.specs.Steps.{chosen, Put}
-use Rattle.word.specs.Word.{bit, lane_count, max_qubits, letter_at, word_of, Sound, pack, unpack}
+use Rattle.word.specs.Word.{bit, lane_count, max_qubits, letter_at, word_of, Sound}
 use Rattle.word.specs.declared.word.Word.{Word}
 use Rattle.word.proofs.Sums.{tabulate_is}
 use Rattle.word.proofs.Lanes.{letter_lt, letter_of, letter_of_beyond, lanes_length, lanes_lt, lanes_cong, same_lanes, letter_put}
@@ -65,10 +65,6 @@ word_is w f s h =
 -- ---- lanes one by one
 pub one_by_one : (l : List ℕ) → length l ≡ lane_count → tabulate lane_count (λ k. get_or l k 0) ≡ l
 one_by_one l e = tabulate_is 0 lane_count (λ k. get_or l k 0) l e (λ k h. refl)
-
-pub unpack_pack : (w : Word) → Sound w → unpack (pack w) ≡ w
-unfolding tabulate
-unpack_pack w s = word_eq (one_by_one w.x s.x_lanes) (one_by_one w.z s.z_lanes)
 
 -- ---- one letter replaced
 set_lt : (l : List ℕ) (j r : ℕ) → ((i : ℕ) → get_or l i 0 < 2 ^ 64) → r < 2 ^ 64 → (i : ℕ) → get_or (set l j r) i 0 < 2 ^ 64

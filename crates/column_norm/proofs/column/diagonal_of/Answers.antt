@@ -4,11 +4,8 @@
 -- `column::diagonal_of` meets its contract. Assumes nothing.
 use mathlib.Core.Path.{sym, ◌∙◌}
 use Rattle.model.specs.Between.{onto}
-use Rattle.column_norm.proofs.ColumnLaws.{diag_start, diag_passes, diag_found, diag_other, diag_none}
+use Rattle.column_norm.proofs.ColumnLaws.{diag_passes, diag_found, diag_other, diag_none}
 use Rattle.column_norm.proofs.column.diagonal_of.Goals as goal
-
-pub loop-i-init : goal.loop-i-init
-loop-i-init c = let a = c.args in diag_start a.len a.words.now a.sums.now a.w
 
 pub loop-i-preserved-then-is_zero : goal.loop-i-preserved-then-is_zero
 loop-i-preserved-then-is_zero c =

@@ -2,11 +2,8 @@
 -- SPDX-License-Identifier: Apache-2.0
 
 -- `norms::largest_column` meets its contract: before each column, the largest so far beside those that are left. Assumes nothing.
-use Rattle.column_norm.proofs.NormLaws.{largest_start, largest_more, largest_done}
+use Rattle.column_norm.proofs.NormLaws.{largest_more, largest_done}
 use Rattle.column_norm.proofs.norms.largest_column.Goals as goal
-
-pub loop-i-init : goal.loop-i-init
-loop-i-init c = let a = c.args in largest_start a.mu a.len a.raws.now a.diags.now
 
 pub loop-i-preserved : goal.loop-i-preserved
 loop-i-preserved c =

@@ -5,14 +5,11 @@
 use mathlib.Core.Path.{sym}
 use native.Mathlib.Omega.{arith}
 use Rattle.word.specs.Flat.{words}
-use Rattle.lent.proofs.Firsts.{none_start, stops_here, goes_on, stops_last}
+use Rattle.lent.proofs.Firsts.{stops_here, stops_last}
 use Rattle.word.proofs.FlatLaws.{words_count}
 use Rattle.columns.specs.Repeats.{repeats_at}
 use Rattle.columns.proofs.RepeatLaws.{first_is}
 use Rattle.columns.proofs.repeat.search_plainly.Goals as goal
-
-pub loop-k-init : goal.loop-k-init
-loop-k-init c = (omega arith, none_start _)
 
 pub stood_before-requires : goal.stood_before-requires
 stood_before-requires c = let n = words_count c.args.lanes.now in omega (arith, n, c.loop-k-test.true)
@@ -20,14 +17,9 @@ stood_before-requires c = let n = words_count c.args.lanes.now in omega (arith, 
 pub returns-then-stood_before : goal.returns-then-stood_before
 returns-then-stood_before c =
     let ws = words c.args.lanes.now in
-    first_is ws _ (sym (words_count c.args.lanes.now)) (stops_here _ (repeats_at ws) c.loop-k.k c.loop-k-test.true c.loop-k.invariant.1 c.stood_before.ensures c.if-stood_before.true)
-
-pub loop-k-preserved : goal.loop-k-preserved
-loop-k-preserved c =
-    let ws = words c.args.lanes.now in
-    (omega (arith, c.loop-k-test.true), goes_on (repeats_at ws) c.loop-k.k c.loop-k.invariant.1 c.stood_before.ensures c.if-stood_before.false)
+    first_is ws _ (sym (words_count c.args.lanes.now)) (stops_here _ (repeats_at ws) c.loop-k.k c.loop-k-test.true c.loop-k.invariant c.stood_before.ensures c.if-stood_before.true)
 
 pub returns : goal.returns
 returns c =
     let ws = words c.args.lanes.now in
-    first_is ws _ (sym (words_count c.args.lanes.now)) (stops_last _ (repeats_at ws) c.loop-k.k c.loop-k-test.false c.loop-k.invariant.1)
+    first_is ws _ (sym (words_count c.args.lanes.now)) (stops_last _ (repeats_at ws) c.loop-k.k c.loop-k-test.false c.loop-k.invariant)

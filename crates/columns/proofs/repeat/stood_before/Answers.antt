@@ -6,14 +6,11 @@ use mathlib.Core.Path.{sym, ◌∙◌}
 use native.Mathlib.Omega.{arith}
 use Rattle.word.specs.Flat.{words}
 use Rattle.word.proofs.FlatLaws.{words_low}
-use Rattle.columns.proofs.RepeatLaws.{compare_start, compare_found, compare_on, compare_end}
+use Rattle.columns.proofs.RepeatLaws.{compare_found, compare_on, compare_end}
 use Rattle.columns.proofs.repeat.stood_before.Goals as goal
 
 pub word_at-w-requires : goal.word_at-w-requires
 word_at-w-requires c = omega (arith, c.requires, words_low c.args.lanes.now)
-
-pub loop-i-init : goal.loop-i-init
-loop-i-init c = compare_start c.word_at-w.result (words c.args.lanes.now) c.args.k
 
 pub word_at-v-requires : goal.word_at-v-requires
 word_at-v-requires c = omega (arith, c.requires, c.loop-i-test.true, words_low c.args.lanes.now)

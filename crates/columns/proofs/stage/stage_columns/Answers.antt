@@ -3,7 +3,7 @@
 
 -- `stage::stage_columns` meets its contract: after each column the entries that stand and the columns left are the whole, and so
 -- are the tests. Assumes nothing.
-use mathlib.Core.Path.{refl, ◌∙◌}
+use mathlib.Core.Path.{◌∙◌}
 use Prim.Native.Nat.{◌<◌}
 use native.Mathlib.Omega.{arith}
 use Rattle.word.specs.Flat.{words}
@@ -14,18 +14,9 @@ use Rattle.action.proofs.ActLaws.{empty_room, sums_full, sums_held, listed_are, 
 use Rattle.word.proofs.FlatLaws.{words_count}
 use Rattle.model.specs.Between.{model_tables}
 use Rattle.columns.specs.Between.{StageRoom}
-use Rattle.columns.proofs.ColumnLaws.{column_start, column_touched, column_full, column_more, column_done, stages_are}
+use Rattle.columns.proofs.ColumnLaws.{column_touched, column_full, column_more, column_done, stages_are}
 use Rattle.lent.proofs.WordLaws.{word_inside}
 use Rattle.columns.proofs.stage.stage_columns.Goals as goal
-
-pub loop-c-init : goal.loop-c-init
-loop-c-init c =
-    let a = c.args in
-    let t : ModelTables = model_tables a.h_words.now a.h_coeffs.now a.jumps.now a.rates.now a.t_words.now a.t_numbers.now in
-    (column_start (touched_by a.m t) (action_of a.m t) (words a.basis.now) a.sum_room a.entry_room a.rows.now a.columns.now a.values.now, refl, refl, refl, refl, refl, refl)
-
-pub word_at-p-requires : goal.word_at-p-requires
-word_at-p-requires c = omega (arith, c.loop-c-test.true)
 
 pub put_rules_near-added-requires : goal.put_rules_near-added-requires
 put_rules_near-added-requires c =
@@ -59,7 +50,7 @@ stage_terms-laid-requires c =
     let n = words_count a.basis.now in
     let q = c.put_rules_near-added in
     let h = c.requires in
-    let i = sums_inside a.m t c.word_at-p.result a.sum_room l.work_words l.work_sums _ _ _ q.ensures _ c.in-Held.is q.auto.lanes q.auto.sums (omega (arith, h.2.words_long, l.invariant.2)) (omega (arith, h.2.sums_long, l.invariant.3)) in
+    let i = sums_inside a.m t c.word_at-p.result a.sum_room l.work_words l.work_sums _ _ _ q.ensures _ c.in-Some.is q.auto.lanes q.auto.sums (omega (arith, h.2.words_long, l.invariant.2)) (omega (arith, h.2.sums_long, l.invariant.3)) in
     let low : l.c < 4294967296 = omega (arith, n, h.1.few, c.loop-c-test.true) in
     let room : StageRoom a.entry_room l.rows l.columns l.values = record { rows_long = omega (arith, h.3.rows_long, l.invariant.4); columns_long = omega (arith, h.3.columns_long, l.invariant.5); values_long = omega (arith, h.3.values_long, l.invariant.6) } in
     (i.0, i.1, h.1.slots, h.1.few, low, room, l.invariant.0.inside)
@@ -71,15 +62,12 @@ returns-in_default-laid c =
     let l = c.loop-c in
     let n = words_count a.basis.now in
     let q = c.put_rules_near-added in
-    let e = c.in-Held.is in
+    let e = c.in-Some.is in
     let k = sums_held a.m t c.word_at-p.result a.sum_room l.work_words l.work_sums _ _ _ q.ensures _ e in
     let g = listed_are a.m t c.word_at-p.result a.sum_room l.work_words l.work_sums _ _ _ q.ensures _ e in
     stages_are a.m t (words a.basis.now) a.sum_room a.entry_room _ _ _ _
     (column_full (touched_by a.m t) (action_of a.m t) (words a.basis.now) a.sum_room a.entry_room l.rows l.columns l.values l.end l.c l.invariant.0 (omega (arith, n, c.loop-c-test.true)) c.word_at-p.result c.word_at-p.ensures
     k.1 _ g _ _ _ _ c.stage_terms-laid.ensures c.in_default-laid.is)
-
-pub overflow_add-c : goal.overflow_add-c
-overflow_add-c c = let n = words_count c.args.basis.now in omega (arith, n, c.requires.1.few, c.loop-c-test.true)
 
 pub loop-c-preserved : goal.loop-c-preserved
 loop-c-preserved c =
@@ -89,10 +77,10 @@ loop-c-preserved c =
     let n = words_count a.basis.now in
     let q = c.put_rules_near-added in
     let r = c.stage_terms-laid in
-    let e = c.in-Held.is in
+    let e = c.in-Some.is in
     let k = sums_held a.m t c.word_at-p.result a.sum_room l.work_words l.work_sums _ _ _ q.ensures _ e in
     let g = listed_are a.m t c.word_at-p.result a.sum_room l.work_words l.work_sums _ _ _ q.ensures _ e in (
-      column_more (touched_by a.m t) (action_of a.m t) (words a.basis.now) a.sum_room a.entry_room l.rows l.columns l.values l.end l.c l.invariant.0 (omega (arith, n, c.loop-c-test.true)) c.word_at-p.result c.word_at-p.ensures k.1 _ g _ _ _ _ r.ensures _ c.in-Held-laid.is,
+      column_more (touched_by a.m t) (action_of a.m t) (words a.basis.now) a.sum_room a.entry_room l.rows l.columns l.values l.end l.c l.invariant.0 (omega (arith, n, c.loop-c-test.true)) c.word_at-p.result c.word_at-p.ensures k.1 _ g _ _ _ _ r.ensures _ c.in-Some-laid.is,
       q.auto.mask ∙ l.invariant.1,
       q.auto.lanes ∙ l.invariant.2,
       q.auto.sums ∙ l.invariant.3,

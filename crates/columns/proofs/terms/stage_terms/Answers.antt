@@ -4,11 +4,10 @@
 -- `terms::stage_terms` meets its contract: after each turn the entries laid and those left to lay are the whole. Assumes nothing.
 use mathlib.Core.Path.{sym, ◌∙◌}
 use Prim.Native.Nat.{◌<◌}
-use native.Mathlib.Omega.{arith}
 use lib.ListN.{length}
 use Rattle.word.specs.Flat.{words}
 use Rattle.model.specs.Between.{onto}
-use Rattle.columns.proofs.TermLaws.{term_start, term_passes, term_skips, term_full, term_place, term_lays, term_done, place_low}
+use Rattle.columns.proofs.TermLaws.{term_passes, term_skips, term_full, term_place, term_lays, term_done, place_low}
 use borrow.Author.Rules.{rules}
 use Rattle.columns.proofs.terms.stage_terms.Goals as goal
 use Rattle.columns.proofs.terms.stage_terms.Goals.{Else-end-room}
@@ -20,22 +19,11 @@ place c =
     let l = c.loop-i in
     term_place (words a.basis.now) a.column a.touched a.sum_words.now a.sums.now a.rows.now a.columns.now a.values.now a.room a.count c.requires.0 c.requires.1 c.requires.5 l.rows l.columns l.values l.end l.i l.invariant c.loop-i-test.true (onto c.term_at-t.result) c.term_at-t.ensures (sym c.is_zero.ensures ∙ c.if-is_zero.false) c.last_place-place.result c.last_place-place.ensures c.if-place-eq0.false c.if-end-room.false
 
-pub loop-i-init : goal.loop-i-init
-loop-i-init c =
-    let a = c.args in
-    term_start (words a.basis.now) a.column a.touched a.sum_words.now a.sums.now a.rows.now a.columns.now a.values.now a.room a.count c.requires.6
-
-pub term_at-t-requires : goal.term_at-t-requires
-term_at-t-requires c = (omega (arith, c.requires.0, c.loop-i-test.true), omega (arith, c.requires.1, c.loop-i-test.true))
-
 pub loop-i-preserved-then-is_zero : goal.loop-i-preserved-then-is_zero
 loop-i-preserved-then-is_zero c =
     let a = c.args in
     let l = c.loop-i in
     term_passes (words a.basis.now) a.column a.touched a.sum_words.now a.sums.now a.rows.now a.columns.now a.values.now a.room a.count c.requires.0 c.requires.1 c.requires.5 l.rows l.columns l.values l.end l.i l.invariant c.loop-i-test.true (onto c.term_at-t.result) c.term_at-t.ensures (sym c.is_zero.ensures ∙ c.if-is_zero.true)
-
-pub last_place-place-requires : goal.last_place-place-requires
-last_place-place-requires c = c.requires.2
 
 pub loop-i-preserved-then-place-eq0 : goal.loop-i-preserved-then-place-eq0
 loop-i-preserved-then-place-eq0 c =
@@ -52,27 +40,6 @@ returns-then-end-room c =
 -- rows and columns are numbers of 32 bits
 pub overflow_cast-rows : goal.overflow_cast-rows
 overflow_cast-rows c = let h = place_low (words c.args.basis.now) _ c.last_place-place.ensures in search (h, c.requires.3, c.requires.4, rules)
-
-pub offset_bounds-rows-end : goal.offset_bounds-rows-end
-offset_bounds-rows-end c = let p = place (goal.at.offset_bounds-rows-end c).Else-end-room in search (p.0, c.loop-i.invariant.rows_same, c.well_formed.1.1.1.1.1.1.1.0, rules)
-
-pub bounds-rows-end : goal.bounds-rows-end
-bounds-rows-end c = (place (goal.at.bounds-rows-end c).Else-end-room).0
-
-pub offset_bounds-columns-end : goal.offset_bounds-columns-end
-offset_bounds-columns-end c = let p = place (goal.at.offset_bounds-columns-end c).Else-end-room in search (p.1, c.loop-i.invariant.columns_same, c.well_formed.1.1.1.1.1.1.1.1.0, rules)
-
-pub bounds-columns-end : goal.bounds-columns-end
-bounds-columns-end c = (place (goal.at.bounds-columns-end c).Else-end-room).1
-
-pub offset_bounds-values-end : goal.offset_bounds-values-end
-offset_bounds-values-end c = let p = place (goal.at.offset_bounds-values-end c).Else-end-room in search (p.2, c.loop-i.invariant.values_same, c.well_formed.1.1.1.1.1.1.1.1.1.0, rules)
-
-pub bounds-values-end : goal.bounds-values-end
-bounds-values-end c = (place (goal.at.bounds-values-end c).Else-end-room).2
-
-pub overflow_add-end : goal.overflow_add-end
-overflow_add-end c = let p = place (goal.at.overflow_add-end c).Else-end-room in search (p.2, rules)
 
 pub loop-i-preserved : goal.loop-i-preserved
 loop-i-preserved c =

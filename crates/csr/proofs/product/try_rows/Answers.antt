@@ -15,8 +15,8 @@ returns-then-first-gt0 c = let a = c.args in quick_nothing a.offsets.now a.colum
 pub returns-then-last-columns : goal.returns-then-last-columns
 returns-then-last-columns c = let a = c.args in quick_nothing a.offsets.now a.columns.now a.values.now a.input.now a.overwrite a.output.now a.work.now
 
-pub returns-then-not-ready : goal.returns-then-not-ready
-returns-then-not-ready c = let a = c.args in quick_nothing a.offsets.now a.columns.now a.values.now a.input.now a.overwrite a.output.now a.work.now
+pub returns-then-not-are_ready : goal.returns-then-not-are_ready
+returns-then-not-are_ready c = let a = c.args in quick_nothing a.offsets.now a.columns.now a.values.now a.input.now a.overwrite a.output.now a.work.now
 
 pub slice_bounds-clear_numbers-end-then-done-rows : goal.slice_bounds-clear_numbers-end-then-done-rows
 slice_bounds-clear_numbers-end-then-done-rows c =
@@ -27,10 +27,10 @@ pub returns-then-done-rows : goal.returns-then-done-rows
 returns-then-done-rows c =
     let a = c.args in
     let q = c.sum_rows-done in
-    quick_restored a.offsets.now a.columns.now a.values.now a.input.now a.overwrite a.output.now a.work.now c.requires.0 c.requires.1 c.requires.3 (c.are_ready-ready.ensures (not-false _ c.if-not-ready.false-raw)) q.result q.new.work q.ensures c.if-done-rows.true c.clear_numbers.new.t c.clear_numbers.ensures
+    quick_restored a.offsets.now a.columns.now a.values.now a.input.now a.overwrite a.output.now a.work.now c.requires.0 c.requires.1 c.requires.3 (c.are_ready.ensures (not-false _ c.if-not-are_ready.false-raw)) q.result q.new.work q.ensures c.if-done-rows.true c.clear_numbers.new.t c.clear_numbers.ensures
 
 pub returns : goal.returns
 returns c =
     let a = c.args in
     let q = c.sum_rows-done in
-    quick_all a.offsets.now a.columns.now a.values.now a.input.now a.overwrite a.output.now a.work.now c.requires.0 c.requires.1 c.requires.3 (c.are_ready-ready.ensures (not-false _ c.if-not-ready.false-raw)) q.result q.new.work q.ensures c.if-first-gt0.false c.if-last-columns.false c.if-done-rows.false
+    quick_all a.offsets.now a.columns.now a.values.now a.input.now a.overwrite a.output.now a.work.now c.requires.0 c.requires.1 c.requires.3 (c.are_ready.ensures (not-false _ c.if-not-are_ready.false-raw)) q.result q.new.work q.ensures c.if-first-gt0.false c.if-last-columns.false c.if-done-rows.false

@@ -3,36 +3,31 @@
 
 -- `check::check_numbers` meets its contract, answer by answer. Assumes nothing.
 use mathlib.Core.Path.{sym, ◌∙◌}
+use Rattle.refusal.proofs.Told.{handed_on}
 use Rattle.evolution.proofs.CheckLaws.{inside_refuses, coeff_bad, step_bad, threshold_bad, numbers_accepted}
 use Rattle.evolution.proofs.check.check_numbers.Goals as goal
 
-pub check_inside-inside-requires : goal.check_inside-inside-requires
-check_inside-inside-requires c = c.requires.0
-
-pub returns-in_default : goal.returns-in_default
-returns-in_default c =
+pub returns-in_err-check_inside : goal.returns-in_err-check_inside
+returns-in_err-check_inside c =
     let a = c.args in
-    inside_refuses a.len a.words.now a.n a.coeffs.now a.dt a.drop_tol _ _ c.check_inside-inside.ensures c.in_default.is
-
-pub first_not_finite-first-requires : goal.first_not_finite-first-requires
-first_not_finite-first-requires c = c.requires.1
+    handed_on _ _ c.from_residual.ensures.1 ∙ inside_refuses a.len a.words.now a.n a.coeffs.now a.dt a.drop_tol _ _ c.check_inside.ensures c.in_err-check_inside.was
 
 pub returns-then-first-len : goal.returns-then-first-len
 returns-then-first-len c =
     let a = c.args in
-    coeff_bad a.len a.words.now a.n a.coeffs.now a.dt a.drop_tol (sym c.check_inside-inside.ensures ∙ c.in-Accepted.is) _ c.first_not_finite-first.ensures c.if-first-len.true
+    coeff_bad a.len a.words.now a.n a.coeffs.now a.dt a.drop_tol (sym c.check_inside.ensures ∙ c.in_ok-check_inside.was) _ c.first_not_finite-first.ensures c.if-first-len.true
 
-pub returns-then-not-step : goal.returns-then-not-step
-returns-then-not-step c =
+pub returns-then-not-is_finite : goal.returns-then-not-is_finite
+returns-then-not-is_finite c =
     let a = c.args in
-    step_bad a.len a.words.now a.n a.coeffs.now a.dt a.drop_tol (sym c.check_inside-inside.ensures ∙ c.in-Accepted.is) _ c.first_not_finite-first.ensures c.if-first-len.false _ c.is_finite-step.ensures c.if-not-step.true-raw
+    step_bad a.len a.words.now a.n a.coeffs.now a.dt a.drop_tol (sym c.check_inside.ensures ∙ c.in_ok-check_inside.was) _ c.first_not_finite-first.ensures c.if-first-len.false _ c.is_finite.ensures c.if-not-is_finite.true-raw
 
-pub returns-then-not-threshold : goal.returns-then-not-threshold
-returns-then-not-threshold c =
+pub returns-then-not-is_finite-2 : goal.returns-then-not-is_finite-2
+returns-then-not-is_finite-2 c =
     let a = c.args in
-    threshold_bad a.len a.words.now a.n a.coeffs.now a.dt a.drop_tol (sym c.check_inside-inside.ensures ∙ c.in-Accepted.is) _ c.first_not_finite-first.ensures c.if-first-len.false _ c.is_finite-step.ensures c.if-not-step.false-raw _ c.is_finite-threshold.ensures c.if-not-threshold.true-raw
+    threshold_bad a.len a.words.now a.n a.coeffs.now a.dt a.drop_tol (sym c.check_inside.ensures ∙ c.in_ok-check_inside.was) _ c.first_not_finite-first.ensures c.if-first-len.false _ c.is_finite.ensures c.if-not-is_finite.false-raw _ c.is_finite-2.ensures c.if-not-is_finite-2.true-raw
 
 pub returns : goal.returns
 returns c =
     let a = c.args in
-    numbers_accepted a.len a.words.now a.n a.coeffs.now a.dt a.drop_tol (sym c.check_inside-inside.ensures ∙ c.in-Accepted.is) _ c.first_not_finite-first.ensures c.if-first-len.false _ c.is_finite-step.ensures c.if-not-step.false-raw _ c.is_finite-threshold.ensures c.if-not-threshold.false-raw
+    numbers_accepted a.len a.words.now a.n a.coeffs.now a.dt a.drop_tol (sym c.check_inside.ensures ∙ c.in_ok-check_inside.was) _ c.first_not_finite-first.ensures c.if-first-len.false _ c.is_finite.ensures c.if-not-is_finite.false-raw _ c.is_finite-2.ensures c.if-not-is_finite-2.false-raw

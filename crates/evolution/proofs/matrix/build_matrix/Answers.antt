@@ -2,11 +2,12 @@
 -- SPDX-License-Identifier: Apache-2.0
 
 -- `matrix::build_matrix` meets its contract: what the columns staged, by rows, with its norm, and cleared. Assumes nothing.
-use mathlib.Core.Path.{sym, ap, ap₂, ◌∙◌}
+use mathlib.Core.Path.{◌≡◌, sym, ap, ap₂, ◌∙◌}
 use Prim.Native.Nat.{ℕ, min}
 use native.Mathlib.Omega.{arith}
 use lib.ListN.{replicate}
 use lib.Seq.{length-take-le}
+use Rattle.std.specs.Prelude.{Ok}
 use Rattle.number.specs.Floats.{float0}
 use Rattle.word.specs.Flat.{words as words_in}
 use Rattle.model.specs.Stored.{ModelTables}
@@ -15,6 +16,7 @@ use Rattle.columns.specs.Between.{StageRoom}
 use Rattle.generator.specs.Lent.{Work, work_of}
 use Rattle.generator.proofs.ListingLaws.{all_zero}
 use Rattle.generator.proofs.CallLaws.{held_rows}
+use Rattle.evolution.specs.Between.{count_of}
 use Rattle.evolution.proofs.MatrixLaws.{rows_built, acted_is, norm_built}
 use Rattle.evolution.proofs.CallLaws.{slots_size}
 use Rattle.evolution.proofs.matrix.build_matrix.Goals as goal
@@ -59,10 +61,10 @@ returns c =
     let n = c.list_normed-built in
     record {
       rows = rows_built a.offsets.now a.columns.now a.values.now w a.m t a.len (words_in a.basis.now) _ _ _ _ _ _ (e ∙ ap₂ min p q) g.ensures.0 n.ensures.0;
-      norm = λ k f.
-          let h = sym (acted_is a.offsets.now a.columns.now a.values.now w a.m t a.len (words_in a.basis.now) _ _ _ _ _ _ n.ensures.0) ∙ f in
-          let r = (held_rows a.m t (words_in a.basis.now) _ _ _ _ _ _ g.ensures.0 a.len a.columns.now a.values.now (slots_size a.m.qubits a.len a.basis.now a.heads.now a.nexts.now c.requires.1) inside (omega (arith, e, q)) (omega (arith, e, q))).rowed k h in
-          norm_built a.m t (words_in a.basis.now) a.len (slots_size a.m.qubits a.len a.basis.now a.heads.now a.nexts.now c.requires.1) _ _ _ _ _ g.ensures.0 _ n.ensures.2 k h (record { rows_long = r.rows_long; columns_long = r.columns_long; values_long = r.values_long });
+      norm = λ x f.
+          let h : g.result ≡ Ok x.count = sym (acted_is a.len a.offsets.now a.columns.now a.values.now _ _ _ _ _ _ n.ensures.0) ∙ ap count_of f in
+          let r = (held_rows a.m t (words_in a.basis.now) _ _ _ _ _ _ g.ensures.0 a.len a.columns.now a.values.now (slots_size a.m.qubits a.len a.basis.now a.heads.now a.nexts.now c.requires.1) inside (omega (arith, e, q)) (omega (arith, e, q))).rowed x.count h in
+          norm_built a.m t (words_in a.basis.now) a.len (slots_size a.m.qubits a.len a.basis.now a.heads.now a.nexts.now c.requires.1) _ _ _ _ _ g.ensures.0 x.count h (record { rows_long = r.rows_long; columns_long = r.columns_long; values_long = r.values_long }) x.norm (n.ensures.2 x f);
       work = all_zero w g.ensures.1 g.ensures.2 g.ensures.3 n.ensures.1 c.clear_lanes.ensures g.ensures.4 g.ensures.5
           (c.clear_entries.ensures.0 ∙ ap (λ (i : ℕ). replicate i 0) g.auto.stage_rows)
           (c.clear_entries.ensures.1 ∙ ap (λ (i : ℕ). replicate i 0) g.auto.stage_columns)

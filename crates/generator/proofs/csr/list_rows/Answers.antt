@@ -11,9 +11,9 @@ returns-in_default c = (rows_refused c.args.n c.args.offsets.now c.args.columns.
 pub sort_rows-requires : goal.sort_rows-requires
 sort_rows-requires c =
     let h = c.requires.0 in
-    let e = c.in-Listed.is in
+    let e = c.in-Ok.is in
     (h.rowed _ e, c.requires.1, c.requires.2, h.columns_long _ e, h.values_long _ e)
 
 pub returns : goal.returns
 returns c =
-    (rows_sorted c.args.n c.args.offsets.now c.args.columns.now c.args.values.now c.args.stage_rows.now c.args.stage_columns.now c.args.stage_values.now c.args.staged _ c.in-Listed.is _ _ _ c.sort_rows.ensures.0, c.sort_rows.ensures.1)
+    (rows_sorted c.args.n c.args.offsets.now c.args.columns.now c.args.values.now c.args.stage_rows.now c.args.stage_columns.now c.args.stage_values.now c.args.staged _ c.in-Ok.is _ _ _ c.sort_rows.ensures.0, c.sort_rows.ensures.1)

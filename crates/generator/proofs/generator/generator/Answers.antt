@@ -7,7 +7,8 @@ use Prim.Native.Nat.{◌*◌, ◌≤◌}
 use native.Mathlib.Omega.{arith}
 use lib.ListN.{length}
 use lib.Seq.{length-take-le}
-use Rattle.refusal.specs.declared.Answer.TheVariants.{Accepted}
+use Rattle.refusal.proofs.Told.{handed_on}
+use Rattle.std.specs.Prelude.{Ok}
 use Rattle.word.specs.Flat.{word_lanes}
 use Rattle.model.specs.Stored.{ModelTables}
 use Rattle.lent.proofs.Passed.{both}
@@ -25,7 +26,7 @@ overflow_mul-len c =
     let a = c.args in
     let t : ModelTables = model_tables a.h_words.now a.h_coeffs.now a.jumps.now a.rates.now a.t_words.now a.t_numbers.now in
     let w : Work = work_of a.h_index.now a.j_index.now a.mask.now a.heads.now a.nexts.now a.work_words.now a.work_sums.now a.stage_rows.now a.stage_columns.now a.stage_values.now in
-    let k = both (lent_tests a.m t a.words.now a.len w) (inside_to a.len a.words.now a.m.qubits Accepted) (sym c.check_generator-answer.ensures ∙ c.in_default.is) in
+    let k = both (lent_tests a.m t a.words.now a.len w) (inside_to a.len a.words.now a.m.qubits (Ok tt)) (sym c.check_generator.ensures ∙ c.in_ok-check_generator.was) in
     let p = tables_passed a.m t a.words.now a.len (length a.h_index.now) (length a.j_index.now) (length a.mask.now) (length a.heads.now) (length a.nexts.now) k.0 in
     let h : word_lanes * a.len ≤ length a.words.now = omega (arith, p.words_long) in
     search (h, c.well_formed.1.1.1.1.1.1.1.0, rules)
@@ -35,7 +36,7 @@ slice_bounds-generator_tested-end c =
     let a = c.args in
     let t : ModelTables = model_tables a.h_words.now a.h_coeffs.now a.jumps.now a.rates.now a.t_words.now a.t_numbers.now in
     let w : Work = work_of a.h_index.now a.j_index.now a.mask.now a.heads.now a.nexts.now a.work_words.now a.work_sums.now a.stage_rows.now a.stage_columns.now a.stage_values.now in
-    let k = both (lent_tests a.m t a.words.now a.len w) (inside_to a.len a.words.now a.m.qubits Accepted) (sym c.check_generator-answer.ensures ∙ c.in_default.is) in
+    let k = both (lent_tests a.m t a.words.now a.len w) (inside_to a.len a.words.now a.m.qubits (Ok tt)) (sym c.check_generator.ensures ∙ c.in_ok-check_generator.was) in
     let p = tables_passed a.m t a.words.now a.len (length a.h_index.now) (length a.j_index.now) (length a.mask.now) (length a.heads.now) (length a.nexts.now) k.0 in
     sym (length-take-le (a.len * word_lanes) a.words.now (omega (arith, p.words_long)))
 
@@ -44,22 +45,22 @@ generator_tested-requires c =
     let a = c.args in
     let t : ModelTables = model_tables a.h_words.now a.h_coeffs.now a.jumps.now a.rates.now a.t_words.now a.t_numbers.now in
     let w : Work = work_of a.h_index.now a.j_index.now a.mask.now a.heads.now a.nexts.now a.work_words.now a.work_sums.now a.stage_rows.now a.stage_columns.now a.stage_values.now in
-    let k = both (lent_tests a.m t a.words.now a.len w) (inside_to a.len a.words.now a.m.qubits Accepted) (sym c.check_generator-answer.ensures ∙ c.in_default.is) in
+    let k = both (lent_tests a.m t a.words.now a.len w) (inside_to a.len a.words.now a.m.qubits (Ok tt)) (sym c.check_generator.ensures ∙ c.in_ok-check_generator.was) in
     let p = tables_passed a.m t a.words.now a.len (length a.h_index.now) (length a.j_index.now) (length a.mask.now) (length a.heads.now) (length a.nexts.now) k.0 in
     (model_lent a.m t a.words.now a.len a.h_index.now a.j_index.now a.mask.now a.heads.now a.nexts.now p, basis_lent a.m t a.words.now a.len a.h_index.now a.j_index.now a.mask.now a.heads.now a.nexts.now p (inside_passed a.len a.words.now a.m.qubits k.1))
-
-pub returns-in_default : goal.returns-in_default
-returns-in_default c =
-    let a = c.args in
-    let t : ModelTables = model_tables a.h_words.now a.h_coeffs.now a.jumps.now a.rates.now a.t_words.now a.t_numbers.now in
-    let w : Work = work_of a.h_index.now a.j_index.now a.mask.now a.heads.now a.nexts.now a.work_words.now a.work_sums.now a.stage_rows.now a.stage_columns.now a.stage_values.now in
-    let k = both (lent_tests a.m t a.words.now a.len w) (inside_to a.len a.words.now a.m.qubits Accepted) (sym c.check_generator-answer.ensures ∙ c.in_default.is) in
-    let p = tables_passed a.m t a.words.now a.len (length a.h_index.now) (length a.j_index.now) (length a.mask.now) (length a.heads.now) (length a.nexts.now) k.0 in
-    c.generator_tested.ensures ∙ generate_tested a.rows.now a.columns.now a.values.now w a.m t a.words.now a.len (sym c.check_generator-answer.ensures ∙ c.in_default.is) _ (basis_words a.m t a.words.now a.len a.h_index.now a.j_index.now a.mask.now a.heads.now a.nexts.now p)
 
 pub returns : goal.returns
 returns c =
     let a = c.args in
     let t : ModelTables = model_tables a.h_words.now a.h_coeffs.now a.jumps.now a.rates.now a.t_words.now a.t_numbers.now in
     let w : Work = work_of a.h_index.now a.j_index.now a.mask.now a.heads.now a.nexts.now a.work_words.now a.work_sums.now a.stage_rows.now a.stage_columns.now a.stage_values.now in
-    generate_refused a.rows.now a.columns.now a.values.now w a.m t a.words.now a.len _ (sym c.check_generator-answer.ensures ∙ c.in-Refused.is)
+    let k = both (lent_tests a.m t a.words.now a.len w) (inside_to a.len a.words.now a.m.qubits (Ok tt)) (sym c.check_generator.ensures ∙ c.in_ok-check_generator.was) in
+    let p = tables_passed a.m t a.words.now a.len (length a.h_index.now) (length a.j_index.now) (length a.mask.now) (length a.heads.now) (length a.nexts.now) k.0 in
+    c.generator_tested.ensures ∙ generate_tested a.rows.now a.columns.now a.values.now w a.m t a.words.now a.len (sym c.check_generator.ensures ∙ c.in_ok-check_generator.was) _ (basis_words a.m t a.words.now a.len a.h_index.now a.j_index.now a.mask.now a.heads.now a.nexts.now p)
+
+pub returns-in_err-check_generator : goal.returns-in_err-check_generator
+returns-in_err-check_generator c =
+    let a = c.args in
+    let t : ModelTables = model_tables a.h_words.now a.h_coeffs.now a.jumps.now a.rates.now a.t_words.now a.t_numbers.now in
+    let w : Work = work_of a.h_index.now a.j_index.now a.mask.now a.heads.now a.nexts.now a.work_words.now a.work_sums.now a.stage_rows.now a.stage_columns.now a.stage_values.now in
+    rw (handed_on _ _ c.from_residual.ensures.1) (generate_refused a.rows.now a.columns.now a.values.now w a.m t a.words.now a.len _ (sym c.check_generator.ensures ∙ c.in_err-check_generator.was))

@@ -9,24 +9,9 @@ use lib.ListN.{length}
 use Rattle.number.specs.Floats.{floats}
 use Rattle.sums.specs.Numbers.{complexes}
 use Rattle.k_matrix.specs.Matrix.{is_pair}
-use Rattle.k_matrix.proofs.MatrixLaws.{places_few, passing_start, passing_yes, passing_no, passing_end}
+use Rattle.k_matrix.proofs.MatrixLaws.{places_few, passing_yes, passing_no, passing_end}
 use Rattle.k_matrix.proofs.matrix.count_pairs.Goals as goal
 use Rattle.k_matrix.proofs.matrix.count_pairs.Goals.{then-makes_pair, else-makes_pair}
-
-pub overflow_mul-places : goal.overflow_mul-places
-overflow_mul-places c = omega (arith, places_few c.args.ops c.requires.few)
-
-pub loop-p-init : goal.loop-p-init
-loop-p-init c = let a = c.args in (omega arith, omega arith, passing_start (is_pair floats a.ops (complexes a.k.now)) (a.ops * a.ops))
-
-pub makes_pair-requires : goal.makes_pair-requires
-makes_pair-requires c = (c.requires, c.loop-p-test.true)
-
-pub overflow_add-count : goal.overflow_add-count
-overflow_add-count c = omega (arith, places_few c.args.ops c.requires.few)
-
-pub overflow_add-p : goal.overflow_add-p
-overflow_add-p c = omega (arith, places_few c.args.ops c.requires.few)
 
 pub loop-p-preserved : goal.loop-p-preserved
 loop-p-preserved c =
@@ -34,11 +19,11 @@ loop-p-preserved c =
     let l = c.loop-p in
     let told = c.makes_pair.ensures in
     elim c.if-makes_pair.branch [
-      | then-makes_pair w ↦ (omega arith, omega arith, omega (arith, ap length (passing_yes (is_pair floats a.ops (complexes a.k.now)) l.p (a.ops * a.ops) c.loop-p-test.true (sym told ∙ w.if-makes_pair.true))))
-      | else-makes_pair w ↦ (omega arith, omega arith, omega (arith, ap length (passing_no (is_pair floats a.ops (complexes a.k.now)) l.p (a.ops * a.ops) c.loop-p-test.true (sym told ∙ w.if-makes_pair.false))))
+      | then-makes_pair w ↦ (omega arith, omega (arith, ap length (passing_yes (is_pair floats a.ops (complexes a.k.now)) l.p (a.ops * a.ops) c.loop-p-test.true (sym told ∙ w.if-makes_pair.true))))
+      | else-makes_pair w ↦ (omega arith, omega (arith, ap length (passing_no (is_pair floats a.ops (complexes a.k.now)) l.p (a.ops * a.ops) c.loop-p-test.true (sym told ∙ w.if-makes_pair.false))))
     ]
 
 pub returns : goal.returns
 returns c =
     let l = c.loop-p in
-    (omega (arith, l.invariant.2, ap length (passing_end (is_pair floats c.args.ops (complexes c.args.k.now)) l.p (c.args.ops * c.args.ops) c.loop-p-test.false)), omega (arith, places_few c.args.ops c.requires.few))
+    (omega (arith, l.invariant.1, ap length (passing_end (is_pair floats c.args.ops (complexes c.args.k.now)) l.p (c.args.ops * c.args.ops) c.loop-p-test.false)), omega (arith, places_few c.args.ops c.requires.few))

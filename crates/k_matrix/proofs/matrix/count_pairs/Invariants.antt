@@ -1,7 +1,7 @@
 -- SPDX-FileCopyrightText: 2026 The PPVM Authors
 -- SPDX-License-Identifier: Apache-2.0
 
--- What lasts over the loop of `matrix::count_pairs`, and what falls.
+-- What lasts over the loop of `matrix::count_pairs`.
 use mathlib.Core.Path.{◌≡◌}
 use Prim.Native.Nat.{◌+◌, ◌-◌, ◌*◌, ◌≤◌}
 use lib.ListN.{length}
@@ -12,7 +12,4 @@ use Rattle.k_matrix.proofs.matrix.count_pairs.Given as goal
 
 abbrev pub invariant-loop-p : goal.invariant-loop-p
 invariant-loop-p l =
-    (l.p ≤ l.ops * l.ops) × (l.count ≤ l.p) × (l.count + length (passing (is_pair floats l.ops (complexes l.k)) l.p (l.ops * l.ops - l.p)) ≡ length (pair_places floats l.ops (complexes l.k)))
-
-abbrev pub decreases-loop-p : goal.decreases-loop-p
-decreases-loop-p l = l.ops * l.ops - l.p
+    (l.count ≤ l.p) × (l.count + length (passing (is_pair floats l.ops (complexes l.k)) l.p (l.ops * l.ops - l.p)) ≡ length (pair_places floats l.ops (complexes l.k)))

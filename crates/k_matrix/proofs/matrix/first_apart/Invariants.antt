@@ -1,8 +1,7 @@
 -- SPDX-FileCopyrightText: 2026 The PPVM Authors
 -- SPDX-License-Identifier: Apache-2.0
 
--- What lasts over the loop of `matrix::first_apart`, and what falls.
-use Prim.Native.Nat.{◌-◌, ◌*◌, ◌≤◌}
+-- What lasts over the loop of `matrix::first_apart`.
 use Rattle.number.specs.Floats.{floats}
 use Rattle.sums.specs.Numbers.{complexes}
 use Rattle.lent.proofs.Firsts.{NoneBefore}
@@ -10,7 +9,4 @@ use Rattle.k_matrix.specs.Matrix.{apart_at}
 use Rattle.k_matrix.proofs.matrix.first_apart.Given as goal
 
 abbrev pub invariant-loop-p : goal.invariant-loop-p
-invariant-loop-p l = (l.p ≤ l.ops * l.ops) × NoneBefore (apart_at floats l.ops (complexes l.k)) l.p
-
-abbrev pub decreases-loop-p : goal.decreases-loop-p
-decreases-loop-p l = l.ops * l.ops - l.p
+invariant-loop-p l = NoneBefore (apart_at floats l.ops (complexes l.k)) l.p

@@ -2,22 +2,10 @@
 -- SPDX-License-Identifier: Apache-2.0
 
 -- `matrix::largest_square` meets its contract: the largest so far beside the entries that are left is the largest of all. Assumes nothing.
-use mathlib.Core.Path.{refl, sym, ◌∙◌}
+use mathlib.Core.Path.{sym, ◌∙◌}
 use native.Mathlib.Omega.{arith}
 use Rattle.k_matrix.proofs.MatrixLaws.{largest_turn, largest_end}
 use Rattle.k_matrix.proofs.matrix.largest_square.Goals as goal
-
-pub loop-p-init : goal.loop-p-init
-loop-p-init c = refl
-
-pub complex_at-requires : goal.complex_at-requires
-complex_at-requires c = omega arith
-
-pub norm_sqr-requires : goal.norm_sqr-requires
-norm_sqr-requires c = tt
-
-pub larger-largest-requires : goal.larger-largest-requires
-larger-largest-requires c = tt
 
 pub loop-p-preserved : goal.loop-p-preserved
 loop-p-preserved c =

@@ -16,15 +16,6 @@ use Rattle.k_matrix.proofs.scaled.store_scaled.Goals as goal
 pub loop-i-init : goal.loop-i-init
 loop-i-init c = let a = c.args in scaled_start (cx a.k) a.len a.at a.words.now a.numbers.now a.t_words.now a.t_numbers.now c.requires
 
-pub term_at-t-requires : goal.term_at-t-requires
-term_at-t-requires c = (omega (arith, c.requires.lanes_long), omega (arith, c.requires.numbers_long))
-
-pub norm_sqr-requires : goal.norm_sqr-requires
-norm_sqr-requires c = tt
-
-pub negligible-requires : goal.negligible-requires
-negligible-requires c = tt
-
 pub loop-i-preserved-then-negligible : goal.loop-i-preserved-then-negligible
 loop-i-preserved-then-negligible c =
     let a = c.args in
@@ -38,9 +29,6 @@ set_word-requires c =
     let l = c.loop-i in
     (scaled_room (cx a.k) a.len a.at a.words.now a.numbers.now a.t_words.now a.t_numbers.now c.requires l.t_words l.t_numbers l.place l.i l.invariant c.loop-i-test.true
     (onto c.term_at-t.result) c.term_at-t.ensures (ap floats.small (sym c.norm_sqr.ensures) ∙ sym c.negligible.ensures ∙ c.if-negligible.false)).0
-
-pub mul-requires : goal.mul-requires
-mul-requires c = tt
 
 pub set_complex-requires : goal.set_complex-requires
 set_complex-requires c =

@@ -1,14 +1,9 @@
 -- SPDX-FileCopyrightText: 2026 The PPVM Authors
 -- SPDX-License-Identifier: Apache-2.0
 
--- What lasts over the loop of `largest::keep_to`, and what falls.
-use Prim.Native.Nat.{◌≤◌, ◌-◌}
-use lib.ListN.{length}
+-- What lasts over the loop of `largest::keep_to`.
 use Rattle.keep.proofs.LargestLaws.{Keeping}
 use Rattle.keep.proofs.largest.keep_to.Given as goal
 
 abbrev pub invariant-loop-i : goal.invariant-loop-i
-invariant-loop-i l = (l.i ≤ length l.coeffs) × Keeping l.cut l.coeffs l.fixed l.last l.taken l.i l.kept
-
-abbrev pub decreases-loop-i : goal.decreases-loop-i
-decreases-loop-i l = length l.coeffs - l.i
+invariant-loop-i l = Keeping l.cut l.coeffs l.fixed l.last l.taken l.i l.kept

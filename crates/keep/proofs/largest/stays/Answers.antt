@@ -3,13 +3,10 @@
 
 -- `largest::stays` meets its contract. Assumes nothing.
 use borrow.Author.Tests.{lt-ltb, le-ltb}
-use Rattle.keep.specs.Largest.{stays_flag}
 use Rattle.keep.proofs.largest.stays.Goals as goal
 
 pub returns-then-last-i : goal.returns-then-last-i
-unfolding stays_flag
-returns-then-last-i c = rw (lt-ltb _ _ c.if-last-i.true, c.flag_below-above.ensures, c.magnitude-size.ensures)
+returns-then-last-i c = rw (lt-ltb _ _ c.if-last-i.true, c.magnitude-size.ensures)
 
 pub returns : goal.returns
-unfolding stays_flag
-returns c = rw (le-ltb _ _ c.if-last-i.false, c.flag_not_below-at_least.ensures, c.magnitude-size.ensures)
+returns c = rw (le-ltb _ _ c.if-last-i.false, c.magnitude-size.ensures)

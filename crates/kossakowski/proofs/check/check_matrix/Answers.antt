@@ -6,7 +6,8 @@ use mathlib.Core.Path.{◌≡◌, sym, ◌∙◌}
 use Prim.Native.Nat.{◌*◌}
 use native.Mathlib.Omega.{arith}
 use lib.ListN.{length}
-use Rattle.refusal.specs.declared.Answer.TheVariants.{Accepted}
+use Rattle.std.specs.Prelude.{Ok}
+use Rattle.refusal.proofs.Told.{handed_on}
 use Rattle.model.specs.Stored.{ModelTables}
 use Rattle.model.specs.Tested.{test_model}
 use Rattle.model.specs.Fails.{number_fails}
@@ -18,7 +19,7 @@ use Rattle.k_matrix.proofs.MatrixLengths.{LengthsFit, lengths_fit}
 use Rattle.kossakowski.proofs.MatrixTests.{jumps_few, range_first, model_refused, operators_above, lengths_refused, number_outside, not_hermitian, operators_refused, pairs_above, all_passed}
 use Rattle.lent.specs.Tests.{first_to}
 use Rattle.kossakowski.proofs.check.check_matrix.Goals as goal
-use Rattle.kossakowski.proofs.check.check_matrix.Goals.{After-largest_square-largest, After-lengths_agree-agree, After-test_model-model, After-test_range-outside, Else-apart-places, Else-ops-gt-MAX_OPERATORS, Else-outside-places, In-Accepted, In-Accepted-agree, In-Accepted-operators, Start}
+use Rattle.kossakowski.proofs.check.check_matrix.Goals.{After-largest_square-largest, After-lengths_agree, After-test_model, After-test_range-outside, Else-apart-places, Else-ops-gt-MAX_OPERATORS, Else-outside-places, In_ok-test_model, In_ok-lengths_agree, In_ok-check_operators, Start}
 
 abbrev input : Start → Input
 input s =
@@ -31,93 +32,87 @@ tables s =
     record { h_words = a.h_words.now; h_coeffs = a.h_coeffs.now; jumps = a.jumps.now; rates = a.rates.now; t_words = a.t_words.now; t_numbers = a.t_numbers.now }
 
 -- ---- where each test began
-abbrev start : After-test_model-model → Start
-start c = (goal.at.After-test_model-model c).Start
+abbrev start : After-test_model → Start
+start c = (goal.at.After-test_model c).Start
 
-abbrev start-model : In-Accepted → Start
-start-model c = start (goal.at.In-Accepted c).After-test_model-model
+abbrev start-model : In_ok-test_model → Start
+start-model c = start (goal.at.In_ok-test_model c).After-test_model
 
 abbrev start-count : Else-ops-gt-MAX_OPERATORS → Start
-start-count c = start-model (goal.at.Else-ops-gt-MAX_OPERATORS c).In-Accepted
+start-count c = start-model (goal.at.Else-ops-gt-MAX_OPERATORS c).In_ok-test_model
 
-abbrev start-lengths : In-Accepted-agree → Start
-start-lengths c = start-count (goal.at.In-Accepted-agree c).Else-ops-gt-MAX_OPERATORS
+abbrev start-lengths : In_ok-lengths_agree → Start
+start-lengths c = start-count (goal.at.In_ok-lengths_agree c).Else-ops-gt-MAX_OPERATORS
 
 abbrev start-numbers : Else-outside-places → Start
-start-numbers c = start-lengths (goal.at.Else-outside-places c).In-Accepted-agree
+start-numbers c = start-lengths (goal.at.Else-outside-places c).In_ok-lengths_agree
 
 abbrev start-mirrors : Else-apart-places → Start
 start-mirrors c = start-numbers (goal.at.Else-apart-places c).Else-outside-places
 
-abbrev start-operators : In-Accepted-operators → Start
-start-operators c = start-mirrors (goal.at.In-Accepted-operators c).Else-apart-places
+abbrev start-operators : In_ok-check_operators → Start
+start-operators c = start-mirrors (goal.at.In_ok-check_operators c).Else-apart-places
 
 -- ---- what each passed test settles
-modelled : (c : In-Accepted) → test_model (start-model c).args.m (tables (start-model c)) ≡ Accepted
-modelled c = sym c.test_model-model.ensures ∙ c.in-Accepted.is
+modelled : (c : In_ok-test_model) → test_model (start-model c).args.m (tables (start-model c)) ≡ Ok tt
+modelled c = sym c.test_model.ensures ∙ c.in_ok-test_model.was
 
-agree : (c : After-lengths_agree-agree)
-    → let s = start-count (goal.at.After-lengths_agree-agree c).Else-ops-gt-MAX_OPERATORS in c.lengths_agree-agree.result ≡ lengths_answer s.args.m (input s) (tables s) s.args.work_words.now s.args.work_numbers.now
+agree : (c : After-lengths_agree)
+    → let s = start-count (goal.at.After-lengths_agree c).Else-ops-gt-MAX_OPERATORS in c.lengths_agree.result ≡ lengths_answer s.args.m (input s) (tables s) s.args.work_words.now s.args.work_numbers.now
 agree c =
-    let t = tables (start-count (goal.at.After-lengths_agree-agree c).Else-ops-gt-MAX_OPERATORS) in
-    c.lengths_agree-agree.ensures t.h_words t.h_coeffs t.t_words t.t_numbers
+    let t = tables (start-count (goal.at.After-lengths_agree c).Else-ops-gt-MAX_OPERATORS) in
+    c.lengths_agree.ensures t.h_words t.h_coeffs t.t_words t.t_numbers
 
-agreed : (c : In-Accepted-agree) → let s = start-lengths c in lengths_answer s.args.m (input s) (tables s) s.args.work_words.now s.args.work_numbers.now ≡ Accepted
-agreed c = sym (agree (goal.at.In-Accepted-agree c).After-lengths_agree-agree) ∙ c.in-Accepted-agree.is
+agreed : (c : In_ok-lengths_agree) → let s = start-lengths c in lengths_answer s.args.m (input s) (tables s) s.args.work_words.now s.args.work_numbers.now ≡ Ok tt
+agreed c = sym (agree (goal.at.In_ok-lengths_agree c).After-lengths_agree) ∙ c.in_ok-lengths_agree.was
 
-fit : (c : In-Accepted-agree) → let s = start-lengths c in LengthsFit s.args.m (input s) (tables s) s.args.work_words.now s.args.work_numbers.now
+fit : (c : In_ok-lengths_agree) → let s = start-lengths c in LengthsFit s.args.m (input s) (tables s) s.args.work_words.now s.args.work_numbers.now
 fit c = let s = start-lengths c in lengths_fit s.args.m (input s) (tables s) s.args.work_words.now s.args.work_numbers.now (agreed c)
 
 outside_is : (c : After-test_range-outside)
-    → let k = (start-lengths (goal.at.After-test_range-outside c).In-Accepted-agree).args.k.now in let n = length (start-lengths (goal.at.After-test_range-outside c).In-Accepted-agree).args.counts.now in c.test_range-outside.result ≡ first_to (n * n) (number_fails k)
-outside_is c = let a = (start-lengths (goal.at.After-test_range-outside c).In-Accepted-agree).args in c.test_range-outside.ensures ∙ range_first (length a.counts.now * length a.counts.now) a.k.now
+    → let k = (start-lengths (goal.at.After-test_range-outside c).In_ok-lengths_agree).args.k.now in let n = length (start-lengths (goal.at.After-test_range-outside c).In_ok-lengths_agree).args.counts.now in c.test_range-outside.result ≡ first_to (n * n) (number_fails k)
+outside_is c = let a = (start-lengths (goal.at.After-test_range-outside c).In_ok-lengths_agree).args in c.test_range-outside.ensures ∙ range_first (length a.counts.now * length a.counts.now) a.k.now
 
 square : (c : After-largest_square-largest) → let a = (start-numbers (goal.at.After-largest_square-largest c).Else-outside-places).args in Square (length a.counts.now) a.k.now c.largest_square-largest.result
 square c = record {
-  entries_all = (fit (goal.at.After-largest_square-largest c).In-Accepted-agree).entries_all;
+  entries_all = (fit (goal.at.After-largest_square-largest c).In_ok-lengths_agree).entries_all;
   few = c.if-ops-gt-MAX_OPERATORS.false;
   largest_is = c.largest_square-largest.ensures;
 }
 
-taken : (c : In-Accepted-operators) → let s = start-operators c in answer_of (read_operators s.args.m.qubits (input s)) ≡ Accepted
-taken c = sym c.check_operators-operators.ensures ∙ c.in-Accepted-operators.is
+taken : (c : In_ok-check_operators) → let s = start-operators c in answer_of (read_operators s.args.m.qubits (input s)) ≡ Ok tt
+taken c = sym c.check_operators.ensures ∙ c.in_ok-check_operators.was
 
-pub test_model-model-requires : goal.test_model-model-requires
-test_model-model-requires c = tt
-
-pub returns-in_default : goal.returns-in_default
-returns-in_default c =
-    let s = start (goal.at.returns-in_default c).After-test_model-model in
-    model_refused s.args.m (input s) (tables s) s.args.work_words.now s.args.work_numbers.now c.test_model-model.result c.test_model-model.ensures _ c.in_default.is
+pub returns-in_err-test_model : goal.returns-in_err-test_model
+returns-in_err-test_model c =
+    let s = start (goal.at.returns-in_err-test_model c).After-test_model in
+    handed_on _ _ c.from_residual.ensures.1 ∙ model_refused s.args.m (input s) (tables s) s.args.work_words.now s.args.work_numbers.now _ (sym c.test_model.ensures ∙ c.in_err-test_model.was)
 
 pub returns-then-ops-gt-MAX_OPERATORS : goal.returns-then-ops-gt-MAX_OPERATORS
 returns-then-ops-gt-MAX_OPERATORS c =
-    let s = start-model (goal.at.returns-then-ops-gt-MAX_OPERATORS c).In-Accepted in
-    operators_above s.args.m (input s) (tables s) s.args.work_words.now s.args.work_numbers.now (modelled (goal.at.returns-then-ops-gt-MAX_OPERATORS c).In-Accepted) c.if-ops-gt-MAX_OPERATORS.true
+    let s = start-model (goal.at.returns-then-ops-gt-MAX_OPERATORS c).In_ok-test_model in
+    operators_above s.args.m (input s) (tables s) s.args.work_words.now s.args.work_numbers.now (modelled (goal.at.returns-then-ops-gt-MAX_OPERATORS c).In_ok-test_model) c.if-ops-gt-MAX_OPERATORS.true
 
-pub lengths_agree-agree-requires : goal.lengths_agree-agree-requires
-lengths_agree-agree-requires c = let s = start-count (goal.at.lengths_agree-agree-requires c).Else-ops-gt-MAX_OPERATORS in (jumps_few s.args.m (tables s) (modelled (goal.at.lengths_agree-agree-requires c).In-Accepted), c.if-ops-gt-MAX_OPERATORS.false)
+pub lengths_agree-requires : goal.lengths_agree-requires
+lengths_agree-requires c = let s = start-count (goal.at.lengths_agree-requires c).Else-ops-gt-MAX_OPERATORS in (jumps_few s.args.m (tables s) (modelled (goal.at.lengths_agree-requires c).In_ok-test_model), c.if-ops-gt-MAX_OPERATORS.false)
 
-pub returns-in_default-agree : goal.returns-in_default-agree
-returns-in_default-agree c =
-    let b = (goal.at.returns-in_default-agree c).Else-ops-gt-MAX_OPERATORS in
+pub returns-in_err-lengths_agree : goal.returns-in_err-lengths_agree
+returns-in_err-lengths_agree c =
+    let b = (goal.at.returns-in_err-lengths_agree c).Else-ops-gt-MAX_OPERATORS in
     let s = start-count b in
-    lengths_refused s.args.m (input s) (tables s) s.args.work_words.now s.args.work_numbers.now (modelled (goal.at.returns-in_default-agree c).In-Accepted) c.if-ops-gt-MAX_OPERATORS.false c.lengths_agree-agree.result (agree (goal.at.returns-in_default-agree c).After-lengths_agree-agree) _ c.in_default-agree.is
+    handed_on _ _ c.from_residual-in_err-lengths_agree.ensures.1 ∙ lengths_refused s.args.m (input s) (tables s) s.args.work_words.now s.args.work_numbers.now (modelled (goal.at.returns-in_err-lengths_agree c).In_ok-test_model) c.if-ops-gt-MAX_OPERATORS.false _ (sym (agree (goal.at.returns-in_err-lengths_agree c).After-lengths_agree) ∙ c.in_err-lengths_agree.was)
 
 pub overflow_mul-places : goal.overflow_mul-places
-overflow_mul-places c = omega (arith, places_few (length (start-lengths (goal.at.overflow_mul-places c).In-Accepted-agree).args.counts.now) c.if-ops-gt-MAX_OPERATORS.false)
+overflow_mul-places c = omega (arith, places_few (length (start-lengths (goal.at.overflow_mul-places c).In_ok-lengths_agree).args.counts.now) c.if-ops-gt-MAX_OPERATORS.false)
 
 pub test_range-outside-requires : goal.test_range-outside-requires
-test_range-outside-requires c = omega (arith, (fit (goal.at.test_range-outside-requires c).In-Accepted-agree).entries_all)
+test_range-outside-requires c = omega (arith, (fit (goal.at.test_range-outside-requires c).In_ok-lengths_agree).entries_all)
 
 pub returns-then-outside-places : goal.returns-then-outside-places
 returns-then-outside-places c =
-    let l = (goal.at.returns-then-outside-places c).In-Accepted-agree in
+    let l = (goal.at.returns-then-outside-places c).In_ok-lengths_agree in
     let s = start-lengths l in
-    number_outside s.args.m (input s) (tables s) s.args.work_words.now s.args.work_numbers.now (modelled (goal.at.returns-then-outside-places c).In-Accepted) c.if-ops-gt-MAX_OPERATORS.false (agreed l) c.test_range-outside.result (outside_is (goal.at.returns-then-outside-places c).After-test_range-outside) c.if-outside-places.true
-
-pub largest_square-largest-requires : goal.largest_square-largest-requires
-largest_square-largest-requires c = tt
+    number_outside s.args.m (input s) (tables s) s.args.work_words.now s.args.work_numbers.now (modelled (goal.at.returns-then-outside-places c).In_ok-test_model) c.if-ops-gt-MAX_OPERATORS.false (agreed l) c.test_range-outside.result (outside_is (goal.at.returns-then-outside-places c).After-test_range-outside) c.if-outside-places.true
 
 pub first_apart-apart-requires : goal.first_apart-apart-requires
 first_apart-apart-requires c = square (goal.at.first_apart-apart-requires c).After-largest_square-largest
@@ -130,20 +125,20 @@ nonzero_rem-result c = omega (arith, some_ops (length (start-numbers (goal.at.no
 
 pub returns-then-apart-places : goal.returns-then-apart-places
 returns-then-apart-places c =
-    let l = (goal.at.returns-then-apart-places c).In-Accepted-agree in
+    let l = (goal.at.returns-then-apart-places c).In_ok-lengths_agree in
     let s = start-lengths l in
-    not_hermitian s.args.m (input s) (tables s) s.args.work_words.now s.args.work_numbers.now (modelled (goal.at.returns-then-apart-places c).In-Accepted) c.if-ops-gt-MAX_OPERATORS.false (agreed l) c.test_range-outside.result (outside_is (goal.at.returns-then-apart-places c).After-test_range-outside) c.if-outside-places.false c.first_apart-apart.result
+    not_hermitian s.args.m (input s) (tables s) s.args.work_words.now s.args.work_numbers.now (modelled (goal.at.returns-then-apart-places c).In_ok-test_model) c.if-ops-gt-MAX_OPERATORS.false (agreed l) c.test_range-outside.result (outside_is (goal.at.returns-then-apart-places c).After-test_range-outside) c.if-outside-places.false c.first_apart-apart.result
     c.first_apart-apart.ensures c.if-apart-places.true
 
-pub check_operators-operators-requires : goal.check_operators-operators-requires
-check_operators-operators-requires c = let f = fit (goal.at.check_operators-operators-requires c).In-Accepted-agree in (f.terms_counted, f.numbers_two, f.texts_whole)
+pub check_operators-requires : goal.check_operators-requires
+check_operators-requires c = let f = fit (goal.at.check_operators-requires c).In_ok-lengths_agree in (f.terms_counted, f.numbers_two, f.texts_whole)
 
-pub returns-in_default-operators : goal.returns-in_default-operators
-returns-in_default-operators c =
-    let l = (goal.at.returns-in_default-operators c).In-Accepted-agree in
+pub returns-in_err-check_operators : goal.returns-in_err-check_operators
+returns-in_err-check_operators c =
+    let l = (goal.at.returns-in_err-check_operators c).In_ok-lengths_agree in
     let s = start-lengths l in
-    operators_refused s.args.m (input s) (tables s) s.args.work_words.now s.args.work_numbers.now (modelled (goal.at.returns-in_default-operators c).In-Accepted) c.if-ops-gt-MAX_OPERATORS.false (agreed l) c.test_range-outside.result (outside_is (goal.at.returns-in_default-operators c).After-test_range-outside) c.if-outside-places.false c.first_apart-apart.result
-    c.first_apart-apart.ensures c.if-apart-places.false c.check_operators-operators.result c.check_operators-operators.ensures _ c.in_default-operators.is
+    handed_on _ _ c.from_residual-in_err-check_operators.ensures.1 ∙ operators_refused s.args.m (input s) (tables s) s.args.work_words.now s.args.work_numbers.now (modelled (goal.at.returns-in_err-check_operators c).In_ok-test_model) c.if-ops-gt-MAX_OPERATORS.false (agreed l) c.test_range-outside.result (outside_is (goal.at.returns-in_err-check_operators c).After-test_range-outside) c.if-outside-places.false c.first_apart-apart.result
+    c.first_apart-apart.ensures c.if-apart-places.false _ (sym c.check_operators.ensures ∙ c.in_err-check_operators.was)
 
 pub count_pairs-requires : goal.count_pairs-requires
 count_pairs-requires c = square (goal.at.count_pairs-requires c).After-largest_square-largest
@@ -151,20 +146,20 @@ count_pairs-requires c = square (goal.at.count_pairs-requires c).After-largest_s
 pub overflow_add-count : goal.overflow_add-count
 overflow_add-count c =
     let b = (goal.at.overflow_add-count c).Else-ops-gt-MAX_OPERATORS in
-    omega (arith, c.count_pairs.ensures.1, jumps_few (start-count b).args.m (tables (start-count b)) (modelled (goal.at.overflow_add-count c).In-Accepted))
+    omega (arith, c.count_pairs.ensures.1, jumps_few (start-count b).args.m (tables (start-count b)) (modelled (goal.at.overflow_add-count c).In_ok-test_model))
 
 pub returns-then-count-gt-MAX_JUMPS : goal.returns-then-count-gt-MAX_JUMPS
 returns-then-count-gt-MAX_JUMPS c =
-    let o = (goal.at.returns-then-count-gt-MAX_JUMPS c).In-Accepted-operators in
-    let l = (goal.at.returns-then-count-gt-MAX_JUMPS c).In-Accepted-agree in
+    let o = (goal.at.returns-then-count-gt-MAX_JUMPS c).In_ok-check_operators in
+    let l = (goal.at.returns-then-count-gt-MAX_JUMPS c).In_ok-lengths_agree in
     let s = start-lengths l in
-    pairs_above s.args.m (input s) (tables s) s.args.work_words.now s.args.work_numbers.now (modelled (goal.at.returns-then-count-gt-MAX_JUMPS c).In-Accepted) c.if-ops-gt-MAX_OPERATORS.false (agreed l) c.test_range-outside.result (outside_is (goal.at.returns-then-count-gt-MAX_JUMPS c).After-test_range-outside) c.if-outside-places.false c.first_apart-apart.result
+    pairs_above s.args.m (input s) (tables s) s.args.work_words.now s.args.work_numbers.now (modelled (goal.at.returns-then-count-gt-MAX_JUMPS c).In_ok-test_model) c.if-ops-gt-MAX_OPERATORS.false (agreed l) c.test_range-outside.result (outside_is (goal.at.returns-then-count-gt-MAX_JUMPS c).After-test_range-outside) c.if-outside-places.false c.first_apart-apart.result
     c.first_apart-apart.ensures c.if-apart-places.false (taken o) c.count_pairs.result c.count_pairs.ensures.0 c.if-count-gt-MAX_JUMPS.true
 
 pub returns : goal.returns
 returns c =
-    let o = (goal.at.returns c).In-Accepted-operators in
-    let l = (goal.at.returns c).In-Accepted-agree in
+    let o = (goal.at.returns c).In_ok-check_operators in
+    let l = (goal.at.returns c).In_ok-lengths_agree in
     let s = start-lengths l in
-    all_passed s.args.m (input s) (tables s) s.args.work_words.now s.args.work_numbers.now (modelled (goal.at.returns c).In-Accepted) c.if-ops-gt-MAX_OPERATORS.false (agreed l) c.test_range-outside.result (outside_is (goal.at.returns c).After-test_range-outside) c.if-outside-places.false c.first_apart-apart.result
+    all_passed s.args.m (input s) (tables s) s.args.work_words.now s.args.work_numbers.now (modelled (goal.at.returns c).In_ok-test_model) c.if-ops-gt-MAX_OPERATORS.false (agreed l) c.test_range-outside.result (outside_is (goal.at.returns c).After-test_range-outside) c.if-outside-places.false c.first_apart-apart.result
     c.first_apart-apart.ensures c.if-apart-places.false (taken o) c.count_pairs.result c.count_pairs.ensures.0 c.if-count-gt-MAX_JUMPS.false

@@ -2,16 +2,13 @@
 -- SPDX-License-Identifier: Apache-2.0
 
 -- `operators::check_operators` meets its contract: the operators that are left answer for all; their terms and texts are those that are left. Assumes nothing.
-use mathlib.Core.Path.{refl, sym, ◌∙◌}
+use mathlib.Core.Path.{sym, ◌∙◌}
 use lib.ListN.{get_or}
+use Rattle.refusal.proofs.Told.{handed_on}
 use Rattle.model_build.proofs.Parts.{total_turn, total_part}
 use Rattle.kossakowski.proofs.OperatorTests.{operators_start, operators_on, operators_stop, operators_end}
-use borrow.Author.Rules.{rules}
 use native.Mathlib.Omega.{arith}
 use Rattle.kossakowski.proofs.operators.check_operators.Goals as goal
-
-pub loop-j-init : goal.loop-j-init
-loop-j-init c = (search rules, search rules, search rules, refl)
 
 pub overflow_add-own : goal.overflow_add-own
 overflow_add-own c =
@@ -21,30 +18,18 @@ pub slice_bounds-own-end : goal.slice_bounds-own-end
 slice_bounds-own-end c =
     omega (arith, total_turn c.args.counts.now c.loop-j.j c.loop-j-test.true)
 
-pub overflow_mul-k : goal.overflow_mul-k
-overflow_mul-k c =
-    omega (arith, total_turn c.args.counts.now c.loop-j.j c.loop-j-test.true)
-
-pub overflow_add-t : goal.overflow_add-t
-overflow_add-t c =
-    omega (arith, total_turn c.args.counts.now c.loop-j.j c.loop-j-test.true)
-
-pub slice_bounds-check_operator-end-in-loop-j : goal.slice_bounds-check_operator-end-in-loop-j
-slice_bounds-check_operator-end-in-loop-j c =
-    omega (arith, total_turn c.args.counts.now c.loop-j.j c.loop-j-test.true)
-
-pub check_operator-answer-requires : goal.check_operator-answer-requires
-check_operator-answer-requires c =
+pub check_operator-requires : goal.check_operator-requires
+check_operator-requires c =
     let a = c.args in
     let l = c.loop-j in
     (omega arith, omega (arith, total_part a.lengths.now l.t (get_or a.counts.now l.j 0)))
 
-pub returns-in_default : goal.returns-in_default
-returns-in_default c =
+pub returns-in_err-check_operator : goal.returns-in_err-check_operator
+returns-in_err-check_operator c =
     let a = c.args in
     let l = c.loop-j in
-    sym (operators_start a.n_qubits a.counts.now a.lengths.now a.texts.now a.numbers.now ∙ l.invariant.3
-    ∙ operators_stop a.n_qubits a.counts.now a.lengths.now a.texts.now a.numbers.now l.j l.t l.at c.loop-j-test.true _ c.check_operator-answer.ensures _ c.in_default.is)
+    handed_on _ _ c.from_residual.ensures.1 ∙ sym (operators_start a.n_qubits a.counts.now a.lengths.now a.texts.now a.numbers.now ∙ l.invariant.2
+    ∙ operators_stop a.n_qubits a.counts.now a.lengths.now a.texts.now a.numbers.now l.j l.t l.at c.loop-j-test.true _ c.check_operator.ensures _ c.in_err-check_operator.was)
 
 pub sum_of-at-requires : goal.sum_of-at-requires
 sum_of-at-requires c =
@@ -58,24 +43,19 @@ overflow_add-at c =
     let l = c.loop-j in
     omega (arith, c.sum_of-at.ensures, total_part a.lengths.now l.t (get_or a.counts.now l.j 0))
 
-pub overflow_add-t-in-loop-j : goal.overflow_add-t-in-loop-j
-overflow_add-t-in-loop-j c =
-    omega (arith, total_turn c.args.counts.now c.loop-j.j c.loop-j-test.true)
-
 pub loop-j-preserved : goal.loop-j-preserved
 loop-j-preserved c =
     let a = c.args in
     let l = c.loop-j in (
-      omega arith,
       omega (arith, total_turn a.counts.now l.j c.loop-j-test.true),
       omega (arith, c.sum_of-at.ensures, total_part a.lengths.now l.t (get_or a.counts.now l.j 0)),
-      l.invariant.3
-          ∙ operators_on a.n_qubits a.counts.now a.lengths.now a.texts.now a.numbers.now l.j l.t l.at c.loop-j-test.true _ c.check_operator-answer.ensures c.in-Accepted.is _ c.sum_of-at.ensures,
+      l.invariant.2
+          ∙ operators_on a.n_qubits a.counts.now a.lengths.now a.texts.now a.numbers.now l.j l.t l.at c.loop-j-test.true _ c.check_operator.ensures c.in_ok-check_operator.was _ c.sum_of-at.ensures,
     )
 
 pub returns : goal.returns
 returns c =
     let a = c.args in
     let l = c.loop-j in
-    sym (operators_start a.n_qubits a.counts.now a.lengths.now a.texts.now a.numbers.now ∙ l.invariant.3
+    sym (operators_start a.n_qubits a.counts.now a.lengths.now a.texts.now a.numbers.now ∙ l.invariant.2
     ∙ operators_end a.n_qubits a.counts.now a.lengths.now a.texts.now a.numbers.now l.j l.t l.at c.loop-j-test.false)

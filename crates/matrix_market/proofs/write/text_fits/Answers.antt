@@ -29,15 +29,15 @@ line_length-line-requires c = c.requires.small c.loop-i.i c.loop-i-test.true
 pub returns-then-left-line : goal.returns-then-left-line
 returns-then-left-line c =
     let a = c.args in
-    LL.line_too_long a.count a.rows.now a.columns.now a.values.now c.requires.rows_long c.requires.columns_long c.requires.values_long a.n a.room c.loop-i.i c.loop-i.left c.loop-i-test.true c.loop-i.invariant.1 (omega (arith, c.if-left-line.true, c.line_length-line.ensures))
+    LL.line_too_long a.count a.rows.now a.columns.now a.values.now c.requires.rows_long c.requires.columns_long c.requires.values_long a.n a.room c.loop-i.i c.loop-i.left c.loop-i-test.true c.loop-i.invariant (omega (arith, c.if-left-line.true, c.line_length-line.ensures))
 
 pub loop-i-preserved : goal.loop-i-preserved
 loop-i-preserved c =
     let a = c.args in
     let l = LL.left_long a.count a.rows.now a.columns.now a.values.now c.requires.rows_long c.requires.columns_long c.requires.values_long c.loop-i.i c.loop-i-test.true in
-    (omega (arith, c.loop-i-test.true), omega (arith, l, c.loop-i.invariant.1, c.if-left-line.false, c.line_length-line.ensures))
+    omega (arith, l, c.loop-i.invariant, c.if-left-line.false, c.line_length-line.ensures)
 
 pub returns : goal.returns
 returns c =
     let a = c.args in
-    LL.all_fit a.count a.rows.now a.columns.now a.values.now c.requires.rows_long c.requires.columns_long c.requires.values_long a.n a.room c.loop-i.i c.loop-i.left c.loop-i-test.false c.loop-i.invariant.1
+    LL.all_fit a.count a.rows.now a.columns.now a.values.now c.requires.rows_long c.requires.columns_long c.requires.values_long a.n a.room c.loop-i.i c.loop-i.left c.loop-i-test.false c.loop-i.invariant

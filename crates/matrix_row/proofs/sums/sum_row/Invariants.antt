@@ -1,13 +1,9 @@
 -- SPDX-FileCopyrightText: 2026 The PPVM Authors
 -- SPDX-License-Identifier: Apache-2.0
 
--- What lasts over the loop of `sums::sum_row`, and what falls.
-use Rattle.std.proofs.Common.{◌-◌, length}
+-- What lasts over the loop of `sums::sum_row`.
 use Rattle.matrix_row.proofs.SumLaws.{Passing}
 use Rattle.matrix_row.proofs.sums.sum_row.Given as goal
 
 abbrev pub invariant-loop-k : goal.invariant-loop-k
 invariant-loop-k l = Passing l.input l.columns l.values l.sum l.least l.k
-
-abbrev pub decreases-loop-k : goal.decreases-loop-k
-decreases-loop-k l = length l.columns - l.k

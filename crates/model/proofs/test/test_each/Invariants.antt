@@ -1,14 +1,10 @@
 -- SPDX-FileCopyrightText: 2026 The PPVM Authors
 -- SPDX-License-Identifier: Apache-2.0
 
--- What lasts over the loop of `test::test_each`, and what falls.
-use Prim.Native.Nat.{◌-◌, ◌≤◌}
+-- What lasts over the loop of `test::test_each`.
 use Rattle.model.specs.Between.{term_fails}
 use Rattle.lent.proofs.Firsts.{NoneBefore}
 use Rattle.model.proofs.test.test_each.Given as goal
 
 abbrev pub invariant-loop-i : goal.invariant-loop-i
-invariant-loop-i l = (l.i ≤ l.terms) × NoneBefore (term_fails l.n l.words l.numbers) l.i
-
-abbrev pub decreases-loop-i : goal.decreases-loop-i
-decreases-loop-i l = l.terms - l.i
+invariant-loop-i l = NoneBefore (term_fails l.n l.words l.numbers) l.i

@@ -3,8 +3,8 @@
 
 -- `test::test_model` meets its contract: each test refuses, or leaves those after it. Assumes nothing.
 use mathlib.Core.Path.{◌≡◌, ◌∙◌}
-use Rattle.refusal.specs.declared.Answer.{Answer}
-use Rattle.refusal.specs.declared.Answer.TheVariants.{Accepted}
+use Rattle.std.specs.Prelude.{Ok}
+use Rattle.refusal.specs.Cause.{Answer}
 use Rattle.model.specs.Stored.{ModelTables}
 use Rattle.model.specs.Tested.{bad_real, bad_entry, bad_term, test_model}
 use Rattle.model.specs.declared.stored.Model.{Model}
@@ -114,7 +114,7 @@ left_10 c = entries_passed _ _ _ (first_real (goal.at.Else-real-m c).After-test_
 left_11 : (c : Else-entry-m) → Leaves terms_on (start-11 c)
 left_11 c = entries_passed _ _ _ (first_entry (goal.at.Else-entry-m c).After-test_jumps-entry) c.if-entry-m.false ∙ left_10 (goal.at.Else-entry-m c).Else-real-m
 
-left_12 : (c : Else-term-m) → Leaves (λ m t. Accepted) (start-12 c)
+left_12 : (c : Else-term-m) → Leaves (λ m t. (Ok tt)) (start-12 c)
 left_12 c = entries_passed _ _ _ (first_term (goal.at.Else-term-m c).After-test_terms-term) c.if-term-m.false ∙ left_11 (goal.at.Else-term-m c).Else-entry-m
 
 pub returns-then-m-gt-MAX_QUBITS : goal.returns-then-m-gt-MAX_QUBITS

@@ -8,24 +8,21 @@ use Rattle.model.proofs.GivenTerms.{from_more, range_found, range_passed}
 use native.Mathlib.Omega.{arith}
 use Rattle.model.proofs.test.test_range.Goals as goal
 
-pub loop-i-init : goal.loop-i-init
-loop-i-init c = (omega arith, λ k p q. absurd (omega arith))
-
 pub returns-then-bad_given : goal.returns-then-bad_given
 returns-then-bad_given c =
     let a = c.args in
     let l = c.loop-i in
-    range_found a.numbers.now a.terms a.r l.i l.invariant.1 _ c.smaller-end.ensures l.invariant.0 (omega arith)
+    range_found a.numbers.now a.terms a.r l.i l.invariant _ c.smaller-end.ensures (omega arith) (omega arith)
     (sym (number_at a.numbers.now l.i c.bad_given.ensures) ∙ c.if-bad_given.true)
 
 pub loop-i-preserved : goal.loop-i-preserved
 loop-i-preserved c =
     let a = c.args in
     let l = c.loop-i in
-    (omega arith, from_more a.numbers.now a.r.start l.i l.invariant.1 (sym (number_at a.numbers.now l.i c.bad_given.ensures) ∙ c.if-bad_given.false))
+    from_more a.numbers.now a.r.start l.i l.invariant (sym (number_at a.numbers.now l.i c.bad_given.ensures) ∙ c.if-bad_given.false)
 
 pub returns : goal.returns
 returns c =
     let a = c.args in
     let l = c.loop-i in
-    range_passed a.numbers.now a.terms a.r l.i l.invariant.1 _ c.smaller-end.ensures (omega arith)
+    range_passed a.numbers.now a.terms a.r l.i l.invariant _ c.smaller-end.ensures (omega arith)

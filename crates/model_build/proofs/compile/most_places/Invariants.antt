@@ -1,15 +1,12 @@
 -- SPDX-FileCopyrightText: 2026 The PPVM Authors
 -- SPDX-License-Identifier: Apache-2.0
 
--- What lasts over the loop of `compile::most_places`, and what falls.
+-- What lasts over the loop of `compile::most_places`.
 use mathlib.Core.Path.{◌≡◌}
-use Prim.Native.Nat.{◌+◌, ◌-◌, ◌*◌, ◌≤◌}
-use lib.ListN.{length, drop}
+use Prim.Native.Nat.{◌+◌, ◌*◌, ◌≤◌}
+use lib.ListN.{drop}
 use Rattle.model_build.specs.Work.{places_for}
 use Rattle.model_build.proofs.compile.most_places.Given as goal
 
-abbrev pub invariant-loop-j : goal.invariant-loop-j
-invariant-loop-j l = (l.j ≤ length l.counts) × (l.most ≤ 272 * l.j) × (l.most + places_for (drop l.j l.counts) ≡ places_for l.counts)
-
-abbrev pub decreases-loop-j : goal.decreases-loop-j
-decreases-loop-j l = length l.counts - l.j
+abbrev pub invariant-loop-count : goal.invariant-loop-count
+invariant-loop-count l = (l.most ≤ 272 * l.count-index) × (l.most + places_for (drop l.count-index l.counts) ≡ places_for l.counts)

@@ -2,25 +2,9 @@
 -- SPDX-License-Identifier: Apache-2.0
 
 -- `compile::store_jumps` meets its contract: laying the jumps that are left into the tables makes up the wanted tables. Assumes nothing.
-use Rattle.model_build.proofs.JumpsLaws.{store_jumps_start, store_jumps_work, store_jumps_room, store_jumps_next, store_jumps_done, own_terms, own_numbers, own_texts, own_fits, own_reads}
+use Rattle.model_build.proofs.JumpsLaws.{store_jumps_work, store_jumps_room, store_jumps_next, store_jumps_done, own_terms, own_texts, own_fits, own_reads}
 use native.Mathlib.Omega.{arith}
 use Rattle.model_build.proofs.compile.store_jumps.Goals as goal
-
-pub loop-j-init : goal.loop-j-init
-loop-j-init c =
-    let a = c.args in
-    let pre = c.requires in
-    let s = store_jumps_start a.n_qubits a.counts.now a.lengths.now a.texts.now a.numbers.now a.given.now a.words.now a.sums.now a.jumps.now a.rates.now a.t_words.now a.t_numbers.now pre.0 pre.1 pre.2 pre.3 in
-    (s.stands.high, s.stands.terms_left, s.stands.texts_left, s)
-
-pub overflow_add-own : goal.overflow_add-own
-overflow_add-own c =
-    let a = c.args in
-    let l = c.loop-j in
-    let pre = c.requires in
-    let h = c.loop-j-test.true in
-    let s = l.invariant.3 in
-    omega (arith, own_terms a.counts.now a.lengths.now a.texts.now a.numbers.now pre.0 l.j l.t l.at s.stands h)
 
 pub slice_bounds-own-end : goal.slice_bounds-own-end
 slice_bounds-own-end c =
@@ -28,35 +12,8 @@ slice_bounds-own-end c =
     let l = c.loop-j in
     let pre = c.requires in
     let h = c.loop-j-test.true in
-    let s = l.invariant.3 in
+    let s = l.invariant in
     omega (arith, own_terms a.counts.now a.lengths.now a.texts.now a.numbers.now pre.0 l.j l.t l.at s.stands h)
-
-pub overflow_mul-k : goal.overflow_mul-k
-overflow_mul-k c =
-    let a = c.args in
-    let l = c.loop-j in
-    let pre = c.requires in
-    let h = c.loop-j-test.true in
-    let s = l.invariant.3 in
-    omega (arith, own_numbers a.counts.now a.lengths.now a.texts.now a.numbers.now pre.0 l.j l.t l.at s.stands h)
-
-pub overflow_add-t : goal.overflow_add-t
-overflow_add-t c =
-    let a = c.args in
-    let l = c.loop-j in
-    let pre = c.requires in
-    let h = c.loop-j-test.true in
-    let s = l.invariant.3 in
-    omega (arith, own_numbers a.counts.now a.lengths.now a.texts.now a.numbers.now pre.0 l.j l.t l.at s.stands h)
-
-pub slice_bounds-read_operator-end-in-loop-j : goal.slice_bounds-read_operator-end-in-loop-j
-slice_bounds-read_operator-end-in-loop-j c =
-    let a = c.args in
-    let l = c.loop-j in
-    let pre = c.requires in
-    let h = c.loop-j-test.true in
-    let s = l.invariant.3 in
-    omega (arith, own_numbers a.counts.now a.lengths.now a.texts.now a.numbers.now pre.0 l.j l.t l.at s.stands h)
 
 pub read_operator-requires : goal.read_operator-requires
 read_operator-requires c =
@@ -64,16 +21,8 @@ read_operator-requires c =
     let l = c.loop-j in
     let pre = c.requires in
     let h = c.loop-j-test.true in
-    let s = l.invariant.3 in
+    let s = l.invariant in
     (own_fits a.counts.now a.lengths.now a.texts.now a.numbers.now pre.0 l.j l.t l.at s.stands h, own_reads a.counts.now a.lengths.now a.texts.now a.numbers.now pre.0 l.j l.t l.at s.stands h l.words l.sums s.work)
-
-pub bounds-given-j : goal.bounds-given-j
-bounds-given-j c =
-    let l = c.loop-j in
-    let pre = c.requires in
-    let h = c.loop-j-test.true in
-    let s = l.invariant.3 in
-    omega (arith, h, pre.1)
 
 pub store_operator-place-requires : goal.store_operator-place-requires
 store_operator-place-requires c =
@@ -81,7 +30,7 @@ store_operator-place-requires c =
     let l = c.loop-j in
     let pre = c.requires in
     let h = c.loop-j-test.true in
-    let s = l.invariant.3 in
+    let s = l.invariant in
     let r = c.read_operator in
     (store_jumps_work a.n_qubits a.counts.now a.lengths.now a.texts.now a.numbers.now a.given.now a.words.now a.sums.now a.jumps.now a.rates.now a.t_words.now a.t_numbers.now pre.0 pre.1 pre.2 pre.3 l.words l.sums l.jumps l.rates l.t_words l.t_numbers l.place l.at l.t l.j s h _ _ r.ensures r.auto.words r.auto.sums, store_jumps_room a.n_qubits a.counts.now a.lengths.now a.texts.now a.numbers.now a.given.now a.words.now a.sums.now a.jumps.now a.rates.now a.t_words.now a.t_numbers.now pre.0 pre.1 pre.2 pre.3 l.words l.sums l.jumps l.rates l.t_words l.t_numbers l.place l.at l.t l.j s h _ _ r.ensures r.auto.words r.auto.sums)
 
@@ -91,7 +40,7 @@ sum_of-at-requires c =
     let l = c.loop-j in
     let pre = c.requires in
     let h = c.loop-j-test.true in
-    let s = l.invariant.3 in
+    let s = l.invariant in
     omega (arith, own_texts a.counts.now a.lengths.now a.texts.now a.numbers.now pre.0 l.j l.t l.at s.stands h, c.well_formed.0.0)
 
 pub overflow_add-at : goal.overflow_add-at
@@ -100,23 +49,8 @@ overflow_add-at c =
     let l = c.loop-j in
     let pre = c.requires in
     let h = c.loop-j-test.true in
-    let s = l.invariant.3 in
+    let s = l.invariant in
     omega (arith, c.sum_of-at.ensures, own_texts a.counts.now a.lengths.now a.texts.now a.numbers.now pre.0 l.j l.t l.at s.stands h, c.well_formed.0.0)
-
-pub overflow_add-t-in-loop-j : goal.overflow_add-t-in-loop-j
-overflow_add-t-in-loop-j c =
-    let a = c.args in
-    let l = c.loop-j in
-    let pre = c.requires in
-    let h = c.loop-j-test.true in
-    let s = l.invariant.3 in
-    omega (arith, own_terms a.counts.now a.lengths.now a.texts.now a.numbers.now pre.0 l.j l.t l.at s.stands h, c.well_formed.1.0.0)
-
-pub overflow_add-j : goal.overflow_add-j
-overflow_add-j c = omega (arith, c.loop-j-test.true, c.requires.0.many)
-
-pub loop-j-smaller : goal.loop-j-smaller
-loop-j-smaller c = omega (arith, c.loop-j-test.true)
 
 pub loop-j-preserved : goal.loop-j-preserved
 loop-j-preserved c =
@@ -124,15 +58,14 @@ loop-j-preserved c =
     let l = c.loop-j in
     let pre = c.requires in
     let h = c.loop-j-test.true in
-    let s = l.invariant.3 in
+    let s = l.invariant in
     let r = c.read_operator in
     let k = c.store_operator-place in
-    let n = store_jumps_next a.n_qubits a.counts.now a.lengths.now a.texts.now a.numbers.now a.given.now a.words.now a.sums.now a.jumps.now a.rates.now a.t_words.now a.t_numbers.now pre.0 pre.1 pre.2 pre.3 l.words l.sums l.jumps l.rates l.t_words l.t_numbers l.place l.at l.t l.j s h _ _ r.ensures r.auto.words r.auto.sums _ _ k.auto.words k.auto.sums k.result _ _ _ _ k.ensures k.auto.jumps k.auto.rates k.auto.t_words k.auto.t_numbers c.sum_of-at.result c.sum_of-at.ensures in
-    (n.stands.high, n.stands.terms_left, n.stands.texts_left, n)
+    store_jumps_next a.n_qubits a.counts.now a.lengths.now a.texts.now a.numbers.now a.given.now a.words.now a.sums.now a.jumps.now a.rates.now a.t_words.now a.t_numbers.now pre.0 pre.1 pre.2 pre.3 l.words l.sums l.jumps l.rates l.t_words l.t_numbers l.place l.at l.t l.j s h _ _ r.ensures r.auto.words r.auto.sums _ _ k.auto.words k.auto.sums k.result _ _ _ _ k.ensures k.auto.jumps k.auto.rates k.auto.t_words k.auto.t_numbers c.sum_of-at.result c.sum_of-at.ensures
 
 pub returns : goal.returns
 returns c =
     let a = c.args in
     let pre = c.requires in
     let l = c.loop-j in
-    store_jumps_done a.n_qubits a.counts.now a.lengths.now a.texts.now a.numbers.now a.given.now a.words.now a.sums.now a.jumps.now a.rates.now a.t_words.now a.t_numbers.now pre.0 pre.1 pre.2 pre.3 l.words l.sums l.jumps l.rates l.t_words l.t_numbers l.place l.at l.t l.j l.invariant.3 c.loop-j-test.false
+    store_jumps_done a.n_qubits a.counts.now a.lengths.now a.texts.now a.numbers.now a.given.now a.words.now a.sums.now a.jumps.now a.rates.now a.t_words.now a.t_numbers.now pre.0 pre.1 pre.2 pre.3 l.words l.sums l.jumps l.rates l.t_words l.t_numbers l.place l.at l.t l.j l.invariant c.loop-j-test.false

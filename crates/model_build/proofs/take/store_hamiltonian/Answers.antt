@@ -3,14 +3,9 @@
 
 -- `take::store_hamiltonian` meets its contract: laying the items that are left leaves what laying all leaves. Assumes nothing.
 use Rattle.model_build.proofs.Parts.{total_turn}
-use Rattle.model_build.proofs.TakenLaws.{lay_start, lay_next, lay_done}
+use Rattle.model_build.proofs.TakenLaws.{lay_next, lay_done}
 use native.Mathlib.Omega.{arith}
 use Rattle.model_build.proofs.take.store_hamiltonian.Goals as goal
-
-pub loop-i-init : goal.loop-i-init
-loop-i-init c =
-    let a = c.args in
-    lay_start a.n_qubits a.lengths.now a.texts.now a.numbers.now a.h_words.now a.h_coeffs.now c.requires
 
 pub overflow_add-at : goal.overflow_add-at
 overflow_add-at c =
@@ -18,23 +13,6 @@ overflow_add-at c =
 
 pub slice_bounds-take_word-end : goal.slice_bounds-take_word-end
 slice_bounds-take_word-end c =
-    omega (arith, c.loop-i.invariant.texts_left, total_turn c.args.lengths.now c.loop-i.i c.loop-i-test.true)
-
-pub take_word-w-requires : goal.take_word-w-requires
-take_word-w-requires c = tt
-
-pub set_word-requires : goal.set_word-requires
-set_word-requires c =
-    omega (arith, c.loop-i-test.true, c.loop-i.invariant.lanes_same, c.requires.lanes_room)
-
-pub bounds-numbers-i : goal.bounds-numbers-i
-bounds-numbers-i c = omega (arith, c.loop-i-test.true, c.requires.numbers_each)
-
-pub bounds-h_coeffs-i : goal.bounds-h_coeffs-i
-bounds-h_coeffs-i c = omega (arith, c.loop-i-test.true, c.loop-i.invariant.coeffs_same, c.requires.coeffs_room)
-
-pub overflow_add-at-in-loop-i : goal.overflow_add-at-in-loop-i
-overflow_add-at-in-loop-i c =
     omega (arith, c.loop-i.invariant.texts_left, total_turn c.args.lengths.now c.loop-i.i c.loop-i-test.true)
 
 pub loop-i-preserved : goal.loop-i-preserved

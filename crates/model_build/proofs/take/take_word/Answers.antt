@@ -6,17 +6,8 @@ use mathlib.Core.Path.{◌∙◌, sym, ap}
 use Rattle.model_build.specs.Taken.{word_in}
 use Rattle.model_build.proofs.take.take_word.Goals as goal
 
-pub parse_pauli_string-parsed-requires : goal.parse_pauli_string-parsed-requires
-parse_pauli_string-parsed-requires c = tt
-
-pub identity_word-requires : goal.identity_word-requires
-identity_word-requires c = tt
-
 pub returns-in_default : goal.returns-in_default
-returns-in_default c = c.identity_word.ensures ∙ sym (ap word_in (sym c.parse_pauli_string-parsed.ensures ∙ c.in_default.is))
-
-pub unpacked-requires : goal.unpacked-requires
-unpacked-requires c = tt
+returns-in_default c = c.identity_word.ensures ∙ sym (ap word_in (sym c.parse_pauli_string.ensures ∙ c.in_default.is))
 
 pub returns : goal.returns
-returns c = c.unpacked.ensures ∙ sym (ap word_in (sym c.parse_pauli_string-parsed.ensures ∙ c.in-Parsed.is))
+returns c = sym (ap word_in (sym c.parse_pauli_string.ensures ∙ c.in-Ok.is))

@@ -7,11 +7,11 @@ use mathlib.Core.Bool.{not}
 use Rattle.norm.proofs.CheckLaws.{step_bad, threshold_bad, finite_both}
 use Rattle.norm.proofs.check.check_finite.Goals as goal
 
-pub returns-then-not-step : goal.returns-then-not-step
-returns-then-not-step c = let a = c.args in step_bad a.dt a.drop_tol _ c.is_finite-step.ensures (ap not c.if-not-step.true)
+pub returns-then-not-is_finite : goal.returns-then-not-is_finite
+returns-then-not-is_finite c = let a = c.args in step_bad a.dt a.drop_tol _ c.is_finite.ensures (ap not c.if-not-is_finite.true)
 
-pub returns-then-not-threshold : goal.returns-then-not-threshold
-returns-then-not-threshold c = let a = c.args in threshold_bad a.dt a.drop_tol _ c.is_finite-step.ensures (ap not c.if-not-step.false) _ c.is_finite-threshold.ensures (ap not c.if-not-threshold.true)
+pub returns-then-not-is_finite-2 : goal.returns-then-not-is_finite-2
+returns-then-not-is_finite-2 c = let a = c.args in threshold_bad a.dt a.drop_tol _ c.is_finite.ensures (ap not c.if-not-is_finite.false) _ c.is_finite-2.ensures (ap not c.if-not-is_finite-2.true)
 
 pub returns : goal.returns
-returns c = let a = c.args in finite_both a.dt a.drop_tol _ c.is_finite-step.ensures (ap not c.if-not-step.false) _ c.is_finite-threshold.ensures (ap not c.if-not-threshold.false)
+returns c = let a = c.args in finite_both a.dt a.drop_tol _ c.is_finite.ensures (ap not c.if-not-is_finite.false) _ c.is_finite-2.ensures (ap not c.if-not-is_finite-2.false)

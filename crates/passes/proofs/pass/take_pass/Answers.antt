@@ -6,8 +6,6 @@ use mathlib.Core.Path.{refl, ◌∙◌}
 use Prim.Native.Nat.{ℕ, ◌≤◌, ◌<◌}
 use native.Mathlib.Omega.{arith}
 use lib.ListN.{length, get_or}
-use mir.Val.{Fits}
-use mir.Syntax.{w64}
 use Rattle.word.specs.Flat.{words as words_in}
 use Rattle.candidates.specs.Tables.{Rows}
 use Rattle.order.proofs.Members.{all_at}
@@ -15,8 +13,7 @@ use Rattle.model.specs.Stored.{ModelTables}
 use Rattle.action.proofs.ActLaws.{empty_room, sums_full, sums_held, listed_are, sums_inside}
 use Rattle.lent.proofs.WordLaws.{word_inside}
 use Rattle.passes.specs.Leaks.{touched_at, leaks_at}
-use Rattle.passes.proofs.PassLaws.{passing_first, passing_end, passing_full, passing_stopped, passing_next, leaks_are}
-use borrow.Author.Rules.{rules}
+use Rattle.passes.proofs.PassLaws.{passing_end, passing_full, passing_stopped, passing_next, leaks_are}
 use Rattle.model.specs.Between.{model_tables}
 use Rattle.passes.proofs.pass.take_pass.Goals as goal
 use Rattle.passes.proofs.pass.take_pass.Goals.{After-put_terms-put, At-loop-i, In-loop-i, Start}
@@ -45,20 +42,7 @@ fits c =
     let a = c.args in
     let l = c.loop-i in
     let w = c.word_at-w in
-    rw w.ensures at (sums_held a.m (stored s) w.result a.sum_room l.work_words l.work_sums _ _ _ c.put_rules_near-added.ensures _ c.in-Held.is).1
-
--- ---- the needs
-pub loop-i-init : goal.loop-i-init
-loop-i-init c =
-    let s = (goal.at.loop-i-init c).Start in
-    let a = c.args in
-    (passing_first (touches s) (leaks s) a.sum_room a.room a.positions.now a.n a.words.now a.sums.now a.order.now a.work.now c.requires.standing, refl, refl, refl, refl, refl, refl, refl)
-
-pub offset_bounds-positions-i : goal.offset_bounds-positions-i
-offset_bounds-positions-i c = omega (arith, c.well_formed.1.1.1.1.1.1.1.1.1.1.1.1.1.1.1.1.1.1.0, c.loop-i-test.true)
-
-pub bounds-positions-i : goal.bounds-positions-i
-bounds-positions-i c = c.loop-i-test.true
+    rw w.ensures at (sums_held a.m (stored s) w.result a.sum_room l.work_words l.work_sums _ _ _ c.put_rules_near-added.ensures _ c.in-Some.is).1
 
 pub word_at-w-requires : goal.word_at-w-requires
 word_at-w-requires c = omega (arith, in_coeffs (goal.at.word_at-w-requires c).In-loop-i, c.requires.basis_ready.0.each)
@@ -100,7 +84,7 @@ put_terms-put-requires c =
     let a = c.args in
     let l = c.loop-i in
     let q = c.put_rules_near-added in
-    let k = sums_inside a.m (stored s) c.word_at-w.result a.sum_room l.work_words l.work_sums _ _ _ q.ensures _ c.in-Held.is q.auto.lanes q.auto.sums (omega (arith, c.requires.action_room.work_words, l.invariant.2)) (omega (arith, c.requires.action_room.work_sums, l.invariant.3)) in
+    let k = sums_inside a.m (stored s) c.word_at-w.result a.sum_room l.work_words l.work_sums _ _ _ q.ensures _ c.in-Some.is q.auto.lanes q.auto.sums (omega (arith, c.requires.action_room.work_words, l.invariant.2)) (omega (arith, c.requires.action_room.work_sums, l.invariant.3)) in
     (k.0, k.1, c.requires.basis_ready.0.slots, l.invariant.0.stands)
 
 pub returns-in_default-put : goal.returns-in_default-put
@@ -111,17 +95,9 @@ returns-in_default-put c =
     let w = c.word_at-w in
     let g = c.put_terms-put in
     let p : ℕ = get_or a.positions.now l.i 0 in
-    let listed = listed_are a.m (stored s) w.result a.sum_room l.work_words l.work_sums _ _ _ c.put_rules_near-added.ensures _ c.in-Held.is in
+    let listed = listed_are a.m (stored s) w.result a.sum_room l.work_words l.work_sums _ _ _ c.put_rules_near-added.ensures _ c.in-Some.is in
     passing_full (touches s) (leaks s) a.sum_room a.room a.positions.now _ l.i l.held l.words l.sums l.order l.work l.invariant.0 c.loop-i-test.true p refl (fits (goal.at.returns-in_default-put c).After-put_terms-put) _ _ _ _ g.result
     (rw (leaks_are a.m (stored s) (words_in a.basis.now) a.coeffs.now (words_in a.protected.now) p w.result _ w.ensures listed) at g.ensures) c.in_default-put.is
-
-pub overflow_add-i : goal.overflow_add-i
-overflow_add-i c =
-    let f : Fits w64 (length c.args.positions.now) = search (c.well_formed.1.1.1.1.1.1.1.1.1.1.1.1.1.1.1.1.1.1.0, rules) in
-    search (f, c.loop-i-test.true, rules)
-
-pub loop-i-smaller : goal.loop-i-smaller
-loop-i-smaller c = omega (arith, c.loop-i-test.true)
 
 pub loop-i-preserved : goal.loop-i-preserved
 loop-i-preserved c =
@@ -132,9 +108,9 @@ loop-i-preserved c =
     let w = c.word_at-w in
     let g = c.put_terms-put in
     let p : ℕ = get_or a.positions.now l.i 0 in
-    let listed = listed_are a.m (stored s) w.result a.sum_room l.work_words l.work_sums _ _ _ q.ensures _ c.in-Held.is in (
+    let listed = listed_are a.m (stored s) w.result a.sum_room l.work_words l.work_sums _ _ _ q.ensures _ c.in-Some.is in (
       passing_next (touches s) (leaks s) a.sum_room a.room a.positions.now _ l.i l.held l.words l.sums l.order l.work l.invariant.0 c.loop-i-test.true p refl (fits (goal.at.loop-i-preserved c).After-put_terms-put) _ _ _ _ g.result
-          (rw (leaks_are a.m (stored s) (words_in a.basis.now) a.coeffs.now (words_in a.protected.now) p w.result _ w.ensures listed) at g.ensures) _ c.in-Held-put.is,
+          (rw (leaks_are a.m (stored s) (words_in a.basis.now) a.coeffs.now (words_in a.protected.now) p w.result _ w.ensures listed) at g.ensures) _ c.in-Some-put.is,
       q.auto.mask ∙ l.invariant.1,
       q.auto.lanes ∙ l.invariant.2,
       q.auto.sums ∙ l.invariant.3,

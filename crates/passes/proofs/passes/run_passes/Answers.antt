@@ -6,11 +6,12 @@ use mathlib.Core.Path.{sym}
 use native.Mathlib.Omega.{arith}
 use lib.ListN.{length}
 use lib.Seq.{length-take-le}
-use Rattle.passes.proofs.PassesLaws.{none_stand, run_refused, run_long, run_asks, run_held}
+use Rattle.refusal.proofs.Told.{handed_on}
+use Rattle.passes.proofs.PassesLaws.{none_stand, run_refused, run_long, run_held}
 use Rattle.passes.proofs.passes.run_passes.Goals as goal
 
-pub take_passes-taken-requires : goal.take_passes-taken-requires
-take_passes-taken-requires c =
+pub take_passes-requires : goal.take_passes-requires
+take_passes-requires c =
     let a = c.args in
     let h = c.requires.candidates_long in
     let z = c.clear_lanes in
@@ -21,68 +22,48 @@ take_passes-taken-requires c =
       standing = none_stand a.candidate_room (length a.order.now) a.words.now a.sums.now _ a.work.now h.0 h.1 z.ensures (omega (arith, h.2, z.auto.t)) h.3;
     }
 
-pub returns-in_default : goal.returns-in_default
-returns-in_default c =
-    let q = c.take_passes-taken in
-    run_refused c.args.candidate_room _ _ _ _ _ q.result q.ensures _ c.in_default.is _
+pub returns-in_err-n : goal.returns-in_err-n
+returns-in_err-n c =
+    let q = c.take_passes in
+    rw (handed_on _ _ c.from_residual.ensures.1) (run_refused c.args.candidate_room _ _ _ _ _ q.result q.ensures _ c.in_err-n.was _)
 
 pub overflow_mul-n : goal.overflow_mul-n
 overflow_mul-n c =
     let a = c.args in
-    let q = c.take_passes-taken in
-    let r = run_long a.candidate_room _ _ _ _ _ q.result q.ensures _ c.in-Held.is in
+    let q = c.take_passes in
+    let r = run_long a.candidate_room _ _ _ _ _ q.result q.ensures _ c.in_ok-n.was in
     omega (arith, r.1, q.auto.words, c.well_formed.1.1.1.1.1.1.1.1.1.1.1.1.1.1.1.1.1.1.1.0)
 
 pub slice_bounds-order_words-end : goal.slice_bounds-order_words-end
 slice_bounds-order_words-end c =
     let a = c.args in
-    let q = c.take_passes-taken in
-    let r = run_long a.candidate_room _ _ _ _ _ q.result q.ensures _ c.in-Held.is in
+    let q = c.take_passes in
+    let r = run_long a.candidate_room _ _ _ _ _ q.result q.ensures _ c.in_ok-n.was in
     omega (arith, r.1)
 
 pub slice_bounds-order_words-end-2 : goal.slice_bounds-order_words-end-2
 slice_bounds-order_words-end-2 c =
     let a = c.args in
-    let q = c.take_passes-taken in
-    let r = run_long a.candidate_room _ _ _ _ _ q.result q.ensures _ c.in-Held.is in
+    let q = c.take_passes in
+    let r = run_long a.candidate_room _ _ _ _ _ q.result q.ensures _ c.in_ok-n.was in
     sym (length-take-le _ q.new.words (omega (arith, r.1)))
 
 pub slice_bounds-order_words-end-3 : goal.slice_bounds-order_words-end-3
 slice_bounds-order_words-end-3 c =
     let a = c.args in
-    let q = c.take_passes-taken in
-    let r = run_long a.candidate_room _ _ _ _ _ q.result q.ensures _ c.in-Held.is in
+    let q = c.take_passes in
+    let r = run_long a.candidate_room _ _ _ _ _ q.result q.ensures _ c.in_ok-n.was in
     r.2
-
-pub slice_bounds-order_words-end-4 : goal.slice_bounds-order_words-end-4
-slice_bounds-order_words-end-4 c =
-    let a = c.args in
-    let q = c.take_passes-taken in
-    let r = run_long a.candidate_room _ _ _ _ _ q.result q.ensures _ c.in-Held.is in
-    sym (length-take-le _ q.new.order r.2)
 
 pub slice_bounds-order_words-end-5 : goal.slice_bounds-order_words-end-5
 slice_bounds-order_words-end-5 c =
     let a = c.args in
-    let q = c.take_passes-taken in
-    let r = run_long a.candidate_room _ _ _ _ _ q.result q.ensures _ c.in-Held.is in
+    let q = c.take_passes in
+    let r = run_long a.candidate_room _ _ _ _ _ q.result q.ensures _ c.in_ok-n.was in
     r.3
-
-pub slice_bounds-order_words-end-6 : goal.slice_bounds-order_words-end-6
-slice_bounds-order_words-end-6 c =
-    let a = c.args in
-    let q = c.take_passes-taken in
-    let r = run_long a.candidate_room _ _ _ _ _ q.result q.ensures _ c.in-Held.is in
-    sym (length-take-le _ q.new.work r.3)
-
-pub order_words-requires : goal.order_words-requires
-order_words-requires c =
-    let a = c.args in
-    let q = c.take_passes-taken in
-    run_asks a.candidate_room _ _ _ _ _ q.result q.ensures _ c.in-Held.is
 
 pub returns : goal.returns
 returns c =
     let a = c.args in
-    let q = c.take_passes-taken in
-    run_held a.candidate_room _ _ _ _ _ q.result q.ensures _ c.in-Held.is c.order_words.new.order _ c.order_words.ensures
+    let q = c.take_passes in
+    run_held a.candidate_room _ _ _ _ _ q.result q.ensures _ c.in_ok-n.was c.order_words.new.order _ c.order_words.ensures

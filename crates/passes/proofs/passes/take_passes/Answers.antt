@@ -6,6 +6,7 @@ use mathlib.Core.Path.{refl, ◌∙◌}
 use Prim.Native.Nat.{ℕ, ◌-◌, ◌<◌}
 use native.Mathlib.Omega.{arith}
 use lib.ListN.{length, drop}
+use Rattle.refusal.proofs.Told.{handed_on}
 use Rattle.word.specs.Flat.{words as words_in}
 use Rattle.order.proofs.Members.{all_take, all_drop}
 use Rattle.candidates.specs.Tables.{Rows}
@@ -13,7 +14,6 @@ use Rattle.model.specs.Stored.{ModelTables}
 use Rattle.model.specs.Between.{model_tables}
 use Rattle.passes.specs.Leaks.{touched_at, leaks_at}
 use Rattle.passes.proofs.PassesLaws.{ready_still, action_room_still, first_rest, pass_refused, end_refused, end_held, passes_end}
-use borrow.Author.Rules.{rules}
 use Rattle.passes.proofs.passes.take_passes.Goals as goal
 use Rattle.passes.proofs.passes.take_passes.Goals.{Start}
 
@@ -33,22 +33,10 @@ loop-from-init c =
     let a = c.args in
     (first_rest (touches s) (leaks s) a.sum_room a.candidate_room a.room a.positions.now a.words.now a.sums.now, c.requires.standing, refl, refl, refl, refl, refl, refl, refl)
 
-pub overflow_add-from : goal.overflow_add-from
-overflow_add-from c = search (c.well_formed.1.1.1.1.1.1.1.1.1.1.1.1.1.1.1.1.1.1.0, c.loop-from-test.true, rules)
-
-pub offset_bounds-positions-from : goal.offset_bounds-positions-from
-offset_bounds-positions-from c = search (c.well_formed.1.1.1.1.1.1.1.1.1.1.1.1.1.1.1.1.1.1.0, c.loop-from-test.true, rules)
-
-pub slice_bounds-take_pass-start : goal.slice_bounds-take_pass-start
-slice_bounds-take_pass-start c = omega (arith, c.smaller-to.ensures, c.loop-from-test.true)
-
-pub slice_bounds-take_pass-end : goal.slice_bounds-take_pass-end
-slice_bounds-take_pass-end c = omega (arith, c.smaller-to.ensures)
-
-pub take_pass-taken-requires : goal.take_pass-taken-requires
-take_pass-taken-requires c =
+pub take_pass-requires : goal.take_pass-requires
+take_pass-requires c =
     let l = c.loop-from in
-    let s = (goal.at.take_pass-taken-requires c).Start in
+    let s = (goal.at.take_pass-requires c).Start in
     let a = c.args in
     let i = l.invariant in
     let w : 0 < length a.positions.now = omega (arith, c.loop-from-test.true) in record {
@@ -58,41 +46,40 @@ take_pass-taken-requires c =
       standing = i.1;
     }
 
-pub returns-in_default : goal.returns-in_default
-returns-in_default c =
+pub returns-in_err-n : goal.returns-in_err-n
+returns-in_err-n c =
     let l = c.loop-from in
-    let s = (goal.at.returns-in_default c).Start in
+    let s = (goal.at.returns-in_err-n c).Start in
     let a = c.args in
-    pass_refused (touches s) (leaks s) a.sum_room a.candidate_room a.room a.positions.now _ l.from _ _ l.invariant.0 c.smaller-to.ensures c.loop-from-test.true _ _ _ _ _ c.take_pass-taken.ensures _ c.in_default.is
+    rw (handed_on _ _ c.from_residual.ensures.1)
+    (pass_refused (touches s) (leaks s) a.sum_room a.candidate_room a.room a.positions.now _ l.from _ _ l.invariant.0 c.smaller-to.ensures c.loop-from-test.true _ _ _ _ _ c.take_pass.ensures _ c.in_err-n.was)
 
-pub end_pass-ended-requires : goal.end_pass-ended-requires
-end_pass-ended-requires c = (c.take_pass-taken.ensures.held _ c.in-Held.is).0
+pub end_pass-requires : goal.end_pass-requires
+end_pass-requires c = (c.take_pass.ensures.held _ c.in_ok-n.was).0
 
-pub returns-in_default-ended : goal.returns-in_default-ended
-returns-in_default-ended c =
+pub returns-in_err-held : goal.returns-in_err-held
+returns-in_err-held c =
     let l = c.loop-from in
-    let s = (goal.at.returns-in_default-ended c).Start in
+    let s = (goal.at.returns-in_err-held c).Start in
     let a = c.args in
-    end_refused (touches s) (leaks s) a.sum_room a.candidate_room a.room a.positions.now _ l.from _ _ l.invariant.0 c.smaller-to.ensures c.loop-from-test.true _ _ _ _ _ c.take_pass-taken.ensures _ c.in-Held.is _ _ _ _ _ c.end_pass-ended.ensures _ c.in_default-ended.is
-
-pub loop-from-smaller : goal.loop-from-smaller
-loop-from-smaller c = omega (arith, c.smaller-to.ensures, c.loop-from-test.true)
+    rw (handed_on _ _ c.from_residual-in_err-held.ensures.1)
+    (end_refused (touches s) (leaks s) a.sum_room a.candidate_room a.room a.positions.now _ l.from _ _ l.invariant.0 c.smaller-to.ensures c.loop-from-test.true _ _ _ _ _ c.take_pass.ensures _ c.in_ok-n.was _ _ _ _ _ c.end_pass.ensures _ c.in_err-held.was)
 
 pub loop-from-preserved : goal.loop-from-preserved
 loop-from-preserved c =
     let l = c.loop-from in
     let s = (goal.at.loop-from-preserved c).Start in
     let a = c.args in
-    let k = end_held (touches s) (leaks s) a.sum_room a.candidate_room a.room a.positions.now _ l.from _ _ l.invariant.0 c.smaller-to.ensures c.loop-from-test.true _ _ _ _ _ c.take_pass-taken.ensures _ c.in-Held.is _ _ _ _ _ c.end_pass-ended.ensures _ c.in-Held-ended.is in (
+    let k = end_held (touches s) (leaks s) a.sum_room a.candidate_room a.room a.positions.now _ l.from _ _ l.invariant.0 c.smaller-to.ensures c.loop-from-test.true _ _ _ _ _ c.take_pass.ensures _ c.in_ok-n.was _ _ _ _ _ c.end_pass.ensures _ c.in_ok-held.was in (
       k.0,
       k.1,
-      c.take_pass-taken.auto.mask ∙ l.invariant.2,
-      c.take_pass-taken.auto.work_words ∙ l.invariant.3,
-      c.take_pass-taken.auto.work_sums ∙ l.invariant.4,
-      c.end_pass-ended.auto.words ∙ c.take_pass-taken.auto.words ∙ l.invariant.5,
-      c.end_pass-ended.auto.sums ∙ c.take_pass-taken.auto.sums ∙ l.invariant.6,
-      c.end_pass-ended.auto.order ∙ c.take_pass-taken.auto.order ∙ l.invariant.7,
-      c.end_pass-ended.auto.work ∙ c.take_pass-taken.auto.work ∙ l.invariant.8,
+      c.take_pass.auto.mask ∙ l.invariant.2,
+      c.take_pass.auto.work_words ∙ l.invariant.3,
+      c.take_pass.auto.work_sums ∙ l.invariant.4,
+      c.end_pass.auto.words ∙ c.take_pass.auto.words ∙ l.invariant.5,
+      c.end_pass.auto.sums ∙ c.take_pass.auto.sums ∙ l.invariant.6,
+      c.end_pass.auto.order ∙ c.take_pass.auto.order ∙ l.invariant.7,
+      c.end_pass.auto.work ∙ c.take_pass.auto.work ∙ l.invariant.8,
     )
 
 pub returns : goal.returns

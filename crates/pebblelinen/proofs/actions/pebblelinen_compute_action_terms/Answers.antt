@@ -6,4 +6,4 @@ use Rattle.pebblelinen.proofs.Exported.{leaves_list}
 use Rattle.pebblelinen.proofs.actions.pebblelinen_compute_action_terms.Goals as goal
 
 pub returns : goal.returns
-returns c = leaves_list _ _ _ c.listed_of.ensures c.compute_action_terms.ensures
+returns c = leaves_list _ _ _ c.from.ensures c.compute_action_terms.ensures

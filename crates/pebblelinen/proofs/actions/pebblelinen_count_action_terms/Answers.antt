@@ -6,4 +6,4 @@ use Rattle.pebblelinen.proofs.Exported.{leaves_count}
 use Rattle.pebblelinen.proofs.actions.pebblelinen_count_action_terms.Goals as goal
 
 pub returns : goal.returns
-returns c = leaves_count _ _ _ c.counted_of.ensures c.count_action_terms.ensures
+returns c = leaves_count _ _ _ c.from.ensures c.count_action_terms.ensures

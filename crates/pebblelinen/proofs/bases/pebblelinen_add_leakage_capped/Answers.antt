@@ -6,4 +6,4 @@ use Rattle.pebblelinen.proofs.Exported.{leaves_admitted}
 use Rattle.pebblelinen.proofs.bases.pebblelinen_add_leakage_capped.Goals as goal
 
 pub returns : goal.returns
-returns c = leaves_admitted _ _ _ c.kept_of.ensures c.add_leakage_capped.ensures
+returns c = leaves_admitted _ _ _ c.from.ensures c.add_leakage_capped.ensures

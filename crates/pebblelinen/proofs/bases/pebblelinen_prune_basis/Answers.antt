@@ -6,4 +6,4 @@ use Rattle.pebblelinen.proofs.Exported.{leaves_basis}
 use Rattle.pebblelinen.proofs.bases.pebblelinen_prune_basis.Goals as goal
 
 pub returns : goal.returns
-returns c = leaves_basis _ _ _ c.kept_of.ensures c.prune_basis.ensures
+returns c = leaves_basis _ _ _ c.from.ensures c.prune_basis.ensures

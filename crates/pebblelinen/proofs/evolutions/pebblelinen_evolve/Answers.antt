@@ -6,4 +6,4 @@ use Rattle.pebblelinen.proofs.Exported.{leaves_evolution}
 use Rattle.pebblelinen.proofs.evolutions.pebblelinen_evolve.Goals as goal
 
 pub returns : goal.returns
-returns c = leaves_evolution _ _ _ c.evolved_of.ensures c.evolve.ensures
+returns c = leaves_evolution _ _ _ c.from.ensures c.evolve.ensures

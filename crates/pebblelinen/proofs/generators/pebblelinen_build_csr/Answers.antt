@@ -6,4 +6,4 @@ use Rattle.pebblelinen.proofs.Exported.{leaves_csr}
 use Rattle.pebblelinen.proofs.generators.pebblelinen_build_csr.Goals as goal
 
 pub returns : goal.returns
-returns c = leaves_csr _ _ _ c.listed_of.ensures c.build_csr.ensures
+returns c = leaves_csr _ _ _ c.from.ensures c.build_csr.ensures

@@ -6,4 +6,4 @@ use Rattle.pebblelinen.proofs.Exported.{leaves_generator}
 use Rattle.pebblelinen.proofs.generators.pebblelinen_generator.Goals as goal
 
 pub returns : goal.returns
-returns c = leaves_generator _ _ _ c.listed_of.ensures c.generator.ensures
+returns c = leaves_generator _ _ _ c.from.ensures c.generator.ensures

@@ -6,4 +6,4 @@ use Rattle.pebblelinen.proofs.Exported.{leaves_leakage}
 use Rattle.pebblelinen.proofs.leakages.pebblelinen_leakage_with_prune.Goals as goal
 
 pub returns : goal.returns
-returns c = leaves_leakage _ _ _ c.listed_of.ensures c.leakage_with_prune.ensures
+returns c = leaves_leakage _ _ _ c.from.ensures c.leakage_with_prune.ensures

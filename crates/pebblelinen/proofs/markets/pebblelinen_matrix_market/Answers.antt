@@ -6,4 +6,4 @@ use Rattle.pebblelinen.proofs.Exported.{leaves_market}
 use Rattle.pebblelinen.proofs.markets.pebblelinen_matrix_market.Goals as goal
 
 pub returns : goal.returns
-returns c = leaves_market _ _ _ c.written_of.ensures c.matrix_market.ensures
+returns c = leaves_market _ _ _ c.from.ensures c.matrix_market.ensures

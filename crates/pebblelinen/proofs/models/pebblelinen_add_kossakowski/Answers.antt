@@ -6,4 +6,4 @@ use Rattle.pebblelinen.proofs.Exported.{leaves}
 use Rattle.pebblelinen.proofs.models.pebblelinen_add_kossakowski.Goals as goal
 
 pub returns : goal.returns
-returns c = leaves _ _ _ c.built_of.ensures c.add_kossakowski.ensures
+returns c = leaves _ _ _ c.from.ensures c.add_kossakowski.ensures

@@ -6,4 +6,4 @@ use Rattle.pebblelinen.proofs.Exported.{leaves}
 use Rattle.pebblelinen.proofs.models.pebblelinen_build_model.Goals as goal
 
 pub returns : goal.returns
-returns c = leaves _ _ _ c.built_of.ensures c.build_model.ensures
+returns c = leaves _ _ _ c.from.ensures c.build_model.ensures

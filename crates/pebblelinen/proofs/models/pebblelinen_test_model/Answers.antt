@@ -7,4 +7,4 @@ use Rattle.refusal.specs.Cause.{answer_status}
 use Rattle.pebblelinen.proofs.models.pebblelinen_test_model.Goals as goal
 
 pub returns : goal.returns
-returns c = c.answer_status.ensures ∙ ap answer_status c.test_model.ensures
+returns c = c.from.ensures ∙ ap answer_status c.test_model.ensures

@@ -6,4 +6,4 @@ use Rattle.pebblelinen.proofs.Exported.{leaves_partition}
 use Rattle.pebblelinen.proofs.norms.pebblelinen_expm_degree.Goals as goal
 
 pub returns : goal.returns
-returns c = leaves_partition _ _ _ c.partition_of.ensures c.expm_degree.ensures
+returns c = leaves_partition _ _ _ c.from.ensures c.expm_degree.ensures

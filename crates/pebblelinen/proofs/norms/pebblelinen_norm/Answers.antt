@@ -6,4 +6,4 @@ use Rattle.pebblelinen.proofs.Exported.{leaves_norm}
 use Rattle.pebblelinen.proofs.norms.pebblelinen_norm.Goals as goal
 
 pub returns : goal.returns
-returns c = leaves_norm _ _ _ c.normed_of.ensures c.norm.ensures
+returns c = leaves_norm _ _ _ c.from.ensures c.norm.ensures

@@ -7,4 +7,4 @@ use Rattle.pebblelinen.specs.Norms.{choice_of}
 use Rattle.pebblelinen.proofs.norms.pebblelinen_select_ms.Goals as goal
 
 pub returns : goal.returns
-returns c = c.choice_of.ensures ∙ ap choice_of c.select_degree.ensures
+returns c = c.from.ensures ∙ ap choice_of c.select_degree.ensures

@@ -7,4 +7,4 @@ use Rattle.pebblelinen.specs.Products.{found_of}
 use Rattle.pebblelinen.proofs.products.pebblelinen_csr_row.Goals as goal
 
 pub returns : goal.returns
-returns c = c.found_of.ensures ∙ ap found_of c.read_row.ensures
+returns c = c.from.ensures ∙ ap found_of c.read_row.ensures

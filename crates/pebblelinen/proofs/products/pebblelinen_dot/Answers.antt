@@ -6,4 +6,4 @@ use Rattle.pebblelinen.proofs.Exported.{leaves_product}
 use Rattle.pebblelinen.proofs.products.pebblelinen_dot.Goals as goal
 
 pub returns : goal.returns
-returns c = leaves_product _ _ _ c.answer_status.ensures c.dot.ensures
+returns c = leaves_product _ _ _ c.from.ensures c.dot.ensures

@@ -7,4 +7,4 @@ use Rattle.refusal.specs.Cause.{answer_status}
 use Rattle.pebblelinen.proofs.words.pebblelinen_codes_from_word.Goals as goal
 
 pub returns : goal.returns
-returns c = record { answers = c.answer_status.ensures ∙ ap answer_status c.codes_from_word.ensures.answers; places = c.codes_from_word.ensures.places }
+returns c = record { answers = c.from.ensures ∙ ap answer_status c.codes_from_word.ensures.answers; places = c.codes_from_word.ensures.places }

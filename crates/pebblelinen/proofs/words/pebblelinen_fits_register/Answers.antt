@@ -10,7 +10,7 @@ use Rattle.pebblelinen.proofs.words.pebblelinen_fits_register.Goals as goal
 
 pub returns-then-n_qubits-gt-MAX_QUBITS : goal.returns-then-n_qubits-gt-MAX_QUBITS
 unfolding fitting_of
-returns-then-n_qubits-gt-MAX_QUBITS c = rw (lt-ltb max_qubits c.args.n_qubits c.if-n_qubits-gt-MAX_QUBITS.true) (λ i. record { status = c.status_of.ensures i; fits = false })
+returns-then-n_qubits-gt-MAX_QUBITS c = rw (lt-ltb max_qubits c.args.n_qubits c.if-n_qubits-gt-MAX_QUBITS.true) (λ i. record { status = c.from.ensures i; fits = false })
 
 pub returns : goal.returns
 unfolding fitting_of

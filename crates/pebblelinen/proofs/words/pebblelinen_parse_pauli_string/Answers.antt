@@ -7,4 +7,4 @@ use Rattle.pebblelinen.specs.Words.{parsed_of}
 use Rattle.pebblelinen.proofs.words.pebblelinen_parse_pauli_string.Goals as goal
 
 pub returns : goal.returns
-returns c = c.parsed_of.ensures ∙ ap parsed_of c.parse_pauli_string.ensures
+returns c = c.from.ensures ∙ ap parsed_of c.parse_pauli_string.ensures

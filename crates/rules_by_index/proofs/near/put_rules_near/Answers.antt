@@ -52,7 +52,7 @@ put_entries_near-requires c =
     let t : ModelTables = model_tables a.h_words.now a.h_coeffs.now a.jumps.now a.rates.now a.t_words.now a.t_numbers.now in
     let k = tested_stands a.m t c.requires.1 in (
       reals_room a.m t a.p a.room a.lanes.now a.sums.now c.requires.0 _ _ _ (near_reals a.m t a.p a.h_index.now a.j_index.now k c.requires.2 c.requires.6 _ _ c.row_lanes-h_row.ensures c.union_rows.ensures (c.put_reals_near-first.ensures t refl refl))
-          _ c.in-Held.is c.put_reals_near-first.auto.lanes c.put_reals_near-first.auto.sums,
+          _ c.in-Some.is c.put_reals_near-first.auto.lanes c.put_reals_near-first.auto.sums,
       k.jumps_room,
       k.rates_room,
       k.t_words_room,
@@ -70,5 +70,5 @@ returns c =
     let t : ModelTables = model_tables a.h_words.now a.h_coeffs.now a.jumps.now a.rates.now a.t_words.now a.t_numbers.now in
     let k = tested_stands a.m t c.requires.1 in
     rest_puts a.m t a.p a.room a.lanes.now a.sums.now c.requires.0 _ _ _ (near_reals a.m t a.p a.h_index.now a.j_index.now k c.requires.2 c.requires.6 _ _ c.row_lanes-h_row.ensures c.union_rows.ensures (c.put_reals_near-first.ensures t refl refl))
-    _ c.in-Held.is c.put_reals_near-first.auto.lanes c.put_reals_near-first.auto.sums
+    _ c.in-Some.is c.put_reals_near-first.auto.lanes c.put_reals_near-first.auto.sums
     _ _ _ (near_entries a.m t a.p a.h_index.now a.j_index.now k c.requires.2 c.requires.6 _ _ c.row_lanes-j_row.ensures c.union_rows-2.ensures (c.put_entries_near.ensures t refl refl))

@@ -3,23 +3,12 @@
 
 -- `general::put_dampen` meets its contract: after each turn what the terms so far add is put. Assumes nothing.
 use mathlib.Core.Path.{ap}
-use lib.ListN.{length}
-use mir.Val.{Fits}
-use mir.Syntax.{w64}
 use Rattle.rule_terms.specs.Adds.{dampen}
-use Rattle.rules_by_scan.proofs.GatherLaws.{gather_start, gather_room, gather_term, gather_next, gather_full, gather_done}
-use borrow.Author.Rules.{rules}
-use native.Mathlib.Omega.{arith}
+use Rattle.rules_by_scan.proofs.GatherLaws.{gather_start, gather_room, gather_next, gather_full}
 use Rattle.rules_by_scan.proofs.general.put_dampen.Goals as goal
 
 pub loop-i-init : goal.loop-i-init
 loop-i-init c = let a = c.args in gather_start (dampen a.p a.rate) a.range a.room a.len a.words.now a.numbers.now a.lanes.now a.sums.now c.requires.0 c.requires.1
-
-pub term_at-c-requires : goal.term_at-c-requires
-term_at-c-requires c =
-    let a = c.args in
-    let l = c.loop-i in
-    gather_term (dampen a.p a.rate) a.range a.room a.len a.words.now a.numbers.now a.lanes.now a.sums.now c.requires.0 c.requires.1 l.lanes l.sums l.count l.i l.invariant c.loop-i-test.true
 
 pub put_dampen_term-added-requires : goal.put_dampen_term-added-requires
 put_dampen_term-added-requires c =
@@ -34,20 +23,9 @@ returns-in_default c =
     gather_full (dampen a.p a.rate) a.range a.room a.len a.words.now a.numbers.now a.lanes.now a.sums.now c.requires.0 c.requires.1 l.lanes l.sums l.count l.i l.invariant c.loop-i-test.true
     _ (ap (dampen a.p a.rate) c.term_at-c.ensures) _ _ c.put_dampen_term-added.result c.put_dampen_term-added.ensures c.in_default.is
 
-pub overflow_add-i : goal.overflow_add-i
-overflow_add-i c =
-    let f : Fits w64 (length c.args.words.now) = search (c.well_formed, rules) in
-    omega (arith, c.requires.1.lanes_long, c.loop-i-test.true, f.fits)
-
 pub loop-i-preserved : goal.loop-i-preserved
 loop-i-preserved c =
     let a = c.args in
     let l = c.loop-i in
     gather_next (dampen a.p a.rate) a.range a.room a.len a.words.now a.numbers.now a.lanes.now a.sums.now c.requires.0 c.requires.1 l.lanes l.sums l.count l.i l.invariant c.loop-i-test.true
-    _ (ap (dampen a.p a.rate) c.term_at-c.ensures) _ _ c.put_dampen_term-added.result c.put_dampen_term-added.ensures _ c.in-Held.is c.put_dampen_term-added.auto.lanes c.put_dampen_term-added.auto.sums
-
-pub returns : goal.returns
-returns c =
-    let a = c.args in
-    let l = c.loop-i in
-    gather_done (dampen a.p a.rate) a.range a.room a.len a.words.now a.numbers.now a.lanes.now a.sums.now c.requires.0 c.requires.1 l.lanes l.sums l.count l.i l.invariant c.loop-i-test.false
+    _ (ap (dampen a.p a.rate) c.term_at-c.ensures) _ _ c.put_dampen_term-added.result c.put_dampen_term-added.ensures _ c.in-Some.is c.put_dampen_term-added.auto.lanes c.put_dampen_term-added.auto.sums

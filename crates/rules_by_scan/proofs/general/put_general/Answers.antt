@@ -37,7 +37,7 @@ put_dampen-requires c =
     let a = c.args in
     let A : List Term = pairs_over floats pauli (sandwich a.p a.rate) (terms_of a.words.now a.numbers.now a.terms) (terms_of a.words.now a.numbers.now a.terms) in
     let s = c.put_sandwiches-added in
-    (puts_room a.room a.len a.lanes.now a.sums.now c.requires.0 _ _ A _ _ s.ensures c.in-Held.is s.auto.lanes s.auto.sums, c.requires.2)
+    (puts_room a.room a.len a.lanes.now a.sums.now c.requires.0 _ _ A _ _ s.ensures c.in-Some.is s.auto.lanes s.auto.sums, c.requires.2)
 
 pub returns : goal.returns
 returns c = λ t ew en.
@@ -45,4 +45,4 @@ returns c = λ t ew en.
     let A : List Term = pairs_over floats pauli (sandwich a.p a.rate) (terms_of a.words.now a.numbers.now a.terms) (terms_of a.words.now a.numbers.now a.terms) in
     let B : List Term = gather_over floats pauli (dampen a.p a.rate) (terms_of a.words.now a.numbers.now a.product) in
     puts_same a.room a.len a.lanes.now a.sums.now c.requires.0 _ _ (A ++ B) _ _ (sym (general_all a.p t a.rate a.terms a.product a.words.now a.numbers.now ew en (sym (c.overlaps.ensures a.numbers.now c.requires.1.numbers_long) ∙ c.if-not-overlaps.false)))
-    (puts_more a.room a.len a.lanes.now a.sums.now c.requires.0 _ _ A B _ _ c.put_sandwiches-added.ensures c.in-Held.is _ _ _ c.put_dampen.ensures)
+    (puts_more a.room a.len a.lanes.now a.sums.now c.requires.0 _ _ A B _ _ c.put_sandwiches-added.ensures c.in-Some.is _ _ _ c.put_dampen.ensures)

@@ -4,32 +4,19 @@
 -- `general::put_sandwich_row` meets its contract: after each turn the sandwiches so far are put. Assumes nothing.
 use mathlib.Core.Path.{ap}
 use mathlib.Core.List.{◌∷◌, []}
-use lib.ListN.{length}
-use mir.Val.{Fits}
-use mir.Syntax.{w64}
 use Rattle.word.specs.declared.algebra.Phased.{Phased}
 use Rattle.word.proofs.WordLaws.{phase_lt}
 use Rattle.model.specs.Terms.{terms_of}
 use Rattle.rule_terms.specs.Steps.{sandwich_from}
 use Rattle.rule_terms.proofs.PutsLaws.{puts_one, puts_same}
-use Rattle.rules_by_scan.proofs.GatherLaws.{gather_start, gather_room, gather_term, gather_next, gather_full, gather_done, single_term}
+use Rattle.rules_by_scan.proofs.GatherLaws.{gather_start, gather_room, gather_next, gather_full, gather_done, single_term}
 use Rattle.rules_by_scan.proofs.GeneralLaws.{sandwich_row}
-use borrow.Author.Rules.{rules}
 use native.Mathlib.Omega.{arith}
 use Rattle.model.specs.Between.{onto}
 use Rattle.rules_by_scan.proofs.general.put_sandwich_row.Goals as goal
 
-pub pauli_mul-left-requires : goal.pauli_mul-left-requires
-pauli_mul-left-requires c = tt
-
 pub loop-j-init : goal.loop-j-init
 loop-j-init c = let a = c.args in gather_start (λ b. sandwich_from c.pauli_mul-left.result a.rate (onto a.a) b ∷ []) a.range a.room a.len a.words.now a.numbers.now a.lanes.now a.sums.now c.requires.0 c.requires.1
-
-pub term_at-b-requires : goal.term_at-b-requires
-term_at-b-requires c =
-    let a = c.args in
-    let l = c.loop-j in
-    gather_term (λ b. sandwich_from c.pauli_mul-left.result a.rate (onto a.a) b ∷ []) a.range a.room a.len a.words.now a.numbers.now a.lanes.now a.sums.now c.requires.0 c.requires.1 l.lanes l.sums l.count l.j l.invariant c.loop-j-test.true
 
 pub sandwich_term-t-requires : goal.sandwich_term-t-requires
 sandwich_term-t-requires c =
@@ -53,18 +40,13 @@ returns-in_default c =
     (onto c.sandwich_term-t.result ∷ []) (single_term (sandwich_from c.pauli_mul-left.result a.rate (onto a.a)) _ _ _ c.sandwich_term-t.ensures c.term_at-b.ensures) _ _ c.put_at-added.result
     (puts_one a.room l.count l.lanes l.sums (gather_room (λ b. sandwich_from c.pauli_mul-left.result a.rate (onto a.a) b ∷ []) a.range a.room a.len a.words.now a.numbers.now a.lanes.now a.sums.now c.requires.0 c.requires.1 l.lanes l.sums l.count l.j l.invariant) _ _ (onto c.sandwich_term-t.result) c.put_at-added.result c.put_at-added.ensures) c.in_default.is)
 
-pub overflow_add-j : goal.overflow_add-j
-overflow_add-j c =
-    let f : Fits w64 (length c.args.words.now) = search (c.well_formed, rules) in
-    omega (arith, c.requires.1.lanes_long, c.loop-j-test.true, f.fits)
-
 pub loop-j-preserved : goal.loop-j-preserved
 loop-j-preserved c =
     let a = c.args in
     let l = c.loop-j in
     gather_next (λ b. sandwich_from c.pauli_mul-left.result a.rate (onto a.a) b ∷ []) a.range a.room a.len a.words.now a.numbers.now a.lanes.now a.sums.now c.requires.0 c.requires.1 l.lanes l.sums l.count l.j l.invariant c.loop-j-test.true
     (onto c.sandwich_term-t.result ∷ []) (single_term (sandwich_from c.pauli_mul-left.result a.rate (onto a.a)) _ _ _ c.sandwich_term-t.ensures c.term_at-b.ensures) _ _ c.put_at-added.result
-    (puts_one a.room l.count l.lanes l.sums (gather_room (λ b. sandwich_from c.pauli_mul-left.result a.rate (onto a.a) b ∷ []) a.range a.room a.len a.words.now a.numbers.now a.lanes.now a.sums.now c.requires.0 c.requires.1 l.lanes l.sums l.count l.j l.invariant) _ _ (onto c.sandwich_term-t.result) c.put_at-added.result c.put_at-added.ensures) _ c.in-Held.is c.put_at-added.auto.lanes c.put_at-added.auto.sums
+    (puts_one a.room l.count l.lanes l.sums (gather_room (λ b. sandwich_from c.pauli_mul-left.result a.rate (onto a.a) b ∷ []) a.range a.room a.len a.words.now a.numbers.now a.lanes.now a.sums.now c.requires.0 c.requires.1 l.lanes l.sums l.count l.j l.invariant) _ _ (onto c.sandwich_term-t.result) c.put_at-added.result c.put_at-added.ensures) _ c.in-Some.is c.put_at-added.auto.lanes c.put_at-added.auto.sums
 
 pub returns : goal.returns
 returns c =

@@ -4,25 +4,14 @@
 -- `general::put_sandwiches` meets its contract: after each turn the rows so far are put. Assumes nothing.
 use mathlib.Core.Path.{ap}
 use mathlib.Core.List.{map}
-use lib.ListN.{length}
-use mir.Val.{Fits}
-use mir.Syntax.{w64}
 use Rattle.model.specs.Terms.{Term, terms_of}
 use Rattle.rule_terms.specs.Adds.{sandwich}
 use Rattle.rule_terms.proofs.PutsLaws.{puts_same}
-use Rattle.rules_by_scan.proofs.GatherLaws.{gather_start, gather_room, gather_term, gather_next, gather_full, gather_done, pairs_gathered}
-use borrow.Author.Rules.{rules}
-use native.Mathlib.Omega.{arith}
+use Rattle.rules_by_scan.proofs.GatherLaws.{gather_start, gather_room, gather_next, gather_full, gather_done, pairs_gathered}
 use Rattle.rules_by_scan.proofs.general.put_sandwiches.Goals as goal
 
 pub loop-i-init : goal.loop-i-init
 loop-i-init c = let a = c.args in gather_start (λ (b : Term). map (sandwich a.p a.rate b) (terms_of a.words.now a.numbers.now a.range)) a.range a.room a.len a.words.now a.numbers.now a.lanes.now a.sums.now c.requires.0 c.requires.1
-
-pub term_at-a-requires : goal.term_at-a-requires
-term_at-a-requires c =
-    let a = c.args in
-    let l = c.loop-i in
-    gather_term (λ (b : Term). map (sandwich a.p a.rate b) (terms_of a.words.now a.numbers.now a.range)) a.range a.room a.len a.words.now a.numbers.now a.lanes.now a.sums.now c.requires.0 c.requires.1 l.lanes l.sums l.count l.i l.invariant c.loop-i-test.true
 
 pub put_sandwich_row-added-requires : goal.put_sandwich_row-added-requires
 put_sandwich_row-added-requires c =
@@ -38,17 +27,12 @@ returns-in_default c =
     (gather_full (λ (b : Term). map (sandwich a.p a.rate b) (terms_of a.words.now a.numbers.now a.range)) a.range a.room a.len a.words.now a.numbers.now a.lanes.now a.sums.now c.requires.0 c.requires.1 l.lanes l.sums l.count l.i l.invariant c.loop-i-test.true
     _ (ap (λ (b : Term). map (sandwich a.p a.rate b) (terms_of a.words.now a.numbers.now a.range)) c.term_at-a.ensures) _ _ c.put_sandwich_row-added.result c.put_sandwich_row-added.ensures c.in_default.is)
 
-pub overflow_add-i : goal.overflow_add-i
-overflow_add-i c =
-    let f : Fits w64 (length c.args.words.now) = search (c.well_formed, rules) in
-    omega (arith, c.requires.1.lanes_long, c.loop-i-test.true, f.fits)
-
 pub loop-i-preserved : goal.loop-i-preserved
 loop-i-preserved c =
     let a = c.args in
     let l = c.loop-i in
     gather_next (λ (b : Term). map (sandwich a.p a.rate b) (terms_of a.words.now a.numbers.now a.range)) a.range a.room a.len a.words.now a.numbers.now a.lanes.now a.sums.now c.requires.0 c.requires.1 l.lanes l.sums l.count l.i l.invariant c.loop-i-test.true
-    _ (ap (λ (b : Term). map (sandwich a.p a.rate b) (terms_of a.words.now a.numbers.now a.range)) c.term_at-a.ensures) _ _ c.put_sandwich_row-added.result c.put_sandwich_row-added.ensures _ c.in-Held.is c.put_sandwich_row-added.auto.lanes c.put_sandwich_row-added.auto.sums
+    _ (ap (λ (b : Term). map (sandwich a.p a.rate b) (terms_of a.words.now a.numbers.now a.range)) c.term_at-a.ensures) _ _ c.put_sandwich_row-added.result c.put_sandwich_row-added.ensures _ c.in-Some.is c.put_sandwich_row-added.auto.lanes c.put_sandwich_row-added.auto.sums
 
 pub returns : goal.returns
 returns c =

@@ -4,7 +4,6 @@
 -- `items::put_jumps` meets its contract: after each turn what the jumps so far add is put. Assumes nothing.
 use mathlib.Core.Path.{refl, ap, ◌∙◌}
 use Prim.Native.Nat.{ℕ}
-use native.Mathlib.Omega.{arith}
 use Rattle.model.specs.Stored.{jump_at}
 use Rattle.model.specs.Tested.{bad_jump}
 use Rattle.rule_terms.specs.Adds.{jump_adds}
@@ -17,9 +16,6 @@ pub loop-j-init : goal.loop-j-init
 loop-j-init c =
     let a = c.args in
     each_start (λ (k : ℕ). jump_adds a.p (of_terms a.t_words.now a.t_numbers.now) (jump_at a.jumps.now a.rates.now k)) a.count a.room a.len a.lanes.now a.sums.now c.requires.0
-
-pub jump_at-jump-requires : goal.jump_at-jump-requires
-jump_at-jump-requires c = (omega (arith, c.requires.1, c.loop-j-test.true), omega (arith, c.requires.2, c.loop-j-test.true))
 
 pub put_jump-added-requires : goal.put_jump-added-requires
 put_jump-added-requires c =
@@ -40,7 +36,7 @@ loop-j-preserved c =
     let a = c.args in
     let l = c.loop-j in
     each_next (λ (k : ℕ). jump_adds a.p (of_terms a.t_words.now a.t_numbers.now) (jump_at a.jumps.now a.rates.now k)) a.count a.room a.len a.lanes.now a.sums.now c.requires.0 l.lanes l.sums l.held l.j l.invariant c.loop-j-test.true
-    _ (ap (jump_adds a.p (of_terms a.t_words.now a.t_numbers.now)) c.jump_at-jump.ensures) _ _ c.put_jump-added.result (c.put_jump-added.ensures (of_terms a.t_words.now a.t_numbers.now) refl refl) _ c.in-Held.is c.put_jump-added.auto.lanes c.put_jump-added.auto.sums
+    _ (ap (jump_adds a.p (of_terms a.t_words.now a.t_numbers.now)) c.jump_at-jump.ensures) _ _ c.put_jump-added.result (c.put_jump-added.ensures (of_terms a.t_words.now a.t_numbers.now) refl refl) _ c.in-Some.is c.put_jump-added.auto.lanes c.put_jump-added.auto.sums
 
 pub returns : goal.returns
 returns c = λ t ew en.

@@ -1,8 +1,8 @@
 -- SPDX-FileCopyrightText: 2026 The PPVM Authors
 -- SPDX-License-Identifier: Apache-2.0
 
--- What lasts over the loop of `items::put_jumps`, and what falls.
-use Prim.Native.Nat.{ℕ, ◌-◌}
+-- What lasts over the loop of `items::put_jumps`.
+use Prim.Native.Nat.{ℕ}
 use Rattle.model.specs.Stored.{jump_at}
 use Rattle.rule_terms.specs.Adds.{jump_adds}
 use Rattle.rules_by_scan.proofs.ItemLaws.{EachState, of_terms}
@@ -10,6 +10,3 @@ use Rattle.rules_by_scan.proofs.items.put_jumps.Given as goal
 
 abbrev pub invariant-loop-j : goal.invariant-loop-j
 invariant-loop-j l = EachState (λ (k : ℕ). jump_adds l.p (of_terms l.t_words l.t_numbers) (jump_at l.jumps l.rates k)) l.count l.room l.len l.initial.lanes l.initial.sums l.lanes l.sums l.held l.j
-
-abbrev pub decreases-loop-j : goal.decreases-loop-j
-decreases-loop-j l = l.count - l.j

@@ -2,7 +2,6 @@
 -- SPDX-License-Identifier: Apache-2.0
 
 -- `items::put_reals` meets its contract: after each turn what the Hamiltonian terms so far add is put. Assumes nothing.
-use native.Mathlib.Omega.{arith}
 use Rattle.word.specs.Count.{up_to}
 use Rattle.rule_terms.proofs.PutsLaws.{puts_same}
 use Rattle.rules_by_scan.proofs.ItemLaws.{real_adds, each_start, each_room, each_next, each_full, each_done, real_word, reals_each}
@@ -12,9 +11,6 @@ pub loop-i-init : goal.loop-i-init
 loop-i-init c =
     let a = c.args in
     each_start (real_adds a.h_words.now a.h_coeffs.now a.p) a.count a.room 0 a.lanes.now a.sums.now c.requires.0
-
-pub word_at-h-requires : goal.word_at-h-requires
-word_at-h-requires c = omega (arith, c.requires.1, c.loop-i-test.true)
 
 pub put_hamiltonian-added-requires : goal.put_hamiltonian-added-requires
 put_hamiltonian-added-requires c =
@@ -35,7 +31,7 @@ loop-i-preserved c =
     let a = c.args in
     let l = c.loop-i in
     each_next (real_adds a.h_words.now a.h_coeffs.now a.p) a.count a.room 0 a.lanes.now a.sums.now c.requires.0 l.lanes l.sums l.held l.i l.invariant c.loop-i-test.true
-    _ (real_word a.h_words.now a.h_coeffs.now a.p l.i c.word_at-h.result c.word_at-h.ensures) _ _ c.put_hamiltonian-added.result c.put_hamiltonian-added.ensures _ c.in-Held.is c.put_hamiltonian-added.auto.lanes c.put_hamiltonian-added.auto.sums
+    _ (real_word a.h_words.now a.h_coeffs.now a.p l.i c.word_at-h.result c.word_at-h.ensures) _ _ c.put_hamiltonian-added.result c.put_hamiltonian-added.ensures _ c.in-Some.is c.put_hamiltonian-added.auto.lanes c.put_hamiltonian-added.auto.sums
 
 pub returns : goal.returns
 returns c = λ t ew ec.

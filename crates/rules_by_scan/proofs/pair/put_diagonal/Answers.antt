@@ -3,25 +3,14 @@
 
 -- `pair::put_diagonal` meets its contract: after each turn what the words so far add is put. Assumes nothing.
 use mathlib.Core.Path.{ap}
-use lib.ListN.{length}
-use mir.Val.{Fits}
-use mir.Syntax.{w64}
 use Rattle.rule_terms.specs.Adds.{diagonal}
-use Rattle.rules_by_scan.proofs.GatherLaws.{gather_start, gather_room, gather_term, gather_next, gather_full, gather_done}
-use borrow.Author.Rules.{rules}
-use native.Mathlib.Omega.{arith}
+use Rattle.rules_by_scan.proofs.GatherLaws.{gather_start, gather_room, gather_next, gather_full}
 use Rattle.rules_by_scan.proofs.pair.put_diagonal.Goals as goal
 
 pub loop-j-init : goal.loop-j-init
 loop-j-init c =
     let a = c.args in
     gather_start (diagonal a.p) a.product a.room a.len a.t_words.now a.t_numbers.now a.lanes.now a.sums.now c.requires.0 c.requires.1
-
-pub term_at-c-requires : goal.term_at-c-requires
-term_at-c-requires c =
-    let a = c.args in
-    let l = c.loop-j in
-    gather_term (diagonal a.p) a.product a.room a.len a.t_words.now a.t_numbers.now a.lanes.now a.sums.now c.requires.0 c.requires.1 l.lanes l.sums l.count l.j l.invariant c.loop-j-test.true
 
 pub put_diagonal_term-added-requires : goal.put_diagonal_term-added-requires
 put_diagonal_term-added-requires c =
@@ -38,11 +27,6 @@ returns-in_default c =
     gather_full (diagonal a.p) a.product a.room a.len a.t_words.now a.t_numbers.now a.lanes.now a.sums.now c.requires.0 c.requires.1 l.lanes l.sums l.count l.j l.invariant c.loop-j-test.true
     _ (ap (diagonal a.p) t.ensures) _ _ q.result q.ensures c.in_default.is
 
-pub overflow_add-j : goal.overflow_add-j
-overflow_add-j c =
-    let f : Fits w64 (length c.args.t_words.now) = search (c.well_formed, rules) in
-    omega (arith, c.requires.1.lanes_long, c.loop-j-test.true, f.fits)
-
 pub loop-j-preserved : goal.loop-j-preserved
 loop-j-preserved c =
     let a = c.args in
@@ -50,10 +34,4 @@ loop-j-preserved c =
     let t = c.term_at-c in
     let q = c.put_diagonal_term-added in
     gather_next (diagonal a.p) a.product a.room a.len a.t_words.now a.t_numbers.now a.lanes.now a.sums.now c.requires.0 c.requires.1 l.lanes l.sums l.count l.j l.invariant c.loop-j-test.true
-    _ (ap (diagonal a.p) t.ensures) _ _ q.result q.ensures _ c.in-Held.is q.auto.lanes q.auto.sums
-
-pub returns : goal.returns
-returns c =
-    let a = c.args in
-    let l = c.loop-j in
-    gather_done (diagonal a.p) a.product a.room a.len a.t_words.now a.t_numbers.now a.lanes.now a.sums.now c.requires.0 c.requires.1 l.lanes l.sums l.count l.j l.invariant c.loop-j-test.false
+    _ (ap (diagonal a.p) t.ensures) _ _ q.result q.ensures _ c.in-Some.is q.auto.lanes q.auto.sums

@@ -4,36 +4,22 @@
 -- `pair::put_factor_row` meets its contract: after each turn the factors so far are put. Assumes nothing.
 use mathlib.Core.Path.{ap}
 use mathlib.Core.List.{◌∷◌, []}
-use lib.ListN.{length}
-use mir.Val.{Fits}
-use mir.Syntax.{w64}
 use Rattle.word.specs.declared.algebra.Phased.{Phased}
 use Rattle.word.proofs.WordLaws.{phase_lt}
 use Rattle.model.specs.Stored.{range}
 use Rattle.model.specs.Terms.{terms_in}
-use Rattle.rules_by_scan.proofs.GatherLaws.{gather_start, gather_room, gather_term, gather_next, gather_full, gather_done}
+use Rattle.rules_by_scan.proofs.GatherLaws.{gather_start, gather_room, gather_next, gather_full, gather_done}
 use Rattle.rules_by_scan.proofs.PairFactors.{single, single_is, single_row}
 use Rattle.rule_terms.proofs.PutsLaws.{puts_one, puts_same}
-use borrow.Author.Rules.{rules}
 use native.Mathlib.Omega.{arith}
 use Rattle.model.specs.Between.{onto}
 use Rattle.rules_by_scan.proofs.pair.put_factor_row.Goals as goal
-
-pub pauli_mul-ap-requires : goal.pauli_mul-ap-requires
-pauli_mul-ap-requires c = tt
 
 pub loop-j-init : goal.loop-j-init
 loop-j-init c =
     let a = c.args in
     let k = c.pauli_mul-ap in
     gather_start (single a.double k.result) (range a.start a.end) a.room a.len a.t_words.now a.t_numbers.now a.lanes.now a.sums.now c.requires.0 c.requires.1
-
-pub term_at-f-requires : goal.term_at-f-requires
-term_at-f-requires c =
-    let a = c.args in
-    let k = c.pauli_mul-ap in
-    let l = c.loop-j in
-    gather_term (single a.double k.result) (range a.start a.end) a.room a.len a.t_words.now a.t_numbers.now a.lanes.now a.sums.now c.requires.0 c.requires.1 l.lanes l.sums l.count l.j l.invariant c.loop-j-test.true
 
 pub factor_term-t-requires : goal.factor_term-t-requires
 factor_term-t-requires c =
@@ -62,11 +48,6 @@ returns-in_default c =
     (onto f.result ∷ []) (single_is a.a a.p k.result k.ensures a.double (onto f.result) (onto t.result) _ (f.ensures a.a a.p k.ensures) t.ensures) _ _ q.result
     (puts_one a.room l.count l.lanes l.sums (gather_room (single a.double k.result) (range a.start a.end) a.room a.len a.t_words.now a.t_numbers.now a.lanes.now a.sums.now c.requires.0 c.requires.1 l.lanes l.sums l.count l.j l.invariant) _ _ (onto f.result) q.result q.ensures) c.in_default.is)
 
-pub overflow_add-j : goal.overflow_add-j
-overflow_add-j c =
-    let f : Fits w64 (length c.args.t_words.now) = search (c.well_formed, rules) in
-    omega (arith, c.requires.1.lanes_long, c.loop-j-test.true, f.fits)
-
 pub loop-j-preserved : goal.loop-j-preserved
 loop-j-preserved c =
     let a = c.args in
@@ -77,7 +58,7 @@ loop-j-preserved c =
     let q = c.put-added in
     gather_next (single a.double k.result) (range a.start a.end) a.room a.len a.t_words.now a.t_numbers.now a.lanes.now a.sums.now c.requires.0 c.requires.1 l.lanes l.sums l.count l.j l.invariant c.loop-j-test.true
     (onto f.result ∷ []) (single_is a.a a.p k.result k.ensures a.double (onto f.result) (onto t.result) _ (f.ensures a.a a.p k.ensures) t.ensures) _ _ q.result
-    (puts_one a.room l.count l.lanes l.sums (gather_room (single a.double k.result) (range a.start a.end) a.room a.len a.t_words.now a.t_numbers.now a.lanes.now a.sums.now c.requires.0 c.requires.1 l.lanes l.sums l.count l.j l.invariant) _ _ (onto f.result) q.result q.ensures) _ c.in-Held.is q.auto.lanes q.auto.sums
+    (puts_one a.room l.count l.lanes l.sums (gather_room (single a.double k.result) (range a.start a.end) a.room a.len a.t_words.now a.t_numbers.now a.lanes.now a.sums.now c.requires.0 c.requires.1 l.lanes l.sums l.count l.j l.invariant) _ _ (onto f.result) q.result q.ensures) _ c.in-Some.is q.auto.lanes q.auto.sums
 
 pub returns : goal.returns
 returns c =

@@ -5,37 +5,15 @@
 use mathlib.Core.Path.{ap}
 use mathlib.Core.List.{map}
 use Prim.Native.Nat.{◌+◌, ◌-◌}
-use lib.ListN.{length}
-use mir.Val.{Fits}
-use mir.Syntax.{w64}
 use Rattle.model.specs.Terms.{Term, terms_in}
-use Rattle.rules_by_scan.proofs.PairFactors.{factors_start, factors_room, factors_term, factors_row, factors_next, factors_full, factors_done}
-use borrow.Author.Rules.{rules}
-use native.Mathlib.Omega.{arith}
+use Rattle.rules_by_scan.proofs.PairFactors.{factors_start, factors_room, factors_row, factors_next, factors_full, factors_done}
 use Rattle.rules_by_scan.proofs.pair.put_factors.Invariants.{spread}
 use Rattle.rules_by_scan.proofs.pair.put_factors.Goals as goal
-
-pub overflow_sub-row : goal.overflow_sub-row
-overflow_sub-row c = c.requires.2
 
 pub loop-i-init : goal.loop-i-init
 loop-i-init c =
     let a = c.args in
     factors_start a.p (spread a.double a.p) a.left (a.right.end - a.right.start) a.factors a.room a.len a.t_words.now a.t_numbers.now a.lanes.now a.sums.now c.requires.0 c.requires.1 (c.requires.3.lanes_long, c.requires.3.numbers_long)
-
-pub term_at-t-requires : goal.term_at-t-requires
-term_at-t-requires c =
-    let a = c.args in
-    let l = c.loop-i in
-    factors_term a.p (spread a.double a.p) a.left (a.right.end - a.right.start) a.factors a.room a.len a.t_words.now a.t_numbers.now a.lanes.now a.sums.now c.requires.0 c.requires.1 (c.requires.3.lanes_long, c.requires.3.numbers_long) l.lanes l.sums l.count l.i l.place l.invariant c.loop-i-test.true
-
-pub overflow_add-next : goal.overflow_add-next
-overflow_add-next c =
-    let a = c.args in
-    let l = c.loop-i in
-    let r = factors_row a.p (spread a.double a.p) a.left (a.right.end - a.right.start) a.factors a.room a.len a.t_words.now a.t_numbers.now a.lanes.now a.sums.now c.requires.0 c.requires.1 (c.requires.3.lanes_long, c.requires.3.numbers_long) l.lanes l.sums l.count l.i l.place l.invariant c.loop-i-test.true in
-    let f : Fits w64 (length a.t_words.now) = search (c.well_formed, rules) in
-    omega (arith, r.1, f.fits)
 
 pub put_factor_row-added-requires : goal.put_factor_row-added-requires
 put_factor_row-added-requires c =
@@ -53,11 +31,6 @@ returns-in_default c =
     factors_full a.p (spread a.double a.p) a.left (a.right.end - a.right.start) a.factors a.room a.len a.t_words.now a.t_numbers.now a.lanes.now a.sums.now c.requires.0 c.requires.1 (c.requires.3.lanes_long, c.requires.3.numbers_long) l.lanes l.sums l.count l.i l.place l.invariant c.loop-i-test.true
     _ (ap (λ (x : Term). map (spread a.double a.p x.word) (terms_in a.t_words.now a.t_numbers.now l.place (l.place + (a.right.end - a.right.start)))) t.ensures) _ _ q.result q.ensures c.in_default.is
 
-pub overflow_add-i : goal.overflow_add-i
-overflow_add-i c =
-    let f : Fits w64 (length c.args.t_words.now) = search (c.well_formed, rules) in
-    omega (arith, c.requires.1.lanes_long, c.loop-i-test.true, f.fits)
-
 pub loop-i-preserved : goal.loop-i-preserved
 loop-i-preserved c =
     let a = c.args in
@@ -65,7 +38,7 @@ loop-i-preserved c =
     let t = c.term_at-t in
     let q = c.put_factor_row-added in
     factors_next a.p (spread a.double a.p) a.left (a.right.end - a.right.start) a.factors a.room a.len a.t_words.now a.t_numbers.now a.lanes.now a.sums.now c.requires.0 c.requires.1 (c.requires.3.lanes_long, c.requires.3.numbers_long) l.lanes l.sums l.count l.i l.place l.invariant c.loop-i-test.true
-    _ (ap (λ (x : Term). map (spread a.double a.p x.word) (terms_in a.t_words.now a.t_numbers.now l.place (l.place + (a.right.end - a.right.start)))) t.ensures) _ _ q.result q.ensures _ c.in-Held.is q.auto.lanes q.auto.sums
+    _ (ap (λ (x : Term). map (spread a.double a.p x.word) (terms_in a.t_words.now a.t_numbers.now l.place (l.place + (a.right.end - a.right.start)))) t.ensures) _ _ q.result q.ensures _ c.in-Some.is q.auto.lanes q.auto.sums
 
 pub returns : goal.returns
 returns c =

@@ -1,12 +1,10 @@
 -- SPDX-FileCopyrightText: 2026 The PPVM Authors
 -- SPDX-License-Identifier: Apache-2.0
 
--- What lasts over the loops of `pair::put_factors`, and what falls.
+-- What lasts over the loops of `pair::put_factors`.
 use mathlib.Core.Bool.{Bool, cond}
-use Prim.Native.Nat.{◌-◌}
 use Rattle.word.specs.declared.word.Word.{Word}
 use Rattle.model.specs.Terms.{Term}
-use Rattle.model.specs.Stored.{range}
 use Rattle.rule_terms.specs.Adds.{folded, doubled}
 use Rattle.rules_by_scan.proofs.PairFactors.{FactorsState}
 use Rattle.rules_by_scan.proofs.pair.put_factors.Given as goal
@@ -15,7 +13,4 @@ abbrev pub spread : Bool → Word → Word → Term → Term
 spread double p = cond double (doubled p) (folded p)
 
 abbrev pub invariant-loop-i : goal.invariant-loop-i
-invariant-loop-i l = FactorsState l.p (spread l.double l.p) (range l.initial.i l.end) l.row l.factors l.room l.len l.t_words l.t_numbers l.initial.lanes l.initial.sums l.lanes l.sums l.count l.i l.place
-
-abbrev pub decreases-loop-i : goal.decreases-loop-i
-decreases-loop-i l = l.end - l.i
+invariant-loop-i l = FactorsState l.p (spread l.double l.p) l.fn.left l.row l.factors l.room l.len l.t_words l.t_numbers l.initial.lanes l.initial.sums l.lanes l.sums l.count l.i l.place

@@ -28,11 +28,11 @@ put_diagonal-requires c =
     let a = c.args in
     let A : List Term = each_factor a.p (folded a.p) (width a.right) (terms_of a.t_words.now a.t_numbers.now a.left) (terms_in a.t_words.now a.t_numbers.now a.factors (a.factors + width a.left * width a.right)) in
     let f = c.put_factors-added in
-    (puts_room a.room a.len a.lanes.now a.sums.now c.requires.0 _ _ A _ _ f.ensures c.in-Held.is f.auto.lanes f.auto.sums, c.requires.4)
+    (puts_room a.room a.len a.lanes.now a.sums.now c.requires.0 _ _ A _ _ f.ensures c.in-Some.is f.auto.lanes f.auto.sums, c.requires.4)
 
 pub returns : goal.returns
 returns c =
     let a = c.args in
     let A : List Term = each_factor a.p (folded a.p) (width a.right) (terms_of a.t_words.now a.t_numbers.now a.left) (terms_in a.t_words.now a.t_numbers.now a.factors (a.factors + width a.left * width a.right)) in
     let B : List Term = gather_over floats pauli (diagonal a.p) (terms_of a.t_words.now a.t_numbers.now a.product) in
-    puts_more a.room a.len a.lanes.now a.sums.now c.requires.0 _ _ A B _ _ c.put_factors-added.ensures c.in-Held.is _ _ _ c.put_diagonal.ensures
+    puts_more a.room a.len a.lanes.now a.sums.now c.requires.0 _ _ A B _ _ c.put_factors-added.ensures c.in-Some.is _ _ _ c.put_diagonal.ensures

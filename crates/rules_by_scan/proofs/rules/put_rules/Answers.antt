@@ -28,7 +28,7 @@ put_jumps-second-requires c =
     let t : ModelTables = model_tables a.h_words.now a.h_coeffs.now a.jumps.now a.rates.now a.t_words.now a.t_numbers.now in
     let k = tested_stands a.m t c.requires.1 in (
       reals_room a.m t a.p a.room a.lanes.now a.sums.now c.requires.0 _ _ _ (c.put_reals-first.ensures t refl refl)
-          _ c.in-Held.is c.put_reals-first.auto.lanes c.put_reals-first.auto.sums,
+          _ c.in-Some.is c.put_reals-first.auto.lanes c.put_reals-first.auto.sums,
       k.jumps_room,
       k.rates_room,
       k.t_words_room,
@@ -41,7 +41,7 @@ returns-in_default-second c =
     let a = c.args in
     let t : ModelTables = model_tables a.h_words.now a.h_coeffs.now a.jumps.now a.rates.now a.t_words.now a.t_numbers.now in
     jumps_full a.m t a.p a.room a.lanes.now a.sums.now c.requires.0 _ _ _ (c.put_reals-first.ensures t refl refl)
-    _ c.in-Held.is c.put_reals-first.auto.lanes c.put_reals-first.auto.sums
+    _ c.in-Some.is c.put_reals-first.auto.lanes c.put_reals-first.auto.sums
     _ _ _ (c.put_jumps-second.ensures t refl refl) c.in_default-second.is
 
 pub put_pairs-requires : goal.put_pairs-requires
@@ -50,9 +50,9 @@ put_pairs-requires c =
     let t : ModelTables = model_tables a.h_words.now a.h_coeffs.now a.jumps.now a.rates.now a.t_words.now a.t_numbers.now in
     let k = tested_stands a.m t c.requires.1 in (
       jumps_room a.m t a.p a.room a.lanes.now a.sums.now c.requires.0 _ _ _ (c.put_reals-first.ensures t refl refl)
-          _ c.in-Held.is c.put_reals-first.auto.lanes c.put_reals-first.auto.sums
+          _ c.in-Some.is c.put_reals-first.auto.lanes c.put_reals-first.auto.sums
           _ _ _ (c.put_jumps-second.ensures t refl refl)
-          _ c.in-Held-second.is c.put_jumps-second.auto.lanes c.put_jumps-second.auto.sums,
+          _ c.in-Some-second.is c.put_jumps-second.auto.lanes c.put_jumps-second.auto.sums,
       k.jumps_room,
       k.rates_room,
       k.t_words_room,
@@ -65,7 +65,7 @@ returns c =
     let a = c.args in
     let t : ModelTables = model_tables a.h_words.now a.h_coeffs.now a.jumps.now a.rates.now a.t_words.now a.t_numbers.now in
     pairs_puts a.m t a.p a.room a.lanes.now a.sums.now c.requires.0 _ _ _ (c.put_reals-first.ensures t refl refl)
-    _ c.in-Held.is c.put_reals-first.auto.lanes c.put_reals-first.auto.sums
+    _ c.in-Some.is c.put_reals-first.auto.lanes c.put_reals-first.auto.sums
     _ _ _ (c.put_jumps-second.ensures t refl refl)
-    _ c.in-Held-second.is c.put_jumps-second.auto.lanes c.put_jumps-second.auto.sums
+    _ c.in-Some-second.is c.put_jumps-second.auto.lanes c.put_jumps-second.auto.sums
     _ _ _ (c.put_pairs.ensures t refl refl)

@@ -14,13 +14,14 @@ use Rattle.word.specs.Flat.{words as words_in, word_lanes}
 use Rattle.model.specs.Stored.{ModelTables}
 use Rattle.model.specs.Between.{model_tables}
 use Rattle.limits.specs.Defaults.{limit_of, tau_of}
-use Rattle.truncate.specs.declared.kept.Kept.TheVariants.{Entries}
+use Rattle.std.specs.Prelude.{Result, Ok}
+use Rattle.refusal.specs.declared.Refusal.{Refusal}
+use Rattle.step_parts.specs.declared.taken.Step.{Step}
 use Rattle.step_laws.specs.Steps.{hop}
 use Rattle.step_laws.specs.Passing.{GoodWords, AreFinite}
 use Rattle.step_parts.specs.Lent.{Work, work_of, step_tests}
 use Rattle.step_parts.specs.Ends.{ending}
 use Rattle.step_parts.specs.Between.{HopLong, EvolveLong, Holds, HopPlaces, Hops}
-use Rattle.step_parts.specs.declared.taken.Step.{Step}
 use Rattle.step_legs.specs.Between.{Follows}
 use Rattle.step.specs.Between.{Start, start_of, grown_to, entries_in, Standing}
 use Rattle.step.specs.Calls.{step}
@@ -34,10 +35,10 @@ loop-part-init c =
     let a = c.args in
     let t : ModelTables = model_tables a.h_words.now a.h_coeffs.now a.jumps.now a.rates.now a.t_words.now a.t_numbers.now in
     let s : Start = start_of a.model t a.words.now a.coeffs.now a.len a.protected.now a.limits a.dt a.drop_tol (work_of a.h_index.now a.j_index.now a.mask.now a.work_words.now a.work_sums.now a.order.now a.heads.now a.nexts.now a.cand_words.now a.cand_sums.now a.place_order.now a.place_work.now a.list_words.now a.list_values.now a.stage_rows.now a.stage_columns.now a.columns.now a.values.now a.grown_words.now a.start.now a.evolved.now) in
-    starts s (Entries a.len)
+    starts s (Ok a.len)
 
-pub returns-in-Refused : goal.returns-in-Refused
-returns-in-Refused c =
+pub returns-in-Err : goal.returns-in-Err
+returns-in-Err c =
     let a = c.args in
     let t : ModelTables = model_tables a.h_words.now a.h_coeffs.now a.jumps.now a.rates.now a.t_words.now a.t_numbers.now in
     let s : Start = start_of a.model t a.words.now a.coeffs.now a.len a.protected.now a.limits a.dt a.drop_tol (work_of a.h_index.now a.j_index.now a.mask.now a.work_words.now a.work_sums.now a.order.now a.heads.now a.nexts.now a.cand_words.now a.cand_sums.now a.place_order.now a.place_work.now a.list_words.now a.list_values.now a.stage_rows.now a.stage_columns.now a.columns.now a.values.now a.grown_words.now a.start.now a.evolved.now) in
@@ -52,9 +53,9 @@ returns-in-Refused c =
     let is = c.if-due-eq0.true in
     let b = c.begin_step-tests in
     let told = b.ensures.0 ∙ ap₂ (λ (x : List ℕ) (y : List Float). step_tests a.model t x y a.len a.protected.now a.limits a.dt a.drop_tol (length l.h_index) (length l.j_index) (length l.mask) (length l.order) (length l.heads) (length l.nexts) (length l.place_order) (length l.cand_sums) (length l.list_values) (length l.work_sums) (length l.grown_words) (length l.start) (length l.evolved)) we ce in
-    let q = c.in-Refused.is in
+    let q = c.in-Err.is in
     let e = b.ensures.1 _ q in
-    let r = c.stepped_of in
+    let r = c.from in
     subst (λ (x : List ℕ). LeavesStep (step a.model t a.words.now a.coeffs.now a.len a.protected.now a.limits a.dt a.drop_tol s.work) r.result x l.coeffs (work_of l.h_index l.j_index l.mask l.work_words l.work_sums l.order c.begin_step-tests.new.heads c.begin_step-tests.new.nexts l.cand_words l.cand_sums l.place_order l.place_work l.list_words l.list_values l.stage_rows l.stage_columns l.columns l.values c.begin_step-tests.new.grown_words c.begin_step-tests.new.start c.begin_step-tests.new.evolved)) (sym we)
     (subst (λ (y : List Float). LeavesStep (step a.model t a.words.now a.coeffs.now a.len a.protected.now a.limits a.dt a.drop_tol s.work) r.result s.lanes y (work_of l.h_index l.j_index l.mask l.work_words l.work_sums l.order c.begin_step-tests.new.heads c.begin_step-tests.new.nexts l.cand_words l.cand_sums l.place_order l.place_work l.list_words l.list_values l.stage_rows l.stage_columns l.columns l.values c.begin_step-tests.new.grown_words c.begin_step-tests.new.start c.begin_step-tests.new.evolved)) (sym ce)
     (turned_away s u.result l.taken l.hopped w d.stands is b.result told _ q _ (work_same w _ _ _ _ _ e.0 e.1 e.2 e.3 e.4) r.result r.ensures))
@@ -357,7 +358,7 @@ loop-part-preserved c =
     let f = subst (λ (k : ℕ). Follows l.hopped (eqb u.result 2) k v.result l.evolved c.evolve_after-done.new.evolved) ee v.ensures.0 in
     let y = c.add_products-taken in
     back s _ _ _ _ _ _ we ce
-    (subst (λ (x : Step). Standing s (u.result + 1) x l.hopped s.lanes s.coeffs (work_of c.evolve_after-done.new.h_index c.evolve_after-done.new.j_index c.evolve_after-done.new.mask c.evolve_after-done.new.work_words c.evolve_after-done.new.work_sums l.order c.evolve_after-done.new.heads c.evolve_after-done.new.nexts l.cand_words c.evolve_after-done.new.cand_sums c.evolve_after-done.new.place_order l.place_work l.list_words c.evolve_after-done.new.list_values c.evolve_after-done.new.stage_rows c.evolve_after-done.new.stage_columns c.evolve_after-done.new.columns c.evolve_after-done.new.values l.grown_words l.start c.evolve_after-done.new.evolved)) (sym y.ensures)
+    (subst (λ (x : Result Step Refusal). Standing s (u.result + 1) x l.hopped s.lanes s.coeffs (work_of c.evolve_after-done.new.h_index c.evolve_after-done.new.j_index c.evolve_after-done.new.mask c.evolve_after-done.new.work_words c.evolve_after-done.new.work_sums l.order c.evolve_after-done.new.heads c.evolve_after-done.new.nexts l.cand_words c.evolve_after-done.new.cand_sums c.evolve_after-done.new.place_order l.place_work l.list_words c.evolve_after-done.new.list_values c.evolve_after-done.new.stage_rows c.evolve_after-done.new.stage_columns c.evolve_after-done.new.columns c.evolve_after-done.new.values l.grown_words l.start c.evolve_after-done.new.evolved)) (sym y.ensures)
     (evolve_stands s u.result l.taken l.hopped w d.stands d.below c.if-due-eq0.false c.if-due-eq5.false not-hop (eqb u.result 2) refl v.result (work_of c.evolve_after-done.new.h_index c.evolve_after-done.new.j_index c.evolve_after-done.new.mask c.evolve_after-done.new.work_words c.evolve_after-done.new.work_sums l.order c.evolve_after-done.new.heads c.evolve_after-done.new.nexts l.cand_words c.evolve_after-done.new.cand_sums c.evolve_after-done.new.place_order l.place_work l.list_words c.evolve_after-done.new.list_values c.evolve_after-done.new.stage_rows c.evolve_after-done.new.stage_columns c.evolve_after-done.new.columns c.evolve_after-done.new.values l.grown_words l.start c.evolve_after-done.new.evolved) (record { h_index = c.evolve_after-done.auto.h_index; j_index = c.evolve_after-done.auto.j_index; mask = c.evolve_after-done.auto.mask; work_words = c.evolve_after-done.auto.work_words; work_sums = c.evolve_after-done.auto.work_sums; order = refl; heads = c.evolve_after-done.auto.heads; nexts = c.evolve_after-done.auto.nexts; cand_words = refl; cand_sums = c.evolve_after-done.auto.cand_sums; place_order = c.evolve_after-done.auto.place_order; place_work = refl; list_words = refl; list_values = c.evolve_after-done.auto.list_values; stage_rows = c.evolve_after-done.auto.stage_rows; stage_columns = c.evolve_after-done.auto.stage_columns; columns = c.evolve_after-done.auto.columns; values = c.evolve_after-done.auto.values; grown_words = refl; start = refl; evolved = c.evolve_after-done.auto.evolved }) refl refl f (λ q o k at e g. v.ensures.1 q o k at e (ap (λ (x : ℕ). not (eqb u.result 2) && eqb k x) ee ∙ g)) v.ensures.2 v.ensures.3 v.ensures.4 v.ensures.5 v.ensures.6 v.ensures.7 v.ensures.8 v.ensures.9 v.ensures.10 v.ensures.11 refl refl refl refl))
 
 pub returns : goal.returns
@@ -367,4 +368,4 @@ returns c =
     let s : Start = start_of a.model t a.words.now a.coeffs.now a.len a.protected.now a.limits a.dt a.drop_tol (work_of a.h_index.now a.j_index.now a.mask.now a.work_words.now a.work_sums.now a.order.now a.heads.now a.nexts.now a.cand_words.now a.cand_sums.now a.place_order.now a.place_work.now a.list_words.now a.list_values.now a.stage_rows.now a.stage_columns.now a.columns.now a.values.now a.grown_words.now a.start.now a.evolved.now) in
     let l = c.loop-part in
     let w : Work = work_of l.h_index l.j_index l.mask l.work_words l.work_sums l.order l.heads l.nexts l.cand_words l.cand_sums l.place_order l.place_work l.list_words l.list_values l.stage_rows l.stage_columns l.columns l.values l.grown_words l.start l.evolved in
-    leaves_step s l.part l.taken l.hopped l.words l.coeffs w l.invariant c.loop-part-test.false c.stepped_of-2.result c.stepped_of-2.ensures
+    leaves_step s l.part l.taken l.hopped l.words l.coeffs w l.invariant c.loop-part-test.false c.from-2.result c.from-2.ensures

@@ -19,7 +19,7 @@ pub returns-then-all : goal.returns-then-all
 returns-then-all c =
     let a = c.args in
     let z = c.requires.cleared in
-    let e = c.in-Entries.is in
+    let e = c.in-Ok.is in
     let all = sym c.ends_there-all.ensures ∙ c.if-all.true in (
       follows_all a.hopped a.always a.len _ e a.evolved.now,
       λ p protected k at f g. absurd (no_more a.hopped a.always a.len _ e all k f g),
@@ -37,14 +37,14 @@ returns-then-all c =
 
 pub evolve_grown-requires : goal.evolve_grown-requires
 evolve_grown-requires c =
-    let o = c.requires.long _ c.in-Entries.is in
+    let o = c.requires.long _ c.in-Ok.is in
     record { tested = c.requires.tested; long = o.0; good_words = (o.1, o.2, o.3) }
 
 pub returns-else-all : goal.returns-else-all
 returns-else-all c =
     let a = c.args in
     let t : ModelTables = model_tables a.h_words.now a.h_coeffs.now a.jumps.now a.rates.now a.t_words.now a.t_numbers.now in
-    let e = c.in-Entries.is in
+    let e = c.in-Ok.is in
     let g = c.evolve_grown in (
       follows_on a.hopped a.always a.len _ e (sym c.ends_there-all.ensures ∙ c.if-all.false) _ a.evolved.now _,
       λ p protected k at f h. evolves_entries a.hopped _ e (λ (i : ℕ). evolution a.m t protected a.dt p a.drop_tol (take i (words_in a.grown_words.now)) (take i a.start.now)) _ _ (g.ensures.0 p protected at) k f,
@@ -60,11 +60,11 @@ returns-else-all c =
       g.ensures.10,
     )
 
-pub returns-in-Refused : goal.returns-in-Refused
-returns-in-Refused c =
+pub returns-in-Err : goal.returns-in-Err
+returns-in-Err c =
     let a = c.args in
     let z = c.requires.cleared in
-    let e = c.in-Refused.is in (
+    let e = c.in-Err.is in (
       follows_turned a.hopped a.always a.len _ e a.evolved.now,
       λ p protected k at f g. absurd (no_entries a.hopped _ e k f),
       z.0,

@@ -4,8 +4,8 @@
 -- `evolve::step_of` meets its contract. Assumes nothing.
 use Rattle.step_legs.proofs.evolve.step_of.Goals as goal
 
-pub returns-in-Products : goal.returns-in-Products
-returns-in-Products c = rw c.in-Products.is
+pub returns-in-Ok : goal.returns-in-Ok
+returns-in-Ok c = rw c.in-Ok.is
 
-pub returns-in-Refused : goal.returns-in-Refused
-returns-in-Refused c = rw c.in-Refused.is
+pub returns-in-Err : goal.returns-in-Err
+returns-in-Err c = rw c.in-Err.is

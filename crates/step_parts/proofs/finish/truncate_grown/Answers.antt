@@ -16,16 +16,16 @@ returns-in_default-capped c =
     let a = c.args in
     let p = c.prune_basis-pruned in
     let q = c.cap_basis-capped in
-    absurd (cap_not a.n a.protected.now a.drop_tol a.max_basis a.len a.grown_words.now a.evolved.now a.order.now a.heads.now a.nexts.now a.place_order.now c.requires p.result p.new.words p.new.coeffs p.new.order p.new.work p.new.fixed p.new.kept p.ensures _ c.in-Entries.is q.result q.new.words q.new.coeffs q.new.order q.new.work q.new.fixed q.new.kept q.ensures _ c.in_default-capped.is)
+    absurd (cap_not a.n a.protected.now a.drop_tol a.max_basis a.len a.grown_words.now a.evolved.now a.order.now a.heads.now a.nexts.now a.place_order.now c.requires p.result p.new.words p.new.coeffs p.new.order p.new.work p.new.fixed p.new.kept p.ensures _ c.in-Ok.is q.result q.new.words q.new.coeffs q.new.order q.new.work q.new.fixed q.new.kept q.ensures _ c.in_default-capped.is)
 
 pub returns : goal.returns
 returns c =
     let a = c.args in
     let p = c.prune_basis-pruned in
     let q = c.cap_basis-capped in (
-      (λ products. truncates a.n a.protected.now a.drop_tol a.max_basis a.len a.grown_words.now a.evolved.now a.order.now a.heads.now a.nexts.now a.place_order.now c.requires p.result p.new.words p.new.coeffs p.new.order p.new.work p.new.fixed p.new.kept p.ensures _ c.in-Entries.is q.result q.new.words q.new.coeffs q.new.order q.new.work q.new.fixed q.new.kept q.ensures _ c.in-Entries-capped.is products),
-      order_clear a.n a.protected.now a.drop_tol a.max_basis a.len a.grown_words.now a.evolved.now a.order.now a.heads.now a.nexts.now a.place_order.now c.requires p.result p.new.words p.new.coeffs p.new.order p.new.work p.new.fixed p.new.kept p.ensures _ c.in-Entries.is q.result q.new.words q.new.coeffs q.new.order q.new.work q.new.fixed q.new.kept q.ensures,
-      heads_clear a.n a.protected.now a.drop_tol a.max_basis a.len a.grown_words.now a.evolved.now a.order.now a.heads.now a.nexts.now a.place_order.now c.requires p.result p.new.words p.new.coeffs p.new.order p.new.work p.new.fixed p.new.kept p.ensures _ c.in-Entries.is q.result q.new.words q.new.coeffs q.new.order q.new.work q.new.fixed q.new.kept q.ensures,
-      nexts_clear a.n a.protected.now a.drop_tol a.max_basis a.len a.grown_words.now a.evolved.now a.order.now a.heads.now a.nexts.now a.place_order.now c.requires p.result p.new.words p.new.coeffs p.new.order p.new.work p.new.fixed p.new.kept p.ensures _ c.in-Entries.is q.result q.new.words q.new.coeffs q.new.order q.new.work q.new.fixed q.new.kept q.ensures,
-      places_clear a.n a.protected.now a.drop_tol a.max_basis a.len a.grown_words.now a.evolved.now a.order.now a.heads.now a.nexts.now a.place_order.now c.requires p.result p.new.words p.new.coeffs p.new.order p.new.work p.new.fixed p.new.kept p.ensures _ c.in-Entries.is q.result q.new.words q.new.coeffs q.new.order q.new.work q.new.fixed q.new.kept q.ensures,
+      (λ products. truncates a.n a.protected.now a.drop_tol a.max_basis a.len a.grown_words.now a.evolved.now a.order.now a.heads.now a.nexts.now a.place_order.now c.requires p.result p.new.words p.new.coeffs p.new.order p.new.work p.new.fixed p.new.kept p.ensures _ c.in-Ok.is q.result q.new.words q.new.coeffs q.new.order q.new.work q.new.fixed q.new.kept q.ensures _ c.in-Ok-capped.is products),
+      order_clear a.n a.protected.now a.drop_tol a.max_basis a.len a.grown_words.now a.evolved.now a.order.now a.heads.now a.nexts.now a.place_order.now c.requires p.result p.new.words p.new.coeffs p.new.order p.new.work p.new.fixed p.new.kept p.ensures _ c.in-Ok.is q.result q.new.words q.new.coeffs q.new.order q.new.work q.new.fixed q.new.kept q.ensures,
+      heads_clear a.n a.protected.now a.drop_tol a.max_basis a.len a.grown_words.now a.evolved.now a.order.now a.heads.now a.nexts.now a.place_order.now c.requires p.result p.new.words p.new.coeffs p.new.order p.new.work p.new.fixed p.new.kept p.ensures _ c.in-Ok.is q.result q.new.words q.new.coeffs q.new.order q.new.work q.new.fixed q.new.kept q.ensures,
+      nexts_clear a.n a.protected.now a.drop_tol a.max_basis a.len a.grown_words.now a.evolved.now a.order.now a.heads.now a.nexts.now a.place_order.now c.requires p.result p.new.words p.new.coeffs p.new.order p.new.work p.new.fixed p.new.kept p.ensures _ c.in-Ok.is q.result q.new.words q.new.coeffs q.new.order q.new.work q.new.fixed q.new.kept q.ensures,
+      places_clear a.n a.protected.now a.drop_tol a.max_basis a.len a.grown_words.now a.evolved.now a.order.now a.heads.now a.nexts.now a.place_order.now c.requires p.result p.new.words p.new.coeffs p.new.order p.new.work p.new.fixed p.new.kept p.ensures _ c.in-Ok.is q.result q.new.words q.new.coeffs q.new.order q.new.work q.new.fixed q.new.kept q.ensures,
     )

@@ -8,20 +8,14 @@ use Rattle.word.proofs.FlatLaws.{words_count}
 use Rattle.truncate.proofs.ReachLaws.{reach_next}
 use Rattle.truncate.proofs.protect.reach_of.Goals as goal
 
-pub loop-k-init : goal.loop-k-init
-loop-k-init c = (omega arith, λ j l. absurd (omega (arith, l)))
-
-pub word_at-w-requires : goal.word_at-w-requires
-word_at-w-requires c = omega arith
-
 pub loop-k-preserved : goal.loop-k-preserved
 loop-k-preserved c =
     let a = c.args in
     let l = c.loop-k in
-    (omega arith, reach_next (words_of a.protected.now) l.reach _ _ l.k c.word_at-w.ensures c.joined-reach.ensures l.invariant.1)
+    reach_next (words_of a.protected.now) l.reach _ _ l.k c.word_at-w.ensures c.joined-reach.ensures l.invariant
 
 pub returns : goal.returns
 returns c =
     let a = c.args in
     let l = c.loop-k in
-    record { covered = λ k h. l.invariant.1 k (omega (arith, h, words_count a.protected.now, c.loop-k-test.false)) }
+    record { covered = λ k h. l.invariant k (omega (arith, h, words_count a.protected.now, c.loop-k-test.false)) }

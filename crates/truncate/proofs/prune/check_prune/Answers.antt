@@ -4,6 +4,7 @@
 -- `prune::check_prune` meets its contract, answer by answer. Assumes nothing.
 use mathlib.Core.Path.{ap, sym, ◌∙◌}
 use mathlib.Core.Bool.{not}
+use Rattle.refusal.proofs.Told.{handed_on}
 use Rattle.truncate.proofs.ChecksLaws.{lengths_room}
 use Rattle.truncate.proofs.PruneLaws.{qubits_many, entries_many, protected_many, lengths_refused, entries_refused, threshold_bad, prune_accepted}
 use Rattle.truncate.proofs.prune.check_prune.Goals as goal
@@ -23,28 +24,28 @@ returns-then-count-gt-MAX_WORDS c =
     let a = c.args in
     protected_many a.len a.words.now a.coeffs.now a.order.now a.work.now a.fixed.now a.kept.now a.n a.protected.now a.drop_tol c.if-n-gt-MAX_QUBITS.false c.if-len-gt-MAX_WORDS.false c.if-count-gt-MAX_WORDS.true
 
-pub returns-in_default : goal.returns-in_default
-returns-in_default c =
+pub returns-in_err-check_lengths : goal.returns-in_err-check_lengths
+returns-in_err-check_lengths c =
     let a = c.args in
-    c.in_default.is ∙ lengths_refused a.len a.words.now a.coeffs.now a.order.now a.work.now a.fixed.now a.kept.now a.n a.protected.now a.drop_tol c.if-n-gt-MAX_QUBITS.false c.if-len-gt-MAX_WORDS.false c.if-count-gt-MAX_WORDS.false _ (sym (c.check_lengths-lengths.ensures a.n) ∙ c.in_default.is)
+    handed_on _ _ c.from_residual.ensures.1 ∙ lengths_refused a.len a.words.now a.coeffs.now a.order.now a.work.now a.fixed.now a.kept.now a.n a.protected.now a.drop_tol c.if-n-gt-MAX_QUBITS.false c.if-len-gt-MAX_WORDS.false c.if-count-gt-MAX_WORDS.false _ (sym (c.check_lengths.ensures a.n) ∙ c.in_err-check_lengths.was)
 
-pub check_entries-entries-requires : goal.check_entries-entries-requires
-check_entries-entries-requires c =
+pub check_entries-requires : goal.check_entries-requires
+check_entries-requires c =
     let a = c.args in
-    let h = lengths_room a.len a.words.now a.coeffs.now a.order.now a.work.now a.fixed.now a.kept.now a.n a.protected.now (sym (c.check_lengths-lengths.ensures a.n) ∙ c.in-Accepted.is) in
+    let h = lengths_room a.len a.words.now a.coeffs.now a.order.now a.work.now a.fixed.now a.kept.now a.n a.protected.now (sym (c.check_lengths.ensures a.n) ∙ c.in_ok-check_lengths.was) in
     (h.lanes_room, h.coeffs_room)
 
-pub returns-in_default-entries : goal.returns-in_default-entries
-returns-in_default-entries c =
+pub returns-in_err-check_entries : goal.returns-in_err-check_entries
+returns-in_err-check_entries c =
     let a = c.args in
-    c.in_default-entries.is ∙ entries_refused a.len a.words.now a.coeffs.now a.order.now a.work.now a.fixed.now a.kept.now a.n a.protected.now a.drop_tol c.if-n-gt-MAX_QUBITS.false c.if-len-gt-MAX_WORDS.false c.if-count-gt-MAX_WORDS.false (sym (c.check_lengths-lengths.ensures a.n) ∙ c.in-Accepted.is) _ (sym c.check_entries-entries.ensures ∙ c.in_default-entries.is)
+    handed_on _ _ c.from_residual-in_err-check_entries.ensures.1 ∙ entries_refused a.len a.words.now a.coeffs.now a.order.now a.work.now a.fixed.now a.kept.now a.n a.protected.now a.drop_tol c.if-n-gt-MAX_QUBITS.false c.if-len-gt-MAX_WORDS.false c.if-count-gt-MAX_WORDS.false (sym (c.check_lengths.ensures a.n) ∙ c.in_ok-check_lengths.was) _ (sym c.check_entries.ensures ∙ c.in_err-check_entries.was)
 
-pub returns-then-not-finite : goal.returns-then-not-finite
-returns-then-not-finite c =
+pub returns-then-not-is_finite : goal.returns-then-not-is_finite
+returns-then-not-is_finite c =
     let a = c.args in
-    threshold_bad a.len a.words.now a.coeffs.now a.order.now a.work.now a.fixed.now a.kept.now a.n a.protected.now a.drop_tol c.if-n-gt-MAX_QUBITS.false c.if-len-gt-MAX_WORDS.false c.if-count-gt-MAX_WORDS.false (sym (c.check_lengths-lengths.ensures a.n) ∙ c.in-Accepted.is) (sym c.check_entries-entries.ensures ∙ c.in-Accepted-entries.is) _ c.is_finite-finite.ensures (ap not c.if-not-finite.true)
+    threshold_bad a.len a.words.now a.coeffs.now a.order.now a.work.now a.fixed.now a.kept.now a.n a.protected.now a.drop_tol c.if-n-gt-MAX_QUBITS.false c.if-len-gt-MAX_WORDS.false c.if-count-gt-MAX_WORDS.false (sym (c.check_lengths.ensures a.n) ∙ c.in_ok-check_lengths.was) (sym c.check_entries.ensures ∙ c.in_ok-check_entries.was) _ c.is_finite.ensures (ap not c.if-not-is_finite.true)
 
 pub returns : goal.returns
 returns c =
     let a = c.args in
-    prune_accepted a.len a.words.now a.coeffs.now a.order.now a.work.now a.fixed.now a.kept.now a.n a.protected.now a.drop_tol c.if-n-gt-MAX_QUBITS.false c.if-len-gt-MAX_WORDS.false c.if-count-gt-MAX_WORDS.false (sym (c.check_lengths-lengths.ensures a.n) ∙ c.in-Accepted.is) (sym c.check_entries-entries.ensures ∙ c.in-Accepted-entries.is) _ c.is_finite-finite.ensures (ap not c.if-not-finite.false)
+    prune_accepted a.len a.words.now a.coeffs.now a.order.now a.work.now a.fixed.now a.kept.now a.n a.protected.now a.drop_tol c.if-n-gt-MAX_QUBITS.false c.if-len-gt-MAX_WORDS.false c.if-count-gt-MAX_WORDS.false (sym (c.check_lengths.ensures a.n) ∙ c.in_ok-check_lengths.was) (sym c.check_entries.ensures ∙ c.in_ok-check_entries.was) _ c.is_finite.ensures (ap not c.if-not-is_finite.false)

@@ -2,13 +2,12 @@
 -- SPDX-License-Identifier: Apache-2.0
 
 -- `word::next_qubit` meets its contract: none in the lanes passed so far. Assumes nothing.
-use Prim.Native.Nat.{◌/◌, ◌%◌, ◌^◌, ◌<◌}
+use Prim.Native.Nat.{◌<◌}
 use native.Mathlib.Omega.{arith}
 use borrow.Author.Rules.{rules}
-use lib.Count.{trailing_le}
 use Rattle.word.specs.Word.{max_qubits, Sound}
 use Rattle.word.proofs.Words.{sound}
-use Rattle.word.proofs.NextLaws.{acting, next_beyond, rest_lowest, next_rest, passed_first, passed_more, lane_lowest, next_lane, next_none}
+use Rattle.word.proofs.NextLaws.{next_beyond, rest_lowest, next_rest, passed_first, passed_more, lane_lowest, next_lane, next_none}
 use Rattle.word.proofs.word.next_qubit.Goals as goal
 use Rattle.word.proofs.word.next_qubit.Goals.{Start}
 
@@ -17,12 +16,6 @@ its_sound c = sound c.args.w (search rules) (search rules) (λ i. search rules) 
 
 pub returns-then-from-ge-MAX_QUBITS : goal.returns-then-from-ge-MAX_QUBITS
 returns-then-from-ge-MAX_QUBITS c = next_beyond c.args.w (its_sound (goal.at.returns-then-from-ge-MAX_QUBITS c).Start) c.args.from c.if-from-ge-MAX_QUBITS.true
-
-pub overflow_cast-result : goal.overflow_cast-result
-overflow_cast-result c = let a = c.args in omega (arith, trailing_le 64 (acting a.w (a.from / 64) / 2 ^ (a.from % 64)))
-
-pub overflow_add-result : goal.overflow_add-result
-overflow_add-result c = let a = c.args in omega (arith, trailing_le 64 (acting a.w (a.from / 64) / 2 ^ (a.from % 64)))
 
 pub returns-then-rest-ne0 : goal.returns-then-rest-ne0
 returns-then-rest-ne0 c =
@@ -33,14 +26,7 @@ returns-then-rest-ne0 c =
 
 pub loop-i-init : goal.loop-i-init
 loop-i-init c =
-    let a = c.args in
-    (omega arith, omega arith, passed_first a.w (its_sound (goal.at.loop-i-init c).Start) a.from (omega arith) c.if-rest-ne0.false)
-
-pub overflow_cast-result-then-lane-ne0 : goal.overflow_cast-result-then-lane-ne0
-overflow_cast-result-then-lane-ne0 c = omega (arith, trailing_le 64 (acting c.args.w c.loop-i.i))
-
-pub overflow_add-result-then-lane-ne0 : goal.overflow_add-result-then-lane-ne0
-overflow_add-result-then-lane-ne0 c = omega (arith, trailing_le 64 (acting c.args.w c.loop-i.i))
+    passed_first c.args.w (its_sound (goal.at.loop-i-init c).Start) c.args.from (omega arith) c.if-rest-ne0.false
 
 pub returns-then-lane-ne0 : goal.returns-then-lane-ne0
 returns-then-lane-ne0 c =
@@ -48,16 +34,16 @@ returns-then-lane-ne0 c =
     let s = its_sound (goal.at.returns-then-lane-ne0 c).Start in
     let l = c.loop-i in
     let few : a.from < max_qubits = omega arith in
-    next_lane a.w s a.from few l.i _ l.invariant.2 l.invariant.0 (omega arith) (lane_lowest a.w s a.from few l.i (omega arith))
+    next_lane a.w s a.from few l.i _ l.invariant (omega arith) (omega arith) (lane_lowest a.w s a.from few l.i (omega arith))
 
 pub loop-i-preserved : goal.loop-i-preserved
 loop-i-preserved c =
     let a = c.args in
     let l = c.loop-i in
-    (omega arith, omega arith, passed_more a.w (its_sound (goal.at.loop-i-preserved c).Start) a.from (omega arith) l.i l.invariant.2 c.if-lane-ne0.false)
+    passed_more a.w (its_sound (goal.at.loop-i-preserved c).Start) a.from (omega arith) l.i l.invariant c.if-lane-ne0.false
 
 pub returns : goal.returns
 returns c =
     let a = c.args in
     let l = c.loop-i in
-    next_none a.w (its_sound (goal.at.returns c).Start) a.from (omega arith) l.i l.invariant.2 (omega arith)
+    next_none a.w (its_sound (goal.at.returns c).Start) a.from (omega arith) l.i l.invariant (omega arith)
