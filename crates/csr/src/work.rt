@@ -8,6 +8,7 @@ ghost use Rattle.lent.specs.Tests.{first_to};
 ghost use Rattle.csr.specs.Walks.{is_clear, not_clear};
 
 use lent::clear::clear_numbers;
+use lent::copy::copy_table;
 
 // Whether x is +0.0: a work place that is so can be made so again.
 fn is_clear(x: f64) -> bool
@@ -37,7 +38,7 @@ pub fn copy_numbers(from: &[f64], to: &mut [f64])
     requires { length to.old ≤ length from.now }
     ensures { to.new ≡ take (length to.old) from.now }
 {
-    to.copy_from_slice(&from[..to.len()]);
+    copy_table(&from[..to.len()], to);
 }
 
 // What stands in work is stored, and work is zero again.

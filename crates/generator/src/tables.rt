@@ -7,6 +7,7 @@ ghost use Rattle.number.specs.Floats.{float0};
 ghost use Rattle.lent.specs.Laid.{laid};
 
 use lent::clear::clear_numbers;
+use lent::copy::copy_table;
 use lent::sizes::smaller;
 
 pub fn clear_places(t: &mut [u32])
@@ -28,14 +29,14 @@ pub fn copy_places(from: &[u32], count: usize, to: &mut [u32])
     requires { (count ≤ length from.now) × (count ≤ length to.old) }
     ensures { to.new ≡ laid set 0 (take count from.now) to.old }
 {
-    to[..count].copy_from_slice(&from[..count]);
+    copy_table(&from[..count], &mut to[..count]);
 }
 
 pub fn copy_values(from: &[f64], count: usize, to: &mut [f64])
     requires { (count ≤ length from.now) × (count ≤ length to.old) }
     ensures { to.new ≡ laid set 0 (take count from.now) to.old }
 {
-    to[..count].copy_from_slice(&from[..count]);
+    copy_table(&from[..count], &mut to[..count]);
 }
 
 // The places of the shortest of three tables.

@@ -5,6 +5,7 @@
 #![tactic(auto)]
 
 pub mod clear;
+pub mod copy;
 pub mod numbers;
 pub mod sizes;
 pub mod tests;

@@ -13,6 +13,7 @@ ghost use Rattle.matrix_market.specs.Between.{count_text, Entries};
 
 use crate::count::{Count, count_of, is_too_large};
 use crate::decimal::{digits_of, write_field};
+use lent::copy::copy_table;
 use refusal::Refusal;
 
 const SPACE: u8 = 32;
@@ -139,7 +140,7 @@ fn copy_bytes(from: &[u8], text: &mut [u8])
     requires { length from.now ≤ length text.old }
     ensures { text.new ≡ laid slice_set 0 from.now text.old }
 {
-    text[..from.len()].copy_from_slice(from);
+    copy_table(from, &mut text[..from.len()]);
 }
 
 fn write_size(n: usize, count: usize, text: &mut [u8], at: usize) -> usize

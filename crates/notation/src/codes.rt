@@ -7,7 +7,7 @@ ghost use Rattle.notation.specs.Codes.{read_codes};
 ghost use Rattle.notation.specs.Between.{Wrote};
 
 use refusal::Refusal;
-use word::word::{MAX_QUBITS, Word, identity_word, letter, reaches_beyond, with_letter};
+use word::word::{MAX_QUBITS, Word, identity_word, letter, put_letter, reaches_beyond};
 
 // The word of a code for each qubit, qubit 0 first.
 pub fn word_from_codes(codes: &[u8]) -> Result<Word, Refusal>
@@ -25,7 +25,7 @@ pub fn word_from_codes(codes: &[u8]) -> Result<Word, Refusal>
         if 3 < code {
             return Err(Refusal::InvalidPauliCode { code });
         }
-        w = with_letter(w, q, code);
+        put_letter(&mut w, q, code);
     }
     Ok(w)
 }

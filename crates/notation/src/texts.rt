@@ -8,7 +8,7 @@ ghost use Rattle.notation.specs.Text.{code_of, dropped, read_letters, parse};
 ghost use Rattle.notation.specs.Between.{scan_from};
 
 use refusal::Refusal;
-use word::word::{MAX_QUBITS, Word, identity_word, with_letter};
+use word::word::{MAX_QUBITS, Word, identity_word, put_letter};
 
 // The code of the letter that a byte stands for, and 4 for a byte that is no letter.
 fn code_of(byte: u8) -> u8
@@ -64,7 +64,7 @@ fn read_letters(text: &[u8]) -> Result<Word, Refusal>
             return Err(Refusal::InvalidPauliByte { byte, place: q });
         }
         if code != 0 {
-            w = with_letter(w, q, code);
+            put_letter(&mut w, q, code);
         }
         q += 1;
     }

@@ -5,6 +5,7 @@
 ghost use Rattle.std.specs.Prelude.{◌≡◌, ◌++◌, ◌*◌, ◌≤◌, length, take, drop};
 ghost use Rattle.word.specs.Flat.{word_lanes, words as words_in};
 
+use lent::copy::copy_table;
 use word::flat::WORD_LANES;
 
 // The first n lanes of a table over those of another.
@@ -12,14 +13,14 @@ fn copy_lanes(from: &[u64], n: usize, to: &mut [u64])
     requires { (n ≤ length from.now) × (n ≤ length to.old) }
     ensures { to.new ≡ take n from.now ++ drop n to.old }
 {
-    to[..n].copy_from_slice(&from[..n]);
+    copy_table(&from[..n], &mut to[..n]);
 }
 
 fn copy_first(from: &[f64], n: usize, to: &mut [f64])
     requires { (n ≤ length from.now) × (n ≤ length to.old) }
     ensures { to.new ≡ take n from.now ++ drop n to.old }
 {
-    to[..n].copy_from_slice(&from[..n]);
+    copy_table(&from[..n], &mut to[..n]);
 }
 
 // The first len words and numbers of a basis.

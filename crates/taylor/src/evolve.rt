@@ -97,8 +97,10 @@ fn choose_and_run(
     if coeffs.len() == 0 {
         return Ok(0);
     }
-    let d = select_degree(magnitude(dt) * norm, drop_tol)?;
-    run_pair(d, offsets, columns, values, dt, coeffs, v, b, product, out)
+    match select_degree(magnitude(dt) * norm, drop_tol) {
+        Ok(d) => run_pair(d, offsets, columns, values, dt, coeffs, v, b, product, out),
+        Err(refusal) => Err(refusal),
+    }
 }
 
 // The same, with zero in the work tables afterwards.

@@ -52,17 +52,25 @@ fn with_bit(lane: u64, k: usize, b: u64) -> u64
     (lane & !(1 << k)) | (b << k)
 }
 
+// Replaces the letter at a qubit, where the word stands.
+pub fn put_letter(w: &mut Word, q: usize, code: u8)
+    requires { (q < max_qubits) × (code < 4) }
+    ensures { Put w.old q code w.new }
+{
+    let lane = q / 64;
+    let k = q % 64;
+    let l = code as u64;
+    w.x[lane] = with_bit(w.x[lane], k, l % 2);
+    w.z[lane] = with_bit(w.z[lane], k, l / 2);
+}
+
 // A word with the letter at a qubit replaced.
 pub fn with_letter(w: Word, q: usize, code: u8) -> Word
     requires { (q < max_qubits) × (code < 4) }
     ensures { Put w q code result }
 {
     let mut v = w;
-    let lane = q / 64;
-    let k = q % 64;
-    let l = code as u64;
-    v.x[lane] = with_bit(v.x[lane], k, l % 2);
-    v.z[lane] = with_bit(v.z[lane], k, l / 2);
+    put_letter(&mut v, q, code);
     v
 }
 

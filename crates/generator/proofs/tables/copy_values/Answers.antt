@@ -6,4 +6,4 @@ use Rattle.generator.proofs.TableLaws.{copied_first}
 use Rattle.generator.proofs.tables.copy_values.Goals as goal
 
 pub returns : goal.returns
-returns c = copied_first c.args.from.now c.args.count c.args.to.now _ c.requires.0 c.requires.1 c.copy_from_slice.ensures.after
+returns c = copied_first c.args.from.now c.args.count c.args.to.now _ c.requires.0 c.requires.1 c.copy_table.ensures

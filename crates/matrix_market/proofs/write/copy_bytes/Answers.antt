@@ -6,4 +6,4 @@ use Rattle.matrix_market.proofs.LaidLaws.{laid_over}
 use Rattle.matrix_market.proofs.write.copy_bytes.Goals as goal
 
 pub returns : goal.returns
-returns c = rw c.copy_from_slice.ensures.after (laid_over c.args.from.now c.args.text.now c.requires)
+returns c = rw c.copy_table.ensures (laid_over c.args.from.now c.args.text.now c.requires)

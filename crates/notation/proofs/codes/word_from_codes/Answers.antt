@@ -26,7 +26,7 @@ loop-q-preserved c =
     let l = c.loop-q in
     let s = c.args.codes.now in (
       passed_more no_code l.q s l.invariant.0 (omega arith) (le-ltb 3 _ c.if-code-gt3.false),
-      read_more _ l.q l.w _ _ l.invariant.1 refl c.with_letter-w.ensures,
+      read_more _ l.q l.w _ _ l.invariant.1 refl c.put_letter.ensures,
     )
 
 pub returns : goal.returns

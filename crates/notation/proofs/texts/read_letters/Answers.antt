@@ -27,8 +27,8 @@ returns-then-code-gt3 c =
     letter_refused (dropped t) l.q _ l.invariant.1 (letter_left t (dropped t) l.i l.q h l.invariant.0 u)
     (letter_here t (dropped t) l.i l.q h l.invariant.0 u) (omega (arith, c.code_of-code.ensures))
 
-pub with_letter-w-requires : goal.with_letter-w-requires
-with_letter-w-requires c =
+pub put_letter-requires : goal.put_letter-requires
+put_letter-requires c =
     let l = c.loop-i in
     let t = c.args.text.now in
     omega (arith, letter_left t (dropped t) l.i l.q c.loop-i-test.true l.invariant.0 c.if-byte-eq95.false)
@@ -46,7 +46,7 @@ loop-i-preserved c =
       letter_next t s l.i l.q h l.invariant.0 u,
       passed_more no_letter l.q s l.invariant.1 left (not_refused _ _ (here 0) (omega arith)),
       elim c.if-code-ne0.branch [
-        | then-code-ne0 w ↦ rw w.w-is (read_more _ l.q l.w _ _ l.invariant.2 (e ∙ sym (ap code_of (here 73))) w.with_letter-w.ensures)
+        | then-code-ne0 w ↦ rw w.w-is (read_more _ l.q l.w _ _ l.invariant.2 (e ∙ sym (ap code_of (here 73))) w.put_letter.ensures)
         | else-code-ne0 w ↦ rw w.w-is (read_none_more _ l.q l.w l.invariant.2 (ap code_of (here 73) ∙ sym e ∙ omega arith))
       ],
     )

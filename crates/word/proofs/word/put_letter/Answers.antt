@@ -1,13 +1,13 @@
 -- SPDX-FileCopyrightText: 2026 The PPVM Authors
 -- SPDX-License-Identifier: Apache-2.0
 
--- `word::with_letter` meets its contract. Assumes nothing.
+-- `word::put_letter` meets its contract. Assumes nothing.
 use native.Mathlib.Omega.{arith}
 use borrow.Author.Rules.{rules}
 use mir.Val.{Fits}
 use mir.Syntax.{w64}
 use Rattle.word.proofs.Words.{sound, letter_set}
-use Rattle.word.proofs.word.with_letter.Goals as goal
+use Rattle.word.proofs.word.put_letter.Goals as goal
 
 pub returns : goal.returns
 returns c =
