@@ -9,7 +9,7 @@
  * Every function takes any input. Where an input is not accepted, the function says so by a
  * pebblelinen_status and changes nothing that it was lent, but for work tables, where the function
  * says so. Link dist/libpebblelinen.a, or build it with its proofs: `tools/build-shared` writes
- * target/shared/libpebblelinen.a.
+ * target/shared/libpebblelinen.a. From outside it needs memset alone.
  *
  * A slice is passed as a pointer, which is not NULL even where the length is 0, and a length.
  * Slices that a function writes to overlap no other slice of the call. Qubits are counted from 0.
@@ -107,7 +107,7 @@ bool pebblelinen_anti_commutes(pebblelinen_word p, pebblelinen_word q);
 /* i (h p - p h), as eps times the word of h p. */
 pebblelinen_commutator pebblelinen_comm_product(pebblelinen_word h, pebblelinen_word p);
 
-/* The order of words, by x[0], x[1], z[0], z[1] as numbers: the first that differs decides.
+/* The order of words, by x[0] to x[3], then z[0] to z[3], as numbers: the first that differs decides.
  * -1 where p comes before q, 0 where they are the same word, 1 where p comes after q. */
 int32_t pebblelinen_compare_words(pebblelinen_word p, pebblelinen_word q);
 

@@ -3,10 +3,11 @@
 """What the package takes the library's functions for, against the C header."""
 import ctypes
 import re
+import subprocess
 import unittest
 from pathlib import Path
 
-from pebblelinen import CAUSES, _building, _library, basis, matrix, words
+from pebblelinen import CAUSES, _building, _library, _tree, basis, matrix, words
 
 HEADER = Path(__file__).resolve().parent.parent.parent / "include" / "pebblelinen.h"
 
@@ -85,6 +86,12 @@ class Header(unittest.TestCase):
         self.assertEqual(limits.pop("qubits"), words.MAX_QUBITS)
         self.assertEqual(limits.pop("products"), matrix.MAX_PRODUCTS)
         self.assertEqual(limits, _building._LIMITS)
+
+    def test_names_from_outside(self):
+        archive = _tree.library() / "libpebblelinen.a"
+        listed = subprocess.run(["nm", "-u", archive], check=True, capture_output=True, text=True).stdout
+        self.assertEqual(set(re.findall(r"^ +U (\w+)$", listed, re.MULTILINE)), {"memset"})
+        self.assertIn("From outside it needs memset alone", " ".join(HEADER.read_text().split()))
 
 
 if __name__ == "__main__":
